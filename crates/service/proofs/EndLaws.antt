@@ -6,7 +6,8 @@ use Rattle.std.specs.Str.Lines.{strip_carriage_return}
 use Rattle.road_text.specs.Cuts.{IsPresent, IsLine}
 use Rattle.road_text.specs.Lines.{lines, has_bytes, is_line_end}
 use Rattle.road_text.specs.Rules.{at_line, fault_at}
-use Rattle.road_text.specs.Written.{Wrote}
+use Rattle.road_text.specs.Streams.{Output}
+use Rattle.road_text.specs.Written.{WritesText}
 use Rattle.road_text.proofs.TextLaws.{lines_last, lines_none}
 use Rattle.road_files.specs.Asked.{Asked}
 use Rattle.road_files.specs.RequestTakes.{parser_state, RequestSoFar}
@@ -28,20 +29,20 @@ none_of (b ∷ present) e = cc
 all_lines : (t : Service) (fed : List ℕ) (rs : List Request) (h : WasFed t fed rs) → lines false fed ≡ lines true fed ++ lines false h.present
 all_lines t fed rs h = ap (lines false) (sym (append-nil fed)) ∙ h.ends false [] ∙ ap (λ (x : List ℕ). lines true fed ++ lines false x) (append-nil h.present)
 
-module _ (answers : Asked → List ℕ → Type 0) (t v u : Service) (old new : Option (List ℕ)) (b a : ℕ) where
+module _ (answers : Asked → List ℕ → Type 0) (t v u : Service) {X : Type 0} (old new : Output X) where
   -- no line is left
   pub no_last : u.cutter.taker.questions.list.vertices ≡ t.cutter.taker.questions.list.vertices → parser_state u.cutter.taker ≡ parser_state t.cutter.taker → u.line ≡ t.line
-      → ((present : List ℕ) → IsPresent RequestSoFar t.cutter present → has_bytes present ≡ false) → LastFed answers t u old old b b
+      → ((present : List ℕ) → IsPresent RequestSoFar t.cutter present → has_bytes present ≡ false) → LastFed answers t u old old
   no_last same state line none = λ fed rs h.
       let all : lines false fed ≡ lines true fed = all_lines t fed rs h ∙ ap (λ ls. lines true fed ++ ls) (none_of h.present (none h.present h.held)) ∙ append-nil (lines true fed) in
-      ([], record { made = rw (same, all, state, append-nil rs) h.made; line = line ∙ h.line ∙ ap (λ (ls : List (List ℕ)). held_line (1 + length ls)) (sym all) }, replied_none answers old b)
+      ([], record { made = rw (same, all, state, append-nil rs) h.made; line = line ∙ h.line ∙ ap (λ (ls : List (List ℕ)). held_line (1 + length ls)) (sym all) }, replied_none answers old)
 
   -- the last line
   module _ (same : v.cutter.taker.questions.list.vertices ≡ t.cutter.taker.questions.list.vertices) (state : parser_state v.cutter.taker ≡ parser_state t.cutter.taker) (line : v.line ≡ t.line)
       (same_after : u.cutter.taker.questions.list.vertices ≡ v.cutter.taker.questions.list.vertices) (line_after : u.line ≡ min (v.line + 1) 18446744073709551615)
       (last : (present : List ℕ) → IsPresent RequestSoFar t.cutter present → (has_bytes present ≡ true) × IsLine RequestSoFar v.cutter (strip_carriage_return present)) where
-    last_taken : {A E : Type 0} (res : Result A E) → ((at : ℕ) (l : List ℕ) → v.line ≡ held_line at → IsLine RequestSoFar v.cutter l → LineEnded answers at l v u old new b a res)
-        → (fed : List ℕ) (rs : List Request) → WasFed t fed rs → (more : List Request) × HasLines u fed (rs ++ more) × RepliedOrFell answers more old new b a res
+    last_taken : {A E : Type 0} (res : Result A E) → ((at : ℕ) (l : List ℕ) → v.line ≡ held_line at → IsLine RequestSoFar v.cutter l → LineEnded answers at l v u old new res)
+        → (fed : List ℕ) (rs : List Request) → WasFed t fed rs → (more : List Request) × HasLines u fed (rs ++ more) × RepliedOrFell answers more old new res
     last_taken res did fed rs h =
         let at : ℕ = 1 + length (lines true fed) in
         let l : List ℕ = strip_carriage_return h.present in
@@ -61,49 +62,49 @@ module _ (answers : Asked → List ℕ → Type 0) (t v u : Service) (old new : 
         )
 
     pub last_line : {A E : Type 0} (res : Result A E) → ((at : ℕ) (l : List ℕ) → v.line ≡ held_line at → IsLine RequestSoFar v.cutter l →
-        LineEnded answers at l v u old new b a res) → OnOk res (LastFed answers t u old new b a)
+        LineEnded answers at l v u old new res) → OnOk res (LastFed answers t u old new)
     last_line (Err e) did = tt
     last_line {A = A} {E = E} (Ok x) did = last_taken {A = A} {E = E} (Ok x) did
 
     pub last_fell : {A E : Type 0} (res : Result A E) → ((at : ℕ) (l : List ℕ) → v.line ≡ held_line at → IsLine RequestSoFar v.cutter l →
-        LineEnded answers at l v u old new b a res) → OnErr res (LastFedPart answers t u old new b a)
+        LineEnded answers at l v u old new res) → OnErr res (LastFedPart answers t u old new)
     last_fell (Ok x) did = tt
     last_fell {A = A} {E = E} (Err e) did = last_taken {A = A} {E = E} (Err e) did
 
 module _ (answers : Asked → List ℕ → Type 0) where
   -- the request that goes on
-  pub end_one : {A E : Type 0} (s : ServiceState) (line : ℕ) (old new : Option (List ℕ)) (b a : ℕ) (res : Result A E) → service_end s ≡ Err 19 ∷ [] → Wrote old new b a (fault_text 19 line) res
-      → (at : ℕ) → line ≡ held_line at → RepliedOrFell answers (map (at_line at) (service_end s)) old new b a res
-  end_one s line old new b a res open_is wrote at e = rw open_is (replied_one answers (Err (fault_at at 19)) (fault_text 19 line) old new b a res (ap (fault_text 19) e) wrote)
+  pub end_one : {A E : Type 0} (s : ServiceState) (line : ℕ) {X : Type 0} (old new : Output X) (res : Result A E) → service_end s ≡ Err 19 ∷ [] → WritesText old new (fault_text 19 line) res
+      → (at : ℕ) → line ≡ held_line at → RepliedOrFell answers (map (at_line at) (service_end s)) old new res
+  end_one s line old new res open_is wrote at e = rw open_is (replied_one answers (Err (fault_at at 19)) (fault_text 19 line) old new res (ap (fault_text 19) e) wrote)
 
-  module _ (t u : Service) (old mid new : Option (List ℕ)) (b m a : ℕ) (same : u.cutter.taker.questions.list.vertices ≡ t.cutter.taker.questions.list.vertices) where
-    finish_taken : {A E : Type 0} (res : Result A E) → LastFed answers t u old mid b m →
-        ((at : ℕ) → u.line ≡ held_line at → RepliedOrFell answers (map (at_line at) (service_end (parser_state u.cutter.taker))) mid new m a res)
+  module _ (t u : Service) {X : Type 0} (old mid new : Output X) (same : u.cutter.taker.questions.list.vertices ≡ t.cutter.taker.questions.list.vertices) where
+    finish_taken : {A E : Type 0} (res : Result A E) → LastFed answers t u old mid →
+        ((at : ℕ) → u.line ≡ held_line at → RepliedOrFell answers (map (at_line at) (service_end (parser_state u.cutter.taker))) mid new res)
         → (fed : List ℕ) (rs : List Request) → WasFed t fed rs → (more : List Request) × HasRequests t.cutter.taker.questions.list.vertices fed
-        (rs ++ more) × RepliedOrFell answers more old new b a res
+        (rs ++ more) × RepliedOrFell answers more old new res
     finish_taken res f g fed rs h =
         let (more, all, replied) = f fed rs h in
         let at : ℕ = 1 + length (lines false fed) in
         let last : List Request = map (at_line at) (service_end (parser_state u.cutter.taker)) in (
           more ++ last,
           (rs ++ more, parser_state u.cutter.taker, subst (λ k. LinesMay k 1 (Gives None) (lines false fed) (rs ++ more) (parser_state u.cutter.taker)) same all.made, sym (append_assoc rs more last)),
-          replied_then answers more last old mid new b m a res replied (g at all.line),
+          replied_then answers more last old mid new res replied (g at all.line),
         )
 
-    pub finish_all : {A E : Type 0} (res : Result A E) → LastFed answers t u old mid b m →
-        ((at : ℕ) → u.line ≡ held_line at → RepliedOrFell answers (map (at_line at) (service_end (parser_state u.cutter.taker))) mid new m a res) → OnOk res (Finished answers t old new b a)
+    pub finish_all : {A E : Type 0} (res : Result A E) → LastFed answers t u old mid →
+        ((at : ℕ) → u.line ≡ held_line at → RepliedOrFell answers (map (at_line at) (service_end (parser_state u.cutter.taker))) mid new res) → OnOk res (Finished answers t old new)
     finish_all (Err e) f g = tt
     finish_all {A = A} {E = E} (Ok x) f g = finish_taken {A = A} {E = E} (Ok x) f g
 
-    pub finish_fell : {A E : Type 0} (res : Result A E) → LastFed answers t u old mid b m →
-        ((at : ℕ) → u.line ≡ held_line at → RepliedOrFell answers (map (at_line at) (service_end (parser_state u.cutter.taker))) mid new m a res) → OnErr res (FinishedPart answers t old new b a)
+    pub finish_fell : {A E : Type 0} (res : Result A E) → LastFed answers t u old mid →
+        ((at : ℕ) → u.line ≡ held_line at → RepliedOrFell answers (map (at_line at) (service_end (parser_state u.cutter.taker))) mid new res) → OnErr res (FinishedPart answers t old new)
     finish_fell (Ok x) f g = tt
     finish_fell {A = A} {E = E} (Err e) f g = finish_taken {A = A} {E = E} (Err e) f g
 
   -- the last line fell
-  pub finish_before : (t u : Service) (old new : Option (List ℕ)) (b a : ℕ) → u.cutter.taker.questions.list.vertices ≡ t.cutter.taker.questions.list.vertices →
-      LastFedPart answers t u old new b a → FinishedPart answers t old new b a
-  finish_before t u old new b a same f = λ fed rs h.
+  pub finish_before : (t u : Service) {X : Type 0} (old new : Output X) → u.cutter.taker.questions.list.vertices ≡ t.cutter.taker.questions.list.vertices →
+      LastFedPart answers t u old new → FinishedPart answers t old new
+  finish_before t u old new same f = λ fed rs h.
       let (more, all, fell) = f fed rs h in
       let last : List Request = map (at_line (1 + length (lines false fed))) (service_end (parser_state u.cutter.taker)) in (
         more ++ last,
@@ -113,5 +114,5 @@ module _ (answers : Asked → List ℕ → Type 0) where
           subst (λ k. LinesMay k 1 (Gives None) (lines false fed) (rs ++ more) (parser_state u.cutter.taker)) same all.made,
           sym (append_assoc rs more last),
         ),
-        fell_before answers more last old new b a fell,
+        fell_before answers more last old new fell,
       )

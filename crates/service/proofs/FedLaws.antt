@@ -2,7 +2,8 @@
 use Rattle.std.proofs.Common.{◌≡◌, ℕ, ◌+◌, List, [], ◌∷◌, ◌++◌, Option, Result, Ok, Err, refl, sym, ap, ◌∙◌, subst, append_assoc, append-nil}
 use Rattle.std.specs.Io.KnownBytes.{Appends}
 use Rattle.std.proofs.KnownBytes.{Appends-trans, Appends-nil}
-use Rattle.road_text.specs.Written.{FailedAfterPrefix, Wrote}
+use Rattle.road_text.specs.Streams.{Output}
+use Rattle.road_text.specs.Written.{FailedAfterPrefix, WritesText}
 use Rattle.road_text.proofs.WriteLaws.{fell_first}
 use Rattle.road_files.specs.Asked.{Asked}
 use Rattle.road_files.specs.ServiceText.{Request}
@@ -20,58 +21,58 @@ module _ (answers : Asked → List ℕ → Type 0) where
   are-append (r ∷ rs) qs (t ∷ ts) us p q = (p.0, are-append rs qs ts us p.1 q)
 
   -- no reply
-  pub replied_none : (old : Option (List ℕ)) (before : ℕ) → Replied answers [] old old before before
-  replied_none old before = record { texts = []; right = tt; bytes = Appends-nil old; sound = refl }
+  pub replied_none : {X : Type 0} (old : Output X) → Replied answers [] old old
+  replied_none old = record { texts = []; right = tt; bytes = Appends-nil old.written; sound = refl }
 
   -- one reply
-  pub replied_one : {A E : Type 0} (r : Request) (text : List ℕ) (old new : Option (List ℕ)) (before after : ℕ) (res : Result A E) → IsReplyBy answers r text →
-      Wrote old new before after text res → RepliedOrFell answers (r ∷ []) old new before after res
-  replied_one r text old new before after (Ok v) is was = record {
+  pub replied_one : {A E : Type 0} (r : Request) (text : List ℕ) {X : Type 0} (old new : Output X) (res : Result A E) → IsReplyBy answers r text →
+      WritesText old new text res → RepliedOrFell answers (r ∷ []) old new res
+  replied_one r text old new (Ok v) is was = record {
     texts = text ∷ [];
     right = (is, tt);
-    bytes = subst (Appends old new) (sym (append-nil text ∙ was.text_is ∙ append-nil was.prefix)) was.bytes;
+    bytes = subst (Appends old.written new.written) (sym (append-nil text ∙ was.text_is ∙ append-nil was.prefix)) was.bytes;
     sound = was.sound;
   }
-  replied_one r text old new before after (Err e) is was = record {
+  replied_one r text old new (Err e) is was = record {
     first = r ∷ [];
     later = [];
     requests_are = refl;
     texts = text ∷ [];
     right = (is, tt);
     wrote =
-        fell_first old new before after text [] was;
+        fell_first old new text [] was;
   }
 
   -- replies, and then others
-  pub replied_then : {A E : Type 0} (rs qs : List Request) (old mid new : Option (List ℕ)) (b m a : ℕ) (res : Result A E) → Replied answers rs old mid b m →
-      RepliedOrFell answers qs mid new m a res → RepliedOrFell answers (rs ++ qs) old new b a res
-  replied_then rs qs old mid new b m a (Ok v) p q = record {
+  pub replied_then : {A E : Type 0} (rs qs : List Request) {X : Type 0} (old mid new : Output X) (res : Result A E) → Replied answers rs old mid →
+      RepliedOrFell answers qs mid new res → RepliedOrFell answers (rs ++ qs) old new res
+  replied_then rs qs old mid new (Ok v) p q = record {
     texts = p.texts ++ q.texts;
     right = are-append rs qs p.texts q.texts p.right q.right;
-    bytes = subst (Appends old new) (sym (joined-append p.texts q.texts)) (Appends-trans old mid new (joined p.texts) (joined q.texts) p.bytes q.bytes);
+    bytes = subst (Appends old.written new.written) (sym (joined-append p.texts q.texts)) (Appends-trans old.written mid.written new.written (joined p.texts) (joined q.texts) p.bytes q.bytes);
     sound = q.sound ∙ p.sound;
   }
-  replied_then rs qs old mid new b m a (Err e) p q = record {
+  replied_then rs qs old mid new (Err e) p q = record {
     first = rs ++ q.first;
     later = q.later;
     requests_are = ap (λ x. rs ++ x) q.requests_are ∙ sym (append_assoc rs q.first q.later);
     texts = p.texts ++ q.texts;
     right = are-append rs q.first p.texts q.texts p.right q.right;
-    wrote = subst (FailedAfterPrefix old new b a) (sym (joined-append p.texts q.texts)) (behind (joined p.texts) (joined q.texts) p.bytes p.sound q.wrote);
+    wrote = subst (FailedAfterPrefix old new) (sym (joined-append p.texts q.texts)) (behind (joined p.texts) (joined q.texts) p.bytes p.sound q.wrote);
   }
     where
-      behind : (x y : List ℕ) → Appends old mid x → m ≡ b → FailedAfterPrefix mid new m a y → FailedAfterPrefix old new b a (x ++ y)
+      behind : (x y : List ℕ) → Appends old.written mid.written x → mid.failures ≡ old.failures → FailedAfterPrefix mid new y → FailedAfterPrefix old new (x ++ y)
       behind x y e s f = record {
         prefix = x ++ f.prefix;
         rest = f.rest;
         text_is = ap (λ z. x ++ z) f.text_is ∙ sym (append_assoc x f.prefix f.rest);
-        bytes = Appends-trans old mid new x f.prefix e f.bytes;
+        bytes = Appends-trans old.written mid.written new.written x f.prefix e f.bytes;
         failed = f.failed ∙ ap (λ k. k + 1) s;
       }
 
   -- a failed write, before others are replied to
-  pub fell_before : (rs qs : List Request) (old new : Option (List ℕ)) (b a : ℕ) → FellIn answers rs old new b a → FellIn answers (rs ++ qs) old new b a
-  fell_before rs qs old new b a p = record {
+  pub fell_before : (rs qs : List Request) {X : Type 0} (old new : Output X) → FellIn answers rs old new → FellIn answers (rs ++ qs) old new
+  fell_before rs qs old new p = record {
     first = p.first;
     later = p.later ++ qs;
     requests_are = ap (λ x. x ++ qs) p.requests_are ∙ append_assoc p.first p.later qs;

@@ -6,6 +6,7 @@ use Rattle.std.specs.Io.KnownBytes.{IsAtEnd}
 use Rattle.road_text.specs.declared.faults.ReadFault.{ReadFault}
 use Rattle.road_text.specs.Rules.{text_read}
 use Rattle.road_graph.specs.GraphData.{GraphData}
+use Rattle.road_text.specs.Reads.{BreaksNone, RunsOutAfter}
 use Rattle.graph_text.specs.GraphFiles.{gr_rules}
 use Rattle.path_algebra.specs.Algebra.{Algebra}
 use Rattle.batch_run.specs.declared.faults.File.TheVariants.{Graph, Questions, NoFile}
@@ -72,6 +73,7 @@ module _ {V G Q W : Type 0} (A : Algebra V) (how : Settings) (gate : ℕ → ℕ
     refused = λ no. absurd (no inside);
     settings = λ e. absurd (other_number _ _ _ (low 43 (omega arith)) refl e);
     graph_fault = λ file. absurd (questions_or_graph file);
+    graph_memory = λ file. absurd (questions_or_graph file);
     read_graph = (λ e. absurd (other_file _ _ _ questions_or_graph refl e), λ failed. absurd (failed sound));
     read_input = (λ e. failed.0 (number_of _ _ _ refl e), λ lost. rw (failed.1 lost) refl);
     kinds = inr (inl (refl, (which, refl)));
@@ -102,6 +104,7 @@ module _ {V G Q W : Type 0} (A : Algebra V) (how : Settings) (gate : ℕ → ℕ
     refused = λ no. absurd (no inside);
     settings = λ e. absurd (other_number _ _ _ (λ n. omega (arith, n)) refl e);
     graph_fault = λ file. absurd (let bad : NoFile ≡ Graph = file in cc);
+    graph_memory = λ file. absurd (let bad : NoFile ≡ Graph = file in cc);
     read_graph = (λ e. absurd (other_number _ _ _ (λ n. omega (arith, n)) refl e), λ failed. absurd (failed sound));
     read_input = (λ e. absurd (other_number _ _ _ (λ n. omega (arith, n)) refl e), λ failed. absurd (failed input_sound));
     kinds = inr (inr (refl, refl, inl refl));
@@ -114,10 +117,11 @@ module _ {V G Q W : Type 0} (A : Algebra V) (how : Settings) (gate : ℕ → ℕ
 module _ {V G Q W : Type 0} (A : Algebra V) (how : Settings) (gate : ℕ → ℕ → Bool → Type 0) (graph graph_after : Input G) (input : Input Q) (out : Output W) where
   -- the graph has a fault, or a read of it failed
   pub graph_failed : (f : ReadFault) → AreInRange how → (2 ≤ f.number → f.number ≢ 3 → IfSome graph.left (λ all. text_read gr_rules all ≡ Err f))
+      → (f.number ≡ 3 → RunsOutAfter (BreaksNone gr_rules) graph.left graph_after.left)
       → (f.number ≡ 1 → graph_after.failures ≢ graph.failures) → (f.number ≢ 1 → graph_after.failures ≡ graph.failures) → (f.number ≤ 3 → f.line ≡ 0) → IsRoadNumber f.number →
       graph_after.asked ≤ graph.asked + 4294967297
       → RanService A how gate graph graph_after input input out out (Err (record { number = f.number; file = Graph; line = f.line }))
-  graph_failed f inside fault told untold placed numbered asked = record {
+  graph_failed f inside fault memory told untold placed numbered asked = record {
     done = tt;
     passed_on = tt;
     sound = tt;
@@ -129,6 +133,7 @@ module _ {V G Q W : Type 0} (A : Algebra V) (how : Settings) (gate : ℕ → ℕ
     refused = λ no. absurd (no inside);
     settings = λ e. absurd (other_file _ _ _ graph_or_none refl e);
     graph_fault = λ file own. fault own.0 own.1;
+    graph_memory = λ file three. memory three;
     read_graph = (λ e. told (number_of _ _ _ refl e), λ failed. one_line (is_one f.number graph_after.failures graph.failures untold failed));
     read_input = (λ e. absurd (other_file _ _ _ graph_or_questions refl e), λ failed. absurd (failed refl));
     kinds = inl (refl, numbered);

@@ -2,6 +2,7 @@
 use Rattle.std.proofs.Common.{◌≡◌, ℕ, ◌+◌, true, List, [], ◌++◌, Option, None, Some, refl, sym, ap, ◌∙◌, subst, append_assoc, append-nil, inl, inr, arith}
 use Rattle.std.specs.Io.KnownBytes.{Consumes, IsAtEnd, Keeps, Appends}
 use Rattle.std.proofs.KnownBytes.{Consumes-nil, Consumes-trans, Consumes-whole, Appends-nil}
+use Rattle.road_text.specs.Streams.{Output}
 use Rattle.road_files.specs.Asked.{Asked}
 use Rattle.road_files.specs.ServiceText.{Request}
 use Rattle.service.specs.declared.service.Service.{Service}
@@ -20,19 +21,19 @@ kept_first (Some a) (Some b) None x k p = absurd p
 kept_first (Some a) (Some b) (Some c) x k p = p ∙ ap (λ y. y ++ x) k
 
 module _ (answers : Asked → List ℕ → Type 0) where
-  pub served_more : (s t : Service) (piece : List ℕ) (left mid now old was new : Option (List ℕ)) (b m a : ℕ) → HasServed answers s left mid old was b m → Consumes mid now piece →
-      Fed answers s t piece was new m a → HasServed answers t left now old new b a
-  served_more s t piece left mid now old was new b m a (fed, rs, gone, taken, replied) here f =
+  pub served_more : (s t : Service) (piece : List ℕ) (left mid now : Option (List ℕ)) {X : Type 0} (old was new : Output X) → HasServed answers s left mid old was → Consumes mid now piece →
+      Fed answers s t piece was new → HasServed answers t left now old new
+  served_more s t piece left mid now old was new (fed, rs, gone, taken, replied) here f =
       let (more, further, after) = f fed rs taken in
-      (fed ++ piece, rs ++ more, Consumes-trans left mid now fed piece gone here, further, replied_then answers rs more old was new b m a Done replied after)
+      (fed ++ piece, rs ++ more, Consumes-trans left mid now fed piece gone here, further, replied_then answers rs more old was new Done replied after)
 
-  pub served_all : (s : Service) (n : ℕ) (left mid now first old was new : Option (List ℕ)) (z b m a : ℕ) → s.cutter.taker.questions.list.vertices ≡ n →
-      HasServed answers s left mid old was b m → Consumes mid now [] → IsAtEnd now → Keeps first old → b ≡ z
-      → Finished answers s was new m a → Served answers n left first new z a
-  served_all s n left mid now first old was new z b m a same (fed, rs, gone, taken, replied) here end kept sound f =
+  pub served_all : (s : Service) (n : ℕ) (left mid now : Option (List ℕ)) {X : Type 0} (first old was new : Output X) → s.cutter.taker.questions.list.vertices ≡ n →
+      HasServed answers s left mid old was → Consumes mid now [] → IsAtEnd now → Keeps first.written old.written → old.failures ≡ first.failures
+      → Finished answers s was new → Served answers n left first new
+  served_all s n left mid now first old was new same (fed, rs, gone, taken, replied) here end kept sound f =
       let (more, all, after) = f fed rs taken in
       let whole : Consumes left now fed = subst (λ (x : List ℕ). Consumes left now x) (append-nil fed) (Consumes-trans left mid now fed [] gone here) in
-      let both = replied_then answers rs more old was new b m a Done replied after in (
+      let both = replied_then answers rs more old was new Done replied after in (
         fed,
         rs ++ more,
         Consumes-whole left now fed (λ x. fed ≡ x) whole end refl,
@@ -40,7 +41,7 @@ module _ (answers : Asked → List ℕ → Type 0) where
         record {
           texts = both.texts;
           right = both.right;
-          bytes = kept_first first old new _ kept both.bytes;
+          bytes = kept_first first.written old.written new.written _ kept both.bytes;
           sound = both.sound ∙ sound;
         },
       )
@@ -67,11 +68,11 @@ module _ (answers : Asked → List ℕ → Type 0) where
   consumes_kept (Some all) (Some rest) None text g k = absurd k
   consumes_kept (Some all) (Some rest) (Some same) text g k = g ∙ ap (λ y. text ++ y) (sym k)
 
-  replied_kept : (rs : List Request) (first old new : Option (List ℕ)) (z b a : ℕ) → Keeps first old → b ≡ z → Replied answers rs old new b a → Replied answers rs first new z a
-  replied_kept rs first old new z b a kept sound r = record { texts = r.texts; right = r.right; bytes = kept_first first old new _ kept r.bytes; sound = r.sound ∙ sound }
+  replied_kept : (rs : List Request) {X : Type 0} (first old new : Output X) → Keeps first.written old.written → old.failures ≡ first.failures → Replied answers rs old new → Replied answers rs first new
+  replied_kept rs first old new kept sound r = record { texts = r.texts; right = r.right; bytes = kept_first first.written old.written new.written _ kept r.bytes; sound = r.sound ∙ sound }
 
-  fell_kept : (rs : List Request) (first old new : Option (List ℕ)) (z b a : ℕ) → Keeps first old → b ≡ z → FellIn answers rs old new b a → FellIn answers rs first new z a
-  fell_kept rs first old new z b a kept sound r = record {
+  fell_kept : (rs : List Request) {X : Type 0} (first old new : Output X) → Keeps first.written old.written → old.failures ≡ first.failures → FellIn answers rs old new → FellIn answers rs first new
+  fell_kept rs first old new kept sound r = record {
     first = r.first;
     later = r.later;
     requests_are = r.requests_are;
@@ -81,24 +82,24 @@ module _ (answers : Asked → List ℕ → Type 0) where
       prefix = r.wrote.prefix;
       rest = r.wrote.rest;
       text_is = r.wrote.text_is;
-      bytes = kept_first first old new r.wrote.prefix kept r.wrote.bytes;
+      bytes = kept_first first.written old.written new.written r.wrote.prefix kept r.wrote.bytes;
       failed =
           r.wrote.failed ∙ ap (λ k. k + 1) sound;
     };
   }
 
-  module _ (s : Service) (n : ℕ) (left mid now first old was new : Option (List ℕ)) (z b m a : ℕ) (same : s.cutter.taker.questions.list.vertices ≡ n)
-      (served : HasServed answers s left mid old was b m) (kept : Keeps first old) (sound : b ≡ z) where
+  module _ (s : Service) (n : ℕ) (left mid now : Option (List ℕ)) {X : Type 0} (first old was new : Output X) (same : s.cutter.taker.questions.list.vertices ≡ n)
+      (served : HasServed answers s left mid old was) (kept : Keeps first.written old.written) (sound : old.failures ≡ first.failures) where
     whole : (fed : List ℕ) (rs : List Request) (t : Service) → t.cutter.taker.questions.list.vertices ≡ n → WasFed t fed rs → MakesWhole n fed rs
     whole fed rs t e h = (parser_state t.cutter.taker, subst (λ k. LinesMay k 1 (Gives None) (lines true fed) rs (parser_state t.cutter.taker)) e h.made)
 
     -- a read failed
-    pub read_failed : Keeps mid now → ServedSoFar answers n left now first was z m
-    read_failed stays = let (fed, rs, gone, taken, replied) = served in (fed, rs, consumes_kept left mid now fed gone stays, whole fed rs s same taken, replied_kept rs first old was z b m kept sound replied)
+    pub read_failed : Keeps mid now → ServedSoFar answers n left now first was
+    read_failed stays = let (fed, rs, gone, taken, replied) = served in (fed, rs, consumes_kept left mid now fed gone stays, whole fed rs s same taken, replied_kept rs first old was kept sound replied)
 
     -- a write failed in the replies to what a piece makes whole
-    pub feed_fell : (t : Service) (piece : List ℕ) → t.cutter.taker.questions.list.vertices ≡ n → Consumes mid now piece → FedPart answers s t piece was new m a →
-        ServedPart answers n left first new z a
+    pub feed_fell : (t : Service) (piece : List ℕ) → t.cutter.taker.questions.list.vertices ≡ n → Consumes mid now piece → FedPart answers s t piece was new →
+        ServedPart answers n left first new
     feed_fell t piece e here f =
         let (fed, rs, gone, taken, replied) = served in
         let (prefix, rest, more, is, further, fell) = f fed rs taken in (
@@ -106,12 +107,12 @@ module _ (answers : Asked → List ℕ → Type 0) where
           rs ++ more,
           begins_part left mid now fed piece prefix rest gone here is,
           inl (whole (fed ++ prefix) (rs ++ more) t e further),
-          fell_kept (rs ++ more) first old new z b a kept sound (replied_then answers rs more old was new b m a Failed replied fell),
+          fell_kept (rs ++ more) first old new kept sound (replied_then answers rs more old was new Failed replied fell),
         )
 
     -- a request is too long
-    pub feed_long : (t : Service) (piece : List ℕ) → t.cutter.taker.questions.list.vertices ≡ n → Consumes mid now piece → FedLong answers s t piece was new m a →
-        ServedToLimit answers n left now first new z a
+    pub feed_long : (t : Service) (piece : List ℕ) → t.cutter.taker.questions.list.vertices ≡ n → Consumes mid now piece → FedLong answers s t piece was new →
+        ServedToLimit answers n left now first new
     feed_long t piece e here f =
         let (fed, rs, gone, taken, replied) = served in
         let (prefix, rest, more, is, some, further, full, after) = f fed rs taken in
@@ -123,14 +124,14 @@ module _ (answers : Asked → List ℕ → Type 0) where
           rs = rs ++ more;
           next = parser_state t.cutter.taker;
           made = subst (λ k. LinesMay k 1 (Gives None) (lines true (fed ++ prefix)) (rs ++ more) (parser_state t.cutter.taker)) e further.made;
-          replied = replied_kept (rs ++ more) first old new z b a kept sound (replied_then answers rs more old was new b m a Done replied after);
+          replied = replied_kept (rs ++ more) first old new kept sound (replied_then answers rs more old was new Done replied after);
           own = further.own;
           is_open = subst (λ k. IsUnfinished k (fed ++ prefix) (rs ++ more) (parser_state t.cutter.taker) further.own) e further.is_open;
           full = sym further.count ∙ full;
         }
 
     -- a write failed in the replies to what was left
-    pub end_fell : FinishedPart answers s was new m a → ServedPart answers n left first new z a
+    pub end_fell : FinishedPart answers s was new → ServedPart answers n left first new
     end_fell f =
         let (fed, rs, gone, taken, replied) = served in
         let (more, all, fell) = f fed rs taken in (
@@ -138,13 +139,13 @@ module _ (answers : Asked → List ℕ → Type 0) where
           rs ++ more,
           begins left mid fed gone,
           inr (subst (λ k. HasRequests k fed (rs ++ more)) same all),
-          fell_kept (rs ++ more) first old new z b a kept sound
-              (replied_then answers rs more old was new b m a Failed replied fell),
+          fell_kept (rs ++ more) first old new kept sound
+              (replied_then answers rs more old was new Failed replied fell),
         )
 
   -- a flush failed before anything was read
-  pub flush_fell : (n : ℕ) (left first new : Option (List ℕ)) (z a : ℕ) → Keeps first new → a ≡ z + 1 → ServedPart answers n left first new z a
-  flush_fell n left first new z a kept failed = (
+  pub flush_fell : (n : ℕ) (left : Option (List ℕ)) {X : Type 0} (first new : Output X) → Keeps first.written new.written → new.failures ≡ first.failures + 1 → ServedPart answers n left first new
+  flush_fell n left first new kept failed = (
     [],
     [],
     begins left left [] (Consumes-nil left),
@@ -155,6 +156,6 @@ module _ (answers : Asked → List ℕ → Type 0) where
       requests_are = refl;
       texts = [];
       right = tt;
-      wrote = record { prefix = []; rest = []; text_is = refl; bytes = kept_first first new new [] kept (Appends-nil new); failed = failed };
+      wrote = record { prefix = []; rest = []; text_is = refl; bytes = kept_first first.written new.written new.written [] kept (Appends-nil new.written); failed = failed };
     },
   )

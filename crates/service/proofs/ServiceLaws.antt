@@ -6,6 +6,7 @@ use Rattle.road_text.specs.Cuts.{IsPresent, IsLine, EndsLine, StaysInLine}
 use Rattle.road_text.specs.Lines.{lines, fields}
 use Rattle.road_text.specs.Rules.{at_line}
 use Rattle.road_text.proofs.TextLaws.{lines_first, lines_cut}
+use Rattle.road_text.specs.Streams.{Output}
 use Rattle.road_files.specs.Asked.{Asked}
 use Rattle.road_files.specs.declared.request_parser.LineDone.{LineDone}
 use Rattle.road_files.specs.RequestTakes.{parser_state, RequestSoFar, ended_of, ended_list}
@@ -150,14 +151,14 @@ module _ (t u : Service) (same : u.cutter.taker.questions.list.vertices ≡ t.cu
         held = held;
       }
 
-module _ (answers : Asked → List ℕ → Type 0) (t v u : Service) (old new : Option (List ℕ)) (b a : ℕ)
+module _ (answers : Asked → List ℕ → Type 0) (t v u : Service) {X : Type 0} (old new : Output X)
     (same : v.cutter.taker.questions.list.vertices ≡ t.cutter.taker.questions.list.vertices) (state : parser_state v.cutter.taker ≡ parser_state t.cutter.taker) (line : v.line ≡ t.line)
     (same_after : u.cutter.taker.questions.list.vertices ≡ v.cutter.taker.questions.list.vertices) (line_after : u.line ≡ min (v.line + 1) 18446744073709551615)
     (ready : IsPresent RequestSoFar u.cutter []) where
   -- bytes that end the line
   pub taken_line : {A E : Type 0} (res : Result A E) (fed bytes : List ℕ) (rs : List Request) → v.count ≡ t.count + length bytes → WasFed t fed rs → EndsLine RequestSoFar t.cutter v.cutter bytes
-      → ((at : ℕ) (l : List ℕ) → v.line ≡ held_line at → IsLine RequestSoFar v.cutter l → LineEnded answers at l v u old new b a res)
-      → (more : List Request) × WasFed u (fed ++ bytes) (rs ++ more) × RepliedOrFell answers more old new b a res
+      → ((at : ℕ) (l : List ℕ) → v.line ≡ held_line at → IsLine RequestSoFar v.cutter l → LineEnded answers at l v u old new res)
+      → (more : List Request) × WasFed u (fed ++ bytes) (rs ++ more) × RepliedOrFell answers more old new res
   taken_line res fed bytes rs counted h cut did =
       let at : ℕ = 1 + length (lines true fed) in
       let l : List ℕ = strip_carriage_return (h.present ++ cut.prefix) in
@@ -195,14 +196,14 @@ module _ (answers : Asked → List ℕ → Type 0) (t v u : Service) (old new : 
       )
 
 -- a piece that is fed
-pub fed_none : (answers : Asked → List ℕ → Type 0) (s : Service) (old : Option (List ℕ)) (b : ℕ) → Fed answers s s [] old old b b
-fed_none answers s old b = λ fed rs h. ([], rw (append-nil fed, append-nil rs) h, replied_none answers old b)
+pub fed_none : (answers : Asked → List ℕ → Type 0) (s : Service) {X : Type 0} (old : Output X) → Fed answers s s [] old old
+fed_none answers s old = λ fed rs h. ([], rw (append-nil fed, append-nil rs) h, replied_none answers old)
 
-pub fed_stay : (answers : Asked → List ℕ → Type 0) (s t u : Service) (whole xs ys : List ℕ) (n : ℕ) (old mid : Option (List ℕ)) (b m : ℕ) →
+pub fed_stay : (answers : Asked → List ℕ → Type 0) (s t u : Service) (whole xs ys : List ℕ) (n : ℕ) {X : Type 0} (old mid : Output X) →
     u.cutter.taker.questions.list.vertices ≡ t.cutter.taker.questions.list.vertices
-    → parser_state u.cutter.taker ≡ parser_state t.cutter.taker → u.line ≡ t.line → u.count ≡ t.count + length ys → whole ≡ xs ++ ys → Fed answers s t xs old mid b m →
-    StaysInLine RequestSoFar t.cutter u.cutter ys n → Fed answers s u whole old mid b m
-fed_stay answers s t u whole xs ys n old mid b m same state line counted e f stay = λ fed rs h.
+    → parser_state u.cutter.taker ≡ parser_state t.cutter.taker → u.line ≡ t.line → u.count ≡ t.count + length ys → whole ≡ xs ++ ys → Fed answers s t xs old mid →
+    StaysInLine RequestSoFar t.cutter u.cutter ys n → Fed answers s u whole old mid
+fed_stay answers s t u whole xs ys n old mid same state line counted e f stay = λ fed rs h.
     let (more, taken, replied) = f fed rs h in (
       more,
       subst (λ (x : List ℕ). WasFed u x (rs ++ more)) (append_assoc fed xs ys ∙ ap (λ x. fed ++ x) (sym e))
@@ -213,44 +214,44 @@ fed_stay answers s t u whole xs ys n old mid b m same state line counted e f sta
 abbrev pub Done : Result (Unit {0}) (Unit {0})
 Done = Ok tt
 
-pub fed_line : (answers : Asked → List ℕ → Type 0) (s t v u : Service) (xs ys : List ℕ) (old mid new : Option (List ℕ)) (b m a : ℕ)
+pub fed_line : (answers : Asked → List ℕ → Type 0) (s t v u : Service) (xs ys : List ℕ) {X : Type 0} (old mid new : Output X)
     → v.cutter.taker.questions.list.vertices ≡ t.cutter.taker.questions.list.vertices → parser_state v.cutter.taker ≡ parser_state t.cutter.taker → v.line ≡ t.line
     → u.cutter.taker.questions.list.vertices ≡ v.cutter.taker.questions.list.vertices → u.line ≡ min (v.line + 1) 18446744073709551615 → IsPresent RequestSoFar u.cutter [] →
     v.count ≡ t.count + length ys
-    → Fed answers s t xs old mid b m → EndsLine RequestSoFar t.cutter v.cutter ys
-    → ((at : ℕ) (l : List ℕ) → v.line ≡ held_line at → IsLine RequestSoFar v.cutter l → LineEnded answers at l v u mid new m a Done) → Fed answers s u (xs ++ ys) old new b a
-fed_line answers s t v u xs ys old mid new b m a same state line same_after line_after ready counted f cut did = λ fed rs h.
+    → Fed answers s t xs old mid → EndsLine RequestSoFar t.cutter v.cutter ys
+    → ((at : ℕ) (l : List ℕ) → v.line ≡ held_line at → IsLine RequestSoFar v.cutter l → LineEnded answers at l v u mid new Done) → Fed answers s u (xs ++ ys) old new
+fed_line answers s t v u xs ys old mid new same state line same_after line_after ready counted f cut did = λ fed rs h.
     let (more, taken, replied) = f fed rs h in
-    let (next, further, after) = taken_line answers t v u mid new m a same state line same_after line_after ready Done (fed ++ xs) ys (rs ++ more) counted taken cut did in (
+    let (next, further, after) = taken_line answers t v u mid new same state line same_after line_after ready Done (fed ++ xs) ys (rs ++ more) counted taken cut did in (
       more ++ next,
       subst (λ (x : List ℕ). WasFed u x (rs ++ (more ++ next))) (append_assoc fed xs ys) (subst (λ (x : List Request). WasFed u ((fed ++ xs) ++ ys) x) (append_assoc rs more next) further),
-      replied_then answers more next old mid new b m a Done replied after,
+      replied_then answers more next old mid new Done replied after,
     )
 
 abbrev pub Failed : Result (Unit {0}) (Unit {0})
 Failed = Err tt
 
 -- a write fails in the replies to what ends with a line
-pub fed_part : (answers : Asked → List ℕ → Type 0) (s t v u : Service) (all xs ys zs : List ℕ) (old mid new : Option (List ℕ)) (b m a : ℕ)
+pub fed_part : (answers : Asked → List ℕ → Type 0) (s t v u : Service) (all xs ys zs : List ℕ) {X : Type 0} (old mid new : Output X)
     → v.cutter.taker.questions.list.vertices ≡ t.cutter.taker.questions.list.vertices → parser_state v.cutter.taker ≡ parser_state t.cutter.taker → v.line ≡ t.line
     → u.cutter.taker.questions.list.vertices ≡ v.cutter.taker.questions.list.vertices → u.line ≡ min (v.line + 1) 18446744073709551615 → IsPresent RequestSoFar u.cutter [] →
     v.count ≡ t.count + length ys
-    → all ≡ (xs ++ ys) ++ zs → Fed answers s t xs old mid b m → EndsLine RequestSoFar t.cutter v.cutter ys
-    → ((at : ℕ) (l : List ℕ) → v.line ≡ held_line at → IsLine RequestSoFar v.cutter l → LineEnded answers at l v u mid new m a Failed) → FedPart answers s u all old new b a
-fed_part answers s t v u all xs ys zs old mid new b m a same state line same_after line_after ready counted is f cut did = λ fed rs h.
+    → all ≡ (xs ++ ys) ++ zs → Fed answers s t xs old mid → EndsLine RequestSoFar t.cutter v.cutter ys
+    → ((at : ℕ) (l : List ℕ) → v.line ≡ held_line at → IsLine RequestSoFar v.cutter l → LineEnded answers at l v u mid new Failed) → FedPart answers s u all old new
+fed_part answers s t v u all xs ys zs old mid new same state line same_after line_after ready counted is f cut did = λ fed rs h.
     let (more, taken, replied) = f fed rs h in
-    let (next, further, after) = taken_line answers t v u mid new m a same state line same_after line_after ready Failed (fed ++ xs) ys (rs ++ more) counted taken cut did in (
+    let (next, further, after) = taken_line answers t v u mid new same state line same_after line_after ready Failed (fed ++ xs) ys (rs ++ more) counted taken cut did in (
       xs ++ ys,
       zs,
       more ++ next,
       is,
       subst (λ (x : List ℕ). WasFed u x (rs ++ (more ++ next))) (append_assoc fed xs ys) (subst (λ (x : List Request). WasFed u ((fed ++ xs) ++ ys) x) (append_assoc rs more next) further),
-      replied_then answers more next old mid new b m a Failed replied after,
+      replied_then answers more next old mid new Failed replied after,
     )
 
 -- no more bytes fit
-pub fed_long : (answers : Asked → List ℕ → Type 0) (s t : Service) (all : List ℕ) (k : ℕ) (old mid : Option (List ℕ)) (b m : ℕ) → k < length all → t.count ≡ 4294967296 →
-    Fed answers s t (take k all) old mid b m → FedLong answers s t all old mid b m
-fed_long answers s t all k old mid b m lt full f = λ fed rs h.
+pub fed_long : (answers : Asked → List ℕ → Type 0) (s t : Service) (all : List ℕ) (k : ℕ) {X : Type 0} (old mid : Output X) → k < length all → t.count ≡ 4294967296 →
+    Fed answers s t (take k all) old mid → FedLong answers s t all old mid
+fed_long answers s t all k old mid lt full f = λ fed rs h.
     let (more, taken, replied) = f fed rs h in
     (take k all, drop k all, more, sym (take-append-drop k all), omega (arith, length-drop k all), taken, full, replied)

@@ -1,5 +1,5 @@
 -- Which texts may answer a request: those that a batch writes.
-use Rattle.std.specs.Prelude.{◌≡◌, ℕ, ◌⊎◌, Bool, false, List, ◌++◌, take}
+use Rattle.std.specs.Prelude.{◌≡◌, ◌≢◌, ℕ, ◌⊎◌, Bool, List, ◌++◌, take}
 use Rattle.road_graph.specs.GraphData.{GraphData}
 use Rattle.road_files.specs.Asked.{Asked}
 use Rattle.path_algebra.specs.declared.algebra.PathAlgebra.{Ghosts}
@@ -8,7 +8,9 @@ use Rattle.answer_text.specs.AnswerData.{AnswerData, AnswerList}
 use Rattle.answer_text.specs.IsAnswer.{AreAnswers, IsAnswerList}
 use Rattle.answer_text.specs.AnswerText.{answers_text}
 use Rattle.batch_run.specs.Answered.{begun_text}
-use Rattle.batch_run.specs.Stopping.{Stalls, Closes}
+use Rattle.batch_run.specs.Causes.{MayStop, number_of}
+use Rattle.batch_run.specs.declared.faults.Cause.{Cause}
+use Rattle.batch_run.specs.declared.faults.Cause.TheVariants.{Write}
 use Rattle.batch_run.specs.declared.settings.Settings.{Settings}
 use Rattle.batch_run.specs.declared.solve.Solver.{Solver}
 use Rattle.batch_run.specs.Choice.{without_diffusions}
@@ -20,22 +22,15 @@ abbrev pub IsAnswered : {V : Type 0} → Algebra V → GraphData → Asked → L
 IsAnswered A g asked text =
     (told : AnswerList) × IsAnswerList A g asked told × (text ≡ answers_text told)
 
--- the number of a fault of the run: memory or a thread; if workers answer, also a worker that took all turns of the
--- limit, or one to which its gate answered false before that
-abbrev pub IsOfRun : (plain : Bool) → Settings → (ℕ → ℕ → Bool → Type 0) → ℕ → Type 0
-IsOfRun plain how gate number =
-    (number ≡ 3)
-    ⊎ (((number ≡ 40) × (plain ≡ false) × Stalls gate how.workers how.turns)
-    ⊎ ((number ≡ 41) × (plain ≡ false) × Closes gate how.workers how.turns))
-
--- the header, the right answers to the first questions, each whole, and then the fault that stopped the run
+-- the header, the right answers to the first questions, each whole, and then the fault that stopped the run, which is no failed write
 pub record IsStopped {V : Type 0} (A : Algebra V) (plain : Bool) (how : Settings) (gate : ℕ → ℕ → Bool → Type 0) (g : GraphData) (asked : Asked) (text : List ℕ) : Type 0 where
   pub count : ℕ
   pub answers : List AnswerData
   pub right : AreAnswers A g (take count asked.questions) answers
-  pub number : ℕ
-  pub of_run : IsOfRun plain how gate number
-  pub text_is : text ≡ begun_text A asked answers ++ fault_text number 0
+  pub cause : Cause
+  pub may : MayStop plain how gate cause
+  pub other : cause ≢ Write
+  pub text_is : text ≡ begun_text A asked answers ++ fault_text (number_of cause) 0
 
 -- which texts may reply to what is asked, with diffusions or without, where `gate` says what the gate may answer to a
 -- worker before a turn

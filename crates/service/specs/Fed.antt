@@ -3,6 +3,7 @@ use Rattle.std.specs.Prelude.{◌≡◌, ℕ, ◌+◌, ◌<◌, ◌⊎◌, Bool,
 use Rattle.std.specs.Io.KnownBytes.{Consumes}
 use Rattle.road_text.specs.Cuts.{IsPresent}
 use Rattle.road_text.specs.Lines.{lines, fields}
+use Rattle.road_text.specs.Streams.{Output}
 use Rattle.road_text.specs.Rules.{at_line}
 use Rattle.road_files.specs.Asked.{Asked}
 use Rattle.road_files.specs.RequestTakes.{parser_state, RequestSoFar}
@@ -63,25 +64,25 @@ abbrev pub count_after : Step → ℕ → ℕ
 count_after step count = if counts_anew step.ended step.next then 0 else count
 
 -- a line ended, and the requests that ended with it were replied to
-abbrev pub LineEnded : {A E : Type 0} → (Asked → List ℕ → Type 0) → ℕ → List ℕ → Service → Service → Option (List ℕ) → Option (List ℕ) → ℕ → ℕ → Result A E → Type 0
-LineEnded answers at line old new before after b a result =
-    (step : Step) × LineMay old.cutter.taker.questions.list.vertices (parser_state old.cutter.taker) (fields line) step × (step.next ≡ parser_state new.cutter.taker) × (new.count ≡ count_after step old.count) × RepliedOrFell answers (map (at_line at) step.ended) before after b a result
+abbrev pub LineEnded : {A E X : Type 0} → (Asked → List ℕ → Type 0) → ℕ → List ℕ → Service → Service → Output X → Output X → Result A E → Type 0
+LineEnded answers at line old new before after result =
+    (step : Step) × LineMay old.cutter.taker.questions.list.vertices (parser_state old.cutter.taker) (fields line) step × (step.next ≡ parser_state new.cutter.taker) × (new.count ≡ count_after step old.count) × RepliedOrFell answers (map (at_line at) step.ended) before after result
 
 -- the service was fed these further bytes, and replied to just the requests that they make whole
-abbrev pub Fed : (Asked → List ℕ → Type 0) → Service → Service → List ℕ → Option (List ℕ) → Option (List ℕ) → ℕ → ℕ → Type 0
-Fed answers old new bytes before after b a =
-    (fed : List ℕ) (rs : List Request) → WasFed old fed rs → (more : List Request) × WasFed new (fed ++ bytes) (rs ++ more) × Replied answers more before after b a
+abbrev pub Fed : {X : Type 0} → (Asked → List ℕ → Type 0) → Service → Service → List ℕ → Output X → Output X → Type 0
+Fed answers old new bytes before after =
+    (fed : List ℕ) (rs : List Request) → WasFed old fed rs → (more : List Request) × WasFed new (fed ++ bytes) (rs ++ more) × Replied answers more before after
 
 -- the service took a prefix of these bytes, and a write failed in the replies to the requests that it makes whole: a prefix of them was written
-abbrev pub FedPart : (Asked → List ℕ → Type 0) → Service → Service → List ℕ → Option (List ℕ) → Option (List ℕ) → ℕ → ℕ → Type 0
-FedPart answers old new bytes before after b a =
-    (fed : List ℕ) (rs : List Request) → WasFed old fed rs → (prefix rest : List ℕ) × (more : List Request) × (bytes ≡ prefix ++ rest) × WasFed new (fed ++ prefix) (rs ++ more) × FellIn answers more before after b a
+abbrev pub FedPart : {X : Type 0} → (Asked → List ℕ → Type 0) → Service → Service → List ℕ → Output X → Output X → Type 0
+FedPart answers old new bytes before after =
+    (fed : List ℕ) (rs : List Request) → WasFed old fed rs → (prefix rest : List ℕ) × (more : List Request) × (bytes ≡ prefix ++ rest) × WasFed new (fed ++ prefix) (rs ++ more) × FellIn answers more before after
 
 -- the service took a prefix of these bytes, and replied to just the requests that it makes whole; then one request, or one line, would have more than 2^32 bytes
-abbrev pub FedLong : (Asked → List ℕ → Type 0) → Service → Service → List ℕ → Option (List ℕ) → Option (List ℕ) → ℕ → ℕ → Type 0
-FedLong answers old new bytes before after b a =
+abbrev pub FedLong : {X : Type 0} → (Asked → List ℕ → Type 0) → Service → Service → List ℕ → Output X → Output X → Type 0
+FedLong answers old new bytes before after =
     (fed : List ℕ) (rs : List Request) → WasFed old fed rs
-    → (prefix rest : List ℕ) × (more : List Request) × (bytes ≡ prefix ++ rest) × (0 < length rest) × WasFed new (fed ++ prefix) (rs ++ more) × (new.count ≡ 4294967296) × Replied answers more before after b a
+    → (prefix rest : List ℕ) × (more : List Request) × (bytes ≡ prefix ++ rest) × (0 < length rest) × WasFed new (fed ++ prefix) (rs ++ more) × (new.count ≡ 4294967296) × Replied answers more before after
 
 -- a whole text has these requests; unless memory ran out, they are `requests false n text`
 abbrev pub HasRequests : ℕ → List ℕ → List Request → Type 0
@@ -93,22 +94,22 @@ pub record HasLines (s : Service) (text : List ℕ) (rs : List Request) : Type 0
   pub line : s.line ≡ held_line (1 + length (lines false text))
 
 -- the text ended, and the requests that its last line makes whole were replied to
-abbrev pub LastFed : (Asked → List ℕ → Type 0) → Service → Service → Option (List ℕ) → Option (List ℕ) → ℕ → ℕ → Type 0
-LastFed answers old new before after b a = (fed : List ℕ) (rs : List Request) → WasFed old fed rs → (more : List Request) × HasLines new fed (rs ++ more) × Replied answers more before after b a
+abbrev pub LastFed : {X : Type 0} → (Asked → List ℕ → Type 0) → Service → Service → Output X → Output X → Type 0
+LastFed answers old new before after = (fed : List ℕ) (rs : List Request) → WasFed old fed rs → (more : List Request) × HasLines new fed (rs ++ more) × Replied answers more before after
 
 -- the text ended, and all of its requests have been replied to
-abbrev pub Finished : (Asked → List ℕ → Type 0) → Service → Option (List ℕ) → Option (List ℕ) → ℕ → ℕ → Type 0
-Finished answers old before after b a =
-    (fed : List ℕ) (rs : List Request) → WasFed old fed rs → (more : List Request) × HasRequests old.cutter.taker.questions.list.vertices fed (rs ++ more) × Replied answers more before after b a
+abbrev pub Finished : {X : Type 0} → (Asked → List ℕ → Type 0) → Service → Output X → Output X → Type 0
+Finished answers old before after =
+    (fed : List ℕ) (rs : List Request) → WasFed old fed rs → (more : List Request) × HasRequests old.cutter.taker.questions.list.vertices fed (rs ++ more) × Replied answers more before after
 
 -- the text ended, and a write failed in the replies to the requests that its last line makes whole
-abbrev pub LastFedPart : (Asked → List ℕ → Type 0) → Service → Service → Option (List ℕ) → Option (List ℕ) → ℕ → ℕ → Type 0
-LastFedPart answers old new before after b a = (fed : List ℕ) (rs : List Request) → WasFed old fed rs → (more : List Request) × HasLines new fed (rs ++ more) × FellIn answers more before after b a
+abbrev pub LastFedPart : {X : Type 0} → (Asked → List ℕ → Type 0) → Service → Service → Output X → Output X → Type 0
+LastFedPart answers old new before after = (fed : List ℕ) (rs : List Request) → WasFed old fed rs → (more : List Request) × HasLines new fed (rs ++ more) × FellIn answers more before after
 
 -- the text ended, and a write failed in the replies to what was left
-abbrev pub FinishedPart : (Asked → List ℕ → Type 0) → Service → Option (List ℕ) → Option (List ℕ) → ℕ → ℕ → Type 0
-FinishedPart answers old before after b a =
-    (fed : List ℕ) (rs : List Request) → WasFed old fed rs → (more : List Request) × HasRequests old.cutter.taker.questions.list.vertices fed (rs ++ more) × FellIn answers more before after b a
+abbrev pub FinishedPart : {X : Type 0} → (Asked → List ℕ → Type 0) → Service → Output X → Output X → Type 0
+FinishedPart answers old before after =
+    (fed : List ℕ) (rs : List Request) → WasFed old fed rs → (more : List Request) × HasRequests old.cutter.taker.questions.list.vertices fed (rs ++ more) × FellIn answers more before after
 
 -- the bytes so far make these requests whole
 abbrev pub MakesWhole : ℕ → List ℕ → List Request → Type 0
@@ -119,11 +120,11 @@ abbrev pub BeginsWith : Option (List ℕ) → List ℕ → Type 0
 BeginsWith left text = IfSome left (λ all. (rest : List ℕ) × (all ≡ text ++ rest))
 
 -- just the requests that the bytes consumed make whole were replied to
-abbrev pub ServedSoFar : (Asked → List ℕ → Type 0) → ℕ → Option (List ℕ) → Option (List ℕ) → Option (List ℕ) → Option (List ℕ) → ℕ → ℕ → Type 0
-ServedSoFar answers n left now old new b a = (text : List ℕ) × (rs : List Request) × Consumes left now text × MakesWhole n text rs × Replied answers rs old new b a
+abbrev pub ServedSoFar : {X : Type 0} → (Asked → List ℕ → Type 0) → ℕ → Option (List ℕ) → Option (List ℕ) → Output X → Output X → Type 0
+ServedSoFar answers n left now old new = (text : List ℕ) × (rs : List Request) × Consumes left now text × MakesWhole n text rs × Replied answers rs old new
 
 -- the bytes consumed have more than 2^32 in one request, or in one line: just the requests that the bytes before make whole were replied to
-pub record ServedToLimit (answers : Asked → List ℕ → Type 0) (n : ℕ) (left now old new : Option (List ℕ)) (b a : ℕ) : Type 0 where
+pub record ServedToLimit {X : Type 0} (answers : Asked → List ℕ → Type 0) (n : ℕ) (left now : Option (List ℕ)) (old new : Output X) : Type 0 where
   -- what was taken, and what was consumed beyond it
   pub text : List ℕ
   pub beyond : List ℕ
@@ -133,20 +134,20 @@ pub record ServedToLimit (answers : Asked → List ℕ → Type 0) (n : ℕ) (le
   pub rs : List Request
   pub next : ServiceState
   pub made : LinesMay n 1 (Gives None) (lines true text) rs next
-  pub replied : Replied answers rs old new b a
+  pub replied : Replied answers rs old new
   -- the last 2^32 bytes taken are all of one request that goes on, or of one line
   pub own : List ℕ
   pub is_open : IsUnfinished n text rs next own
   pub full : length own ≡ 4294967296
 
 -- a write failed in the replies to the requests that a prefix of the input makes whole, or to all of them
-abbrev pub ServedPart : (Asked → List ℕ → Type 0) → ℕ → Option (List ℕ) → Option (List ℕ) → Option (List ℕ) → ℕ → ℕ → Type 0
-ServedPart answers n left old new b a = (text : List ℕ) × (rs : List Request) × BeginsWith left text × (MakesWhole n text rs ⊎ HasRequests n text rs) × FellIn answers rs old new b a
+abbrev pub ServedPart : {X : Type 0} → (Asked → List ℕ → Type 0) → ℕ → Option (List ℕ) → Output X → Output X → Type 0
+ServedPart answers n left old new = (text : List ℕ) × (rs : List Request) × BeginsWith left text × (MakesWhole n text rs ⊎ HasRequests n text rs) × FellIn answers rs old new
 
 -- the service took what was consumed of its input, and replied to just the requests that it makes whole
-abbrev pub HasServed : (Asked → List ℕ → Type 0) → Service → Option (List ℕ) → Option (List ℕ) → Option (List ℕ) → Option (List ℕ) → ℕ → ℕ → Type 0
-HasServed answers s left now old new b a = (fed : List ℕ) × (rs : List Request) × Consumes left now fed × WasFed s fed rs × Replied answers rs old new b a
+abbrev pub HasServed : {X : Type 0} → (Asked → List ℕ → Type 0) → Service → Option (List ℕ) → Option (List ℕ) → Output X → Output X → Type 0
+HasServed answers s left now old new = (fed : List ℕ) × (rs : List Request) × Consumes left now fed × WasFed s fed rs × Replied answers rs old new
 
 -- all requests of the input, if it is known, were replied to
-abbrev pub Served : (Asked → List ℕ → Type 0) → ℕ → Option (List ℕ) → Option (List ℕ) → Option (List ℕ) → ℕ → ℕ → Type 0
-Served answers n left old new b a = (text : List ℕ) × (rs : List Request) × IfSome left (λ all. text ≡ all) × HasRequests n text rs × Replied answers rs old new b a
+abbrev pub Served : {X : Type 0} → (Asked → List ℕ → Type 0) → ℕ → Option (List ℕ) → Output X → Output X → Type 0
+Served answers n left old new = (text : List ℕ) × (rs : List Request) × IfSome left (λ all. text ≡ all) × HasRequests n text rs × Replied answers rs old new

@@ -3,6 +3,7 @@ use Rattle.std.specs.Prelude.{◌≡◌, ◌≢◌, ℕ, ⊤, List, [], ◌∷�
 use Rattle.std.specs.Io.KnownBytes.{Appends}
 use Rattle.std.specs.List.{AllZip}
 use Rattle.road_text.specs.declared.faults.ReadFault.{ReadFault}
+use Rattle.road_text.specs.Streams.{Output}
 use Rattle.road_text.specs.Texts.{spelled}
 use Rattle.road_text.specs.Written.{FailedAfterPrefix}
 use Rattle.road_files.specs.Asked.{Asked}
@@ -40,22 +41,22 @@ joined [] = []
 joined (t ∷ ts) = t ++ joined ts
 
 -- the replies to these requests were written, whole, and no write failed
-pub record Replied (answers : Asked → List ℕ → Type 0) (rs : List Request) (old new : Option (List ℕ)) (before after : ℕ) : Type 0 where
+pub record Replied {X : Type 0} (answers : Asked → List ℕ → Type 0) (rs : List Request) (old new : Output X) : Type 0 where
   pub texts : List (List ℕ)
   pub right : AreRepliesBy answers rs texts
-  pub bytes : Appends old new (joined texts)
-  pub sound : after ≡ before
+  pub bytes : Appends old.written new.written (joined texts)
+  pub sound : new.failures ≡ old.failures
 
 -- a prefix of the replies to the first of these requests was written, and then a write failed
-pub record FellIn (answers : Asked → List ℕ → Type 0) (rs : List Request) (old new : Option (List ℕ)) (before after : ℕ) : Type 0 where
+pub record FellIn {X : Type 0} (answers : Asked → List ℕ → Type 0) (rs : List Request) (old new : Output X) : Type 0 where
   pub first : List Request
   pub later : List Request
   pub requests_are : rs ≡ first ++ later
   pub texts : List (List ℕ)
   pub right : AreRepliesBy answers first texts
-  pub wrote : FailedAfterPrefix old new before after (joined texts)
+  pub wrote : FailedAfterPrefix old new (joined texts)
 
 -- the former after a success, the latter after a failure
-abbrev pub RepliedOrFell : {A E : Type 0} → (Asked → List ℕ → Type 0) → List Request → Option (List ℕ) → Option (List ℕ) → ℕ → ℕ → Result A E → Type 0
-RepliedOrFell answers rs old new before after (Ok _) = Replied answers rs old new before after
-RepliedOrFell answers rs old new before after (Err _) = FellIn answers rs old new before after
+abbrev pub RepliedOrFell : {A E X : Type 0} → (Asked → List ℕ → Type 0) → List Request → Output X → Output X → Result A E → Type 0
+RepliedOrFell answers rs old new (Ok _) = Replied answers rs old new
+RepliedOrFell answers rs old new (Err _) = FellIn answers rs old new

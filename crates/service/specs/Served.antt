@@ -2,6 +2,7 @@
 use Rattle.std.specs.Prelude.{◌≡◌, ◌≢◌, ℕ, ◌+◌, ◌≤◌, ◌↔◌, ◌⊎◌, Bool, true, List, [], Option, Result, Err, OnOk, IfErr}
 use Rattle.std.specs.Io.KnownBytes.{IsAtEnd}
 use Rattle.road_graph.specs.GraphData.{GraphData}
+use Rattle.road_text.specs.Reads.{BreaksNone, RunsOutAfter}
 use Rattle.graph_text.specs.GraphFiles.{gr_rules}
 use Rattle.path_algebra.specs.Algebra.{Algebra}
 use Rattle.batch_run.specs.declared.faults.File.TheVariants.{Graph, Questions, NoFile}
@@ -9,7 +10,7 @@ use Rattle.batch_run.specs.declared.faults.RunFault.{RunFault}
 use Rattle.batch_run.specs.declared.settings.Settings.{Settings}
 use Rattle.batch_run.specs.InRange.{AreInRange}
 use Rattle.batch_run.specs.Ran.{IsReadAs, IsGraphFault, IsRoadNumber}
-use Rattle.batch_run.specs.Runs.{Input, Output}
+use Rattle.road_text.specs.Streams.{Input, Output}
 use Rattle.service.specs.Fed.{Served, ServedSoFar, ServedToLimit, ServedPart}
 use Rattle.service.specs.Answering.{MayAnswer}
 
@@ -26,7 +27,7 @@ pub record RanService {V G Q W : Type 0} (A : Algebra V) (how : Settings) (gate 
   -- all requests were replied to, over the graph that was read
   pub done : OnOk outcome (OverGraph graph.left (λ g.
       Served (MayAnswer A how gate g) g.vertices input.left
-      out.written out_after.written out.failures out_after.failures))
+      out out_after))
   -- and nothing is left buffered in the output
   pub passed_on : OnOk outcome (out_after.held ≡ [])
   -- no read and no write failed
@@ -36,25 +37,27 @@ pub record RanService {V G Q W : Type 0} (A : Algebra V) (how : Settings) (gate 
   -- at a failed read just the requests that the bytes consumed make whole were replied to
   pub stopped : IfErr outcome (λ f. f.file ≡ Questions → f.number ≡ 1 → OverGraph graph.left (λ g.
       ServedSoFar (MayAnswer A how gate g) g.vertices input.left input_after.left
-      out.written out_after.written out.failures out_after.failures))
+      out out_after))
   -- 2 is reported of the requests only of one that has more than 2^32 bytes, or of such a line: just
   -- the requests before it were replied to
   pub too_long : IfErr outcome (λ f. f.file ≡ Questions → f.number ≡ 2 → OverGraph graph.left (λ g.
       ServedToLimit (MayAnswer A how gate g) g.vertices input.left input_after.left
-      out.written out_after.written out.failures out_after.failures))
+      out out_after))
   -- and nothing is left buffered in the output after either
   pub nothing_held : IfErr outcome (λ f. f.file ≡ Questions → out_after.held ≡ [])
   -- a failed write leaves a prefix of the replies to the requests that a prefix of the input makes
   -- whole, or to all of them
   pub fell : IfErr outcome (λ f. f.number ≡ 42 → OverGraph graph.left (λ g.
       ServedPart (MayAnswer A how gate g) g.vertices input.left
-      out.written out_after.written out.failures out_after.failures))
+      out out_after))
   -- 43 is reported if a setting is out of its range,
   pub refused : (AreInRange how → ⊥) → outcome ≡ Err (record { number = 43; file = NoFile; line = 0 })
   -- and else only if factors are chosen
   pub settings : outcome ≡ Err (record { number = 43; file = NoFile; line = 0 }) → (AreInRange how → ⊥) ⊎ (how.factors ≡ true)
   -- a fault of the graph is its first one
   pub graph_fault : IfErr outcome (λ f. f.file ≡ Graph → IsGraphFault graph.left f)
+  -- 3 is reported of the graph only of bytes that fit, after those of all reads but the last, which break no rule
+  pub graph_memory : IfErr outcome (λ f. f.file ≡ Graph → f.number ≡ 3 → RunsOutAfter (BreaksNone gr_rules) graph.left graph_after.left)
   -- 1 is reported of the graph exactly if a read of it failed
   pub read_graph : (outcome ≡ Err (record { number = 1; file = Graph; line = 0 })) ↔ (graph_after.failures ≢ graph.failures)
   -- and of the requests exactly if a read of them failed

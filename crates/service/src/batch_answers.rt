@@ -8,7 +8,7 @@ ghost use Rattle.service.specs.Answering.{MayAnswerBy};
 
 use crate::fault_lines::write_fault;
 use answer_text::first_answers_begin_all;
-use batch_run::{Batch, Gate, Run, Solver, Unwatched, WRITE, answer_all, answers_exist};
+use batch_run::{Batch, Cause, Gate, Run, Solver, Unwatched, answer_all, answers_exist};
 use path_algebra::PathAlgebra;
 use road_files::Questions;
 use road_text::{RoadWrite, WriteFault};
@@ -36,7 +36,7 @@ impl<A: PathAlgebra, R: Threads + Wait + Sync, T: Gate> BatchAnswers<'_, A, R, T
         ensures wrote { (text : List ℕ) × MayAnswerBy (A.meaning self.now.algebra)
             self.now.run.now.settings.now (T.may_answer self.now.run.now.gate.now) solver.old
             (asked_of questions.now) text ×
-            WritesText W.written W.failures out.old out.new text result }
+            WritesText (W.seen out.old) (W.seen out.new) text result }
     {
         answers_exist(self.algebra);
         first_answers_begin_all(self.algebra);
@@ -48,12 +48,10 @@ impl<A: PathAlgebra, R: Threads + Wait + Sync, T: Gate> BatchAnswers<'_, A, R, T
         };
         match answer_all(&batch, solver, out, &mut Unwatched) {
             Ok(()) => Ok(()),
-            Err(fault) => {
-                if fault.number == WRITE {
-                    return Err(WriteFault);
-                }
-                write_fault(out, fault.number, 0)
-            }
+            Err(cause) => match cause {
+                Cause::Write => Err(WriteFault),
+                _ => write_fault(out, cause.number(), 0),
+            },
         }
     }
 }

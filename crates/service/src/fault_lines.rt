@@ -24,7 +24,7 @@ pub(crate) fn write_fault<W: RoadWrite>(
     number: u8,
     line: u64,
 ) -> Result<(), WriteFault>
-    ensures { WritesText W.written W.failures out.old out.new (fault_text number line) result }
+    ensures { WritesText (W.seen out.old) (W.seen out.new) (fault_text number line) result }
 {
     let text = line_of_fault(number, line);
     write_bytes(out, text.as_str().as_bytes())
@@ -32,9 +32,8 @@ pub(crate) fn write_fault<W: RoadWrite>(
 
 /// Writes the line of a fault, and flushes the output.
 pub(crate) fn send_fault<W: RoadWrite>(out: &mut W, number: u8, line: u64) -> Result<(), WriteFault>
-    ensures wrote { WritesText W.written W.failures out.old out.new (fault_text number line)
-        result }
-    ensures passed_on { OnOk result (W.held out.new ≡ []) }
+    ensures wrote { WritesText (W.seen out.old) (W.seen out.new) (fault_text number line) result }
+    ensures passed_on { OnOk result ((W.seen out.new).held ≡ []) }
 {
     write_fault(out, number, line)?;
     out.flush()

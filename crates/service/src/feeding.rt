@@ -63,17 +63,17 @@ impl Service {
         out: &mut W,
     ) -> Result<(), WriteFault>
         requires { self.old.cutter.taker.questions.list.vertices ≡ (graph_of solver.old).vertices }
-        ensures ended { (at : ℕ) (line : List ℕ) → self.old.line ≡ held_line at → IsLine RequestSoFar self.old.cutter line →
-            LineEnded
-            (MayAnswerBy (A.meaning answers.now.algebra) answers.now.run.now.settings.now
+        ensures ended { (at : ℕ) (line : List ℕ) → self.old.line ≡ held_line at → IsLine
+            RequestSoFar self.old.cutter line → LineEnded (MayAnswerBy
+            (A.meaning answers.now.algebra) answers.now.run.now.settings.now
             (T.may_answer answers.now.run.now.gate.now) solver.old) at line self.old self.new
-            (W.written out.old) (W.written out.new) (W.failures out.old) (W.failures out.new) result }
+            (W.seen out.old) (W.seen out.new) result }
         ensures ready { IsPresent RequestSoFar self.new.cutter [] }
         ensures line { self.new.line ≡ min (self.old.line + 1) 18446744073709551615 }
         ensures vertices { self.new.cutter.taker.questions.list.vertices ≡
             self.old.cutter.taker.questions.list.vertices }
         ensures same { IsSameSolver solver.old solver.new }
-        ensures passed_on { OnOk result (W.held out.old ≡ [] → W.held out.new ≡ []) }
+        ensures passed_on { OnOk result ((W.seen out.old).held ≡ [] → (W.seen out.new).held ≡ []) }
     {
         let done = self.cutter.taker.line(self.cutter.scanner.fields());
         self.cutter.restart();
@@ -92,20 +92,20 @@ impl Service {
         out: &mut W,
     ) -> Result<(), Unfed>
         requires { self.old.cutter.taker.questions.list.vertices ≡ (graph_of solver.old).vertices }
-        ensures fed { OnOk result (Fed
-            (MayAnswerBy (A.meaning answers.now.algebra) answers.now.run.now.settings.now
-            (T.may_answer answers.now.run.now.gate.now) solver.old) self.old self.new bytes.now
-            (W.written out.old) (W.written out.new) (W.failures out.old) (W.failures out.new)) }
+        ensures fed { OnOk result (Fed (MayAnswerBy (A.meaning answers.now.algebra)
+            answers.now.run.now.settings.now (T.may_answer answers.now.run.now.gate.now) solver.old)
+            self.old self.new bytes.now (W.seen out.old) (W.seen out.new)) }
         ensures fell { result ≡ Err Unfed.Write → FedPart
             (MayAnswerBy (A.meaning answers.now.algebra) answers.now.run.now.settings.now
             (T.may_answer answers.now.run.now.gate.now) solver.old) self.old self.new bytes.now
-            (W.written out.old) (W.written out.new) (W.failures out.old) (W.failures out.new) }
+            (W.seen out.old) (W.seen out.new) }
         ensures long { result ≡ Err Unfed.TooLong → FedLong
             (MayAnswerBy (A.meaning answers.now.algebra) answers.now.run.now.settings.now
             (T.may_answer answers.now.run.now.gate.now) solver.old) self.old self.new bytes.now
-            (W.written out.old) (W.written out.new) (W.failures out.old) (W.failures out.new) }
+            (W.seen out.old) (W.seen out.new) }
         ensures same { IsSameSolver solver.old solver.new }
-        ensures passed_on { result ≢ Err Unfed.Write → W.held out.old ≡ [] → W.held out.new ≡ [] }
+        ensures passed_on { result ≢ Err Unfed.Write → (W.seen out.old).held ≡ [] →
+            (W.seen out.new).held ≡ [] }
         ensures vertices { self.new.cutter.taker.questions.list.vertices ≡
             self.old.cutter.taker.questions.list.vertices }
     {
@@ -137,16 +137,14 @@ impl Service {
         out: &mut W,
     ) -> Result<(), WriteFault>
         requires { self.old.cutter.taker.questions.list.vertices ≡ (graph_of solver.old).vertices }
-        ensures fed { OnOk result (LastFed
-            (MayAnswerBy (A.meaning answers.now.algebra) answers.now.run.now.settings.now
-            (T.may_answer answers.now.run.now.gate.now) solver.old) self.old self.new
-            (W.written out.old) (W.written out.new) (W.failures out.old) (W.failures out.new)) }
-        ensures fell { OnErr result (LastFedPart
-            (MayAnswerBy (A.meaning answers.now.algebra) answers.now.run.now.settings.now
-            (T.may_answer answers.now.run.now.gate.now) solver.old) self.old self.new
-            (W.written out.old) (W.written out.new) (W.failures out.old) (W.failures out.new)) }
+        ensures fed { OnOk result (LastFed (MayAnswerBy (A.meaning answers.now.algebra)
+            answers.now.run.now.settings.now (T.may_answer answers.now.run.now.gate.now) solver.old)
+            self.old self.new (W.seen out.old) (W.seen out.new)) }
+        ensures fell { OnErr result (LastFedPart (MayAnswerBy (A.meaning answers.now.algebra)
+            answers.now.run.now.settings.now (T.may_answer answers.now.run.now.gate.now) solver.old)
+            self.old self.new (W.seen out.old) (W.seen out.new)) }
         ensures same { IsSameSolver solver.old solver.new }
-        ensures passed_on { OnOk result (W.held out.old ≡ [] → W.held out.new ≡ []) }
+        ensures passed_on { OnOk result ((W.seen out.old).held ≡ [] → (W.seen out.new).held ≡ []) }
         ensures vertices { self.new.cutter.taker.questions.list.vertices ≡
             self.old.cutter.taker.questions.list.vertices }
     {
@@ -163,12 +161,11 @@ impl Service {
         _solver: &Solver<A>,
         out: &mut W,
     ) -> Result<(), WriteFault>
-        ensures replied { (at : ℕ) → self.now.line ≡ held_line at →
-            RepliedOrFell
-            (MayAnswerBy (A.meaning _answers.now.algebra) _answers.now.run.now.settings.now
-            (T.may_answer _answers.now.run.now.gate.now) _solver.now) (map (at_line at) (service_end (parser_state self.now.cutter.taker)))
-            (W.written out.old) (W.written out.new) (W.failures out.old) (W.failures out.new) result }
-        ensures passed_on { OnOk result (W.held out.old ≡ [] → W.held out.new ≡ []) }
+        ensures replied { (at : ℕ) → self.now.line ≡ held_line at → RepliedOrFell (MayAnswerBy
+            (A.meaning _answers.now.algebra) _answers.now.run.now.settings.now
+            (T.may_answer _answers.now.run.now.gate.now) _solver.now) (map (at_line at) (service_end
+            (parser_state self.now.cutter.taker))) (W.seen out.old) (W.seen out.new) result }
+        ensures passed_on { OnOk result ((W.seen out.old).held ≡ [] → (W.seen out.new).held ≡ []) }
     {
         if self.cutter.taker.is_open() {
             return send_fault(out, TOO_FEW.number, self.line);
@@ -184,16 +181,14 @@ impl Service {
         out: &mut W,
     ) -> Result<(), WriteFault>
         requires { self.cutter.taker.questions.list.vertices ≡ (graph_of solver.old).vertices }
-        ensures finished { OnOk result (Finished
-            (MayAnswerBy (A.meaning answers.now.algebra) answers.now.run.now.settings.now
-            (T.may_answer answers.now.run.now.gate.now) solver.old) self
-            (W.written out.old) (W.written out.new) (W.failures out.old) (W.failures out.new)) }
-        ensures fell { OnErr result (FinishedPart
-            (MayAnswerBy (A.meaning answers.now.algebra) answers.now.run.now.settings.now
-            (T.may_answer answers.now.run.now.gate.now) solver.old) self
-            (W.written out.old) (W.written out.new) (W.failures out.old) (W.failures out.new)) }
+        ensures finished { OnOk result (Finished (MayAnswerBy (A.meaning answers.now.algebra)
+            answers.now.run.now.settings.now (T.may_answer answers.now.run.now.gate.now) solver.old)
+            self (W.seen out.old) (W.seen out.new)) }
+        ensures fell { OnErr result (FinishedPart (MayAnswerBy (A.meaning answers.now.algebra)
+            answers.now.run.now.settings.now (T.may_answer answers.now.run.now.gate.now) solver.old)
+            self (W.seen out.old) (W.seen out.new)) }
         ensures same { IsSameSolver solver.old solver.new }
-        ensures passed_on { OnOk result (W.held out.old ≡ [] → W.held out.new ≡ []) }
+        ensures passed_on { OnOk result ((W.seen out.old).held ≡ [] → (W.seen out.new).held ≡ []) }
     {
         match self.end_lines(answers, solver, out) {
             Ok(()) => self.end_request(answers, solver, out),

@@ -26,11 +26,11 @@ fn send_answer<A: PathAlgebra, R: Threads + Wait + Sync, T: Gate, W: RoadWrite>(
     out: &mut W,
 ) -> Result<(), WriteFault>
     requires { AreQuestionsOf (graph_of solver.old).vertices questions.now }
-    ensures wrote { (text : List ℕ) × MayAnswerBy (A.meaning answers.now.algebra) answers.now.run.now.settings.now
-        (T.may_answer answers.now.run.now.gate.now) solver.old
-        (asked_of questions.now) text × WritesText W.written W.failures out.old out.new text result }
+    ensures wrote { (text : List ℕ) × MayAnswerBy (A.meaning answers.now.algebra)
+        answers.now.run.now.settings.now (T.may_answer answers.now.run.now.gate.now) solver.old
+        (asked_of questions.now) text × WritesText (W.seen out.old) (W.seen out.new) text result }
     ensures same { IsSameSolver solver.old solver.new }
-    ensures passed_on { OnOk result (W.held out.new ≡ []) }
+    ensures passed_on { OnOk result ((W.seen out.new).held ≡ []) }
 {
     answers.answer(solver, questions, out)?;
     out.flush()
@@ -55,13 +55,12 @@ fn send_end<A: PathAlgebra, R: Threads + Wait + Sync, T: Gate, W: RoadWrite>(
     out: &mut W,
 ) -> Result<(), WriteFault>
     requires { EndFits (graph_of solver.old).vertices ended }
-    ensures replied { (at : ℕ) → line ≡ held_line at →
-        RepliedOrFell
-        (MayAnswerBy (A.meaning answers.now.algebra) answers.now.run.now.settings.now
-        (T.may_answer answers.now.run.now.gate.now) solver.old) (map (at_line at) (ended_list ended))
-        (W.written out.old) (W.written out.new) (W.failures out.old) (W.failures out.new) result }
+    ensures replied { (at : ℕ) → line ≡ held_line at → RepliedOrFell (MayAnswerBy
+        (A.meaning answers.now.algebra) answers.now.run.now.settings.now
+        (T.may_answer answers.now.run.now.gate.now) solver.old) (map (at_line at)
+        (ended_list ended)) (W.seen out.old) (W.seen out.new) result }
     ensures same { IsSameSolver solver.old solver.new }
-    ensures passed_on { OnOk result (W.held out.old ≡ [] → W.held out.new ≡ []) }
+    ensures passed_on { OnOk result ((W.seen out.old).held ≡ [] → (W.seen out.new).held ≡ []) }
 {
     match ended {
         None => Ok(()),
@@ -79,13 +78,12 @@ pub(crate) fn send_done<A: PathAlgebra, R: Threads + Wait + Sync, T: Gate, W: Ro
     out: &mut W,
 ) -> Result<(), WriteFault>
     requires { EndFits (graph_of solver.old).vertices done.ended }
-    ensures replied { (at : ℕ) → line ≡ held_line at →
-        RepliedOrFell
-        (MayAnswerBy (A.meaning answers.now.algebra) answers.now.run.now.settings.now
+    ensures replied { (at : ℕ) → line ≡ held_line at → RepliedOrFell (MayAnswerBy
+        (A.meaning answers.now.algebra) answers.now.run.now.settings.now
         (T.may_answer answers.now.run.now.gate.now) solver.old) (map (at_line at) (ended_of done))
-        (W.written out.old) (W.written out.new) (W.failures out.old) (W.failures out.new) result }
+        (W.seen out.old) (W.seen out.new) result }
     ensures same { IsSameSolver solver.old solver.new }
-    ensures passed_on { OnOk result (W.held out.old ≡ [] → W.held out.new ≡ []) }
+    ensures passed_on { OnOk result ((W.seen out.old).held ≡ [] → (W.seen out.new).held ≡ []) }
 {
     if !done.early {
         return send_end(answers, solver, done.ended, line, out);

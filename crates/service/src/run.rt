@@ -4,7 +4,6 @@ ghost use Rattle.road_text.specs.Reads.{ReadsText};
 ghost use Rattle.graph_text.specs.GraphFiles.{gr_rules};
 ghost use Rattle.batch_run.specs.Choice.{without_diffusions};
 ghost use Rattle.batch_run.specs.Solvers.{graph_of, is_plain};
-ghost use Rattle.batch_run.specs.Runs.{input, output};
 ghost use Rattle.service.specs.Served.{RanService};
 
 use crate::batch_answers::BatchAnswers;
@@ -32,7 +31,7 @@ fn read_solver<A: PathAlgebra, G: RoadRead, R, T>(
     run: &Run<'_, R, T>,
     graph_in: &mut G,
 ) -> Result<Solver<A>, ReadFault>
-    ensures reads { ReadsText G.left G.failures G.asked graph_in.old graph_in.new gr_rules graph_of
+    ensures reads { ReadsText (G.seen graph_in.old) (G.seen graph_in.new) gr_rules graph_of
         10 19 result }
     ensures kind { IfOk result (λ s. is_plain s ≡ without_diffusions run.now.settings.now) }
 {
@@ -87,13 +86,8 @@ pub fn run_service<
     out: &mut W,
 ) -> Result<(), RunFault>
     ensures ran { RanService (A.meaning algebra) run.now.settings.now
-        (T.may_answer run.now.gate.now)
-        (input G.left G.failures G.asked graph_in.old)
-        (input G.left G.failures G.asked graph_in.new)
-        (input Q.left Q.failures Q.asked requests_in.old)
-        (input Q.left Q.failures Q.asked requests_in.new)
-        (output W.written W.held W.failures out.old)
-        (output W.written W.held W.failures out.new) result }
+        (T.may_answer run.now.gate.now) (G.seen graph_in.old) (G.seen graph_in.new)
+        (Q.seen requests_in.old) (Q.seen requests_in.new) (W.seen out.old) (W.seen out.new) result }
 {
     if !run.settings.suit(algebra) {
         return Err(fault_of_run(SETTINGS));

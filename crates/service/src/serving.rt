@@ -35,11 +35,11 @@ fn ask<I: RoadRead, W: RoadWrite>(
     _out: &W,
     buffer: &mut [u8],
 ) -> Result<usize, ReadFailed>
-    requires { W.held _out.now ≡ [] }
+    requires { (W.seen _out.now).held ≡ [] }
     ensures bound { IfOk result (λ n. n ≤ length buffer.new) }
-    ensures bytes { ReadConsumes (I.left input.old) (I.left input.new) result buffer.new }
-    ensures sound { OnOk result (I.failures input.new ≡ I.failures input.old) }
-    ensures failed { OnErr result (I.failures input.new ≡ I.failures input.old + 1) }
+    ensures bytes { ReadConsumes (I.seen input.old).left (I.seen input.new).left result buffer.new }
+    ensures sound { OnOk result ((I.seen input.new).failures ≡ (I.seen input.old).failures) }
+    ensures failed { OnErr result ((I.seen input.new).failures ≡ (I.seen input.old).failures + 1) }
 {
     input.read(buffer)
 }
@@ -52,27 +52,29 @@ pub(crate) fn serve<A: PathAlgebra, I: RoadRead, W: RoadWrite, R: Threads + Wait
     out: &mut W,
 ) -> Result<(), Stopped>
     requires kind { is_plain solver.old ≡ without_diffusions answers.now.run.now.settings.now }
-    ensures served { OnOk result (Served
-        (MayAnswer (A.meaning answers.now.algebra) answers.now.run.now.settings.now
-        (T.may_answer answers.now.run.now.gate.now) (graph_of solver.old)) (graph_of solver.old).vertices (I.left input.old)
-        (W.written out.old) (W.written out.new) (W.failures out.old) (W.failures out.new)) }
-    ensures read { result ≡ Err Stopped.Read → ServedSoFar
-        (MayAnswer (A.meaning answers.now.algebra) answers.now.run.now.settings.now
+    ensures served { OnOk result (Served (MayAnswer (A.meaning answers.now.algebra)
+        answers.now.run.now.settings.now (T.may_answer answers.now.run.now.gate.now)
+        (graph_of solver.old)) (graph_of solver.old).vertices (I.seen input.old).left
+        (W.seen out.old) (W.seen out.new)) }
+    ensures read { result ≡ Err Stopped.Read → ServedSoFar (MayAnswer
+        (A.meaning answers.now.algebra) answers.now.run.now.settings.now
         (T.may_answer answers.now.run.now.gate.now) (graph_of solver.old))
-        (graph_of solver.old).vertices (I.left input.old) (I.left input.new)
-        (W.written out.old) (W.written out.new) (W.failures out.old) (W.failures out.new) × (I.failures input.new ≡ I.failures input.old + 1) }
-    ensures write { result ≡ Err Stopped.Write → ServedPart
-        (MayAnswer (A.meaning answers.now.algebra) answers.now.run.now.settings.now
-        (T.may_answer answers.now.run.now.gate.now) (graph_of solver.old)) (graph_of solver.old).vertices (I.left input.old)
-        (W.written out.old) (W.written out.new) (W.failures out.old) (W.failures out.new) }
+        (graph_of solver.old).vertices (I.seen input.old).left (I.seen input.new).left
+        (W.seen out.old) (W.seen out.new) × ((I.seen input.new).failures ≡
+        (I.seen input.old).failures + 1) }
+    ensures write { result ≡ Err Stopped.Write → ServedPart (MayAnswer
+        (A.meaning answers.now.algebra) answers.now.run.now.settings.now
+        (T.may_answer answers.now.run.now.gate.now) (graph_of solver.old))
+        (graph_of solver.old).vertices (I.seen input.old).left (W.seen out.old) (W.seen out.new) }
     ensures long { result ≡ Err Stopped.TooLong → ServedToLimit
         (MayAnswer (A.meaning answers.now.algebra) answers.now.run.now.settings.now
         (T.may_answer answers.now.run.now.gate.now) (graph_of solver.old))
-        (graph_of solver.old).vertices (I.left input.old) (I.left input.new)
-        (W.written out.old) (W.written out.new) (W.failures out.old) (W.failures out.new) }
-    ensures passed_on { result ≢ Err Stopped.Write → W.held out.new ≡ [] }
-    ensures end { OnOk result (IsAtEnd (I.left input.new)) }
-    ensures sound { result ≢ Err Stopped.Read → I.failures input.new ≡ I.failures input.old }
+        (graph_of solver.old).vertices (I.seen input.old).left (I.seen input.new).left
+        (W.seen out.old) (W.seen out.new) }
+    ensures passed_on { result ≢ Err Stopped.Write → (W.seen out.new).held ≡ [] }
+    ensures end { OnOk result (IsAtEnd (I.seen input.new).left) }
+    ensures sound { result ≢ Err Stopped.Read → (I.seen input.new).failures ≡
+        (I.seen input.old).failures }
 {
     match out.flush() {
         Ok(()) => {}

@@ -13,8 +13,8 @@ returns-in-Ok-clause-replied g c = λ at e.
     let done : Result (Unit {0}) (Unit {0}) = Ok tt in
     let failed : Result (Unit {0}) (Unit {0}) = Err tt in
     rw (ended_early c.args.done c.if-not-done.false)
-    (replied_then texts (Err (fault_at at 19) ∷ []) (map (at_line at) (ended_list c.args.done.ended)) _ _ _ _ _ _ c.send_end-in-Ok.result
-    (replied_one texts (Err (fault_at at 19)) (fault_text 19 c.args.line) _ _ _ _ done (ap (fault_text 19) e) c.in-Ok.ensures.wrote) (c.send_end-in-Ok.ensures.replied at e))
+    (replied_then texts (Err (fault_at at 19) ∷ []) (map (at_line at) (ended_list c.args.done.ended)) _ _ _ c.send_end-in-Ok.result
+    (replied_one texts (Err (fault_at at 19)) (fault_text 19 c.args.line) _ _ done (ap (fault_text 19) e) c.in-Ok.ensures.wrote) (c.send_end-in-Ok.ensures.replied at e))
 
 pub returns-in-Err-clause-replied : goal.returns-in-Err-clause-replied
 returns-in-Err-clause-replied g c = λ at e.
@@ -22,5 +22,5 @@ returns-in-Err-clause-replied g c = λ at e.
     let done : Result (Unit {0}) (Unit {0}) = Ok tt in
     let failed : Result (Unit {0}) (Unit {0}) = Err tt in
     rw (ended_early c.args.done c.if-not-done.false)
-    (fell_before texts (Err (fault_at at 19) ∷ []) (map (at_line at) (ended_list c.args.done.ended)) _ _ _ _
-    (replied_one texts (Err (fault_at at 19)) (fault_text 19 c.args.line) _ _ _ _ failed (ap (fault_text 19) e) c.in-Err.ensures.wrote))
+    (fell_before texts (Err (fault_at at 19) ∷ []) (map (at_line at) (ended_list c.args.done.ended)) _ _
+    (replied_one texts (Err (fault_at at 19)) (fault_text 19 c.args.line) _ _ failed (ap (fault_text 19) e) c.in-Err.ensures.wrote))

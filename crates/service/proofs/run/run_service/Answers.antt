@@ -1,7 +1,6 @@
 use Rattle.std.proofs.Common.{◌≡◌, inl, inr, Result, Err, refl, arith, ap, ◌∙◌}
 use Rattle.graph_text.specs.GraphFiles.{gr_rules}
 use Rattle.batch_run.specs.Ran.{IsReadAs}
-use Rattle.batch_run.specs.Runs.{input, output}
 use Rattle.batch_run.specs.Solvers.{graph_of}
 use Rattle.service.specs.declared.serving.Stopped.{Stopped}
 use Rattle.service.specs.declared.serving.Stopped.TheVariants.{Read, Write, TooLong}
@@ -25,24 +24,24 @@ long_no_read r p e = cc
 pub returns-in-Err : goal.returns-in-Err
 returns-in-Err g c = record {
   ran = rw c.fault_in.ensures (graph_failed (g.A.PathAlgebra.meaning c.args.algebra) c.args.run.now.settings.now (g.T.Gate.may_answer c.args.run.now.gate.now)
-      (input g.G.RoadRead.left g.G.RoadRead.failures g.G.RoadRead.asked c.args.graph_in.now)
-      (input g.G.RoadRead.left g.G.RoadRead.failures g.G.RoadRead.asked c.read_solver.new.graph_in)
-      (input g.Q.RoadRead.left g.Q.RoadRead.failures g.Q.RoadRead.asked c.args.requests_in.now) (output g.W.RoadWrite.written g.W.RoadWrite.held g.W.RoadWrite.failures c.args.out.now)
-      c.in-Err.fault (c.suit.ensures.in_range c.if-not-suit.false) c.in-Err.ensures.reads.fault c.in-Err.ensures.reads.told c.in-Err.ensures.reads.untold c.in-Err.ensures.reads.placed
+      (g.G.RoadRead.seen c.args.graph_in.now)
+      (g.G.RoadRead.seen c.read_solver.new.graph_in)
+      (g.Q.RoadRead.seen c.args.requests_in.now) (g.W.RoadWrite.seen c.args.out.now)
+      c.in-Err.fault (c.suit.ensures.in_range c.if-not-suit.false) c.in-Err.ensures.reads.fault c.in-Err.ensures.reads.before_memory c.in-Err.ensures.reads.told c.in-Err.ensures.reads.untold c.in-Err.ensures.reads.placed
       c.in-Err.ensures.reads.numbered c.read_solver.ensures.reads.asked);
 }
 
 pub returns-in-Err-Read : goal.returns-in-Err-Read
 returns-in-Err-Read g c =
     let is : c.serve.result ≡ Err Read = c.in-Err-Read.is ∙ ap (λ (s : Stopped). Err s) c.in-Err-Read.field-0-is in
-    let read : IsReadAs gr_rules (g.G.RoadRead.left c.args.graph_in.now) (graph_of c.in-Ok.solver) = record { told = c.in-Ok.ensures.reads.value; some_text = c.in-Ok.ensures.reads.some_text } in
+    let read : IsReadAs gr_rules (g.G.RoadRead.seen c.args.graph_in.now).left (graph_of c.in-Ok.solver) = record { told = c.in-Ok.ensures.reads.value; some_text = c.in-Ok.ensures.reads.some_text } in
     record {
       ran = rw c.fault_of_requests.ensures (stopped (g.A.PathAlgebra.meaning c.args.algebra) c.args.run.now.settings.now (g.T.Gate.may_answer c.args.run.now.gate.now)
-          (input g.G.RoadRead.left g.G.RoadRead.failures g.G.RoadRead.asked c.args.graph_in.now)
-          (input g.G.RoadRead.left g.G.RoadRead.failures g.G.RoadRead.asked c.read_solver.new.graph_in)
-          (input g.Q.RoadRead.left g.Q.RoadRead.failures g.Q.RoadRead.asked c.args.requests_in.now)
-          (input g.Q.RoadRead.left g.Q.RoadRead.failures g.Q.RoadRead.asked c.serve.new.input)
-          (output g.W.RoadWrite.written g.W.RoadWrite.held g.W.RoadWrite.failures c.args.out.now) (output g.W.RoadWrite.written g.W.RoadWrite.held g.W.RoadWrite.failures c.serve.new.out)
+          (g.G.RoadRead.seen c.args.graph_in.now)
+          (g.G.RoadRead.seen c.read_solver.new.graph_in)
+          (g.Q.RoadRead.seen c.args.requests_in.now)
+          (g.Q.RoadRead.seen c.serve.new.input)
+          (g.W.RoadWrite.seen c.args.out.now) (g.W.RoadWrite.seen c.serve.new.out)
           (c.suit.ensures.in_range c.if-not-suit.false) (graph_of c.in-Ok.solver) read c.in-Ok.ensures.reads.sound c.in-Ok.ensures.reads.end c.read_solver.ensures.reads.asked
           1 (inl refl) (λ one. (c.serve.ensures.read is).0) (λ two. absurd (omega (arith, two)))
           (c.serve.ensures.passed_on (read_no_write c.serve.result is)) (λ one. λ same. omega (arith, same, (c.serve.ensures.read is).1), λ lost. refl));
@@ -51,14 +50,14 @@ returns-in-Err-Read g c =
 pub returns-in-Err-TooLong : goal.returns-in-Err-TooLong
 returns-in-Err-TooLong g c =
     let is : c.serve.result ≡ Err TooLong = c.in-Err-TooLong.is ∙ ap (λ (s : Stopped). Err s) c.in-Err-TooLong.field-0-is in
-    let read : IsReadAs gr_rules (g.G.RoadRead.left c.args.graph_in.now) (graph_of c.in-Ok.solver) = record { told = c.in-Ok.ensures.reads.value; some_text = c.in-Ok.ensures.reads.some_text } in
+    let read : IsReadAs gr_rules (g.G.RoadRead.seen c.args.graph_in.now).left (graph_of c.in-Ok.solver) = record { told = c.in-Ok.ensures.reads.value; some_text = c.in-Ok.ensures.reads.some_text } in
     record {
       ran = rw c.fault_of_requests-in-Err-TooLong.ensures (stopped (g.A.PathAlgebra.meaning c.args.algebra) c.args.run.now.settings.now (g.T.Gate.may_answer c.args.run.now.gate.now)
-          (input g.G.RoadRead.left g.G.RoadRead.failures g.G.RoadRead.asked c.args.graph_in.now)
-          (input g.G.RoadRead.left g.G.RoadRead.failures g.G.RoadRead.asked c.read_solver.new.graph_in)
-          (input g.Q.RoadRead.left g.Q.RoadRead.failures g.Q.RoadRead.asked c.args.requests_in.now)
-          (input g.Q.RoadRead.left g.Q.RoadRead.failures g.Q.RoadRead.asked c.serve.new.input)
-          (output g.W.RoadWrite.written g.W.RoadWrite.held g.W.RoadWrite.failures c.args.out.now) (output g.W.RoadWrite.written g.W.RoadWrite.held g.W.RoadWrite.failures c.serve.new.out)
+          (g.G.RoadRead.seen c.args.graph_in.now)
+          (g.G.RoadRead.seen c.read_solver.new.graph_in)
+          (g.Q.RoadRead.seen c.args.requests_in.now)
+          (g.Q.RoadRead.seen c.serve.new.input)
+          (g.W.RoadWrite.seen c.args.out.now) (g.W.RoadWrite.seen c.serve.new.out)
           (c.suit.ensures.in_range c.if-not-suit.false) (graph_of c.in-Ok.solver) read c.in-Ok.ensures.reads.sound c.in-Ok.ensures.reads.end c.read_solver.ensures.reads.asked
           2 (inr refl) (λ one. absurd (omega (arith, one))) (λ two. c.serve.ensures.long is)
           (c.serve.ensures.passed_on (long_no_write c.serve.result is)) (λ one. absurd (omega (arith, one)), λ lost. absurd (lost (c.serve.ensures.sound (long_no_read c.serve.result is)))));
@@ -67,12 +66,12 @@ returns-in-Err-TooLong g c =
 pub returns : goal.returns
 returns g c =
     let stopped : c.serve.result ≡ Err Write = c.in-Err-Write.is ∙ ap (λ (s : Stopped). Err s) c.in-Err-Write.field-0-is in
-    let read : IsReadAs gr_rules (g.G.RoadRead.left c.args.graph_in.now) (graph_of c.in-Ok.solver) = record { told = c.in-Ok.ensures.reads.value; some_text = c.in-Ok.ensures.reads.some_text } in
+    let read : IsReadAs gr_rules (g.G.RoadRead.seen c.args.graph_in.now).left (graph_of c.in-Ok.solver) = record { told = c.in-Ok.ensures.reads.value; some_text = c.in-Ok.ensures.reads.some_text } in
     record {
       ran = rw c.fault_of_run-in-Err-Write.ensures (fell (g.A.PathAlgebra.meaning c.args.algebra) c.args.run.now.settings.now (g.T.Gate.may_answer c.args.run.now.gate.now)
-          (input g.G.RoadRead.left g.G.RoadRead.failures g.G.RoadRead.asked c.args.graph_in.now) (input g.G.RoadRead.left g.G.RoadRead.failures g.G.RoadRead.asked c.read_solver.new.graph_in)
-          (input g.Q.RoadRead.left g.Q.RoadRead.failures g.Q.RoadRead.asked c.args.requests_in.now) (input g.Q.RoadRead.left g.Q.RoadRead.failures g.Q.RoadRead.asked c.serve.new.input)
-          (output g.W.RoadWrite.written g.W.RoadWrite.held g.W.RoadWrite.failures c.args.out.now) (output g.W.RoadWrite.written g.W.RoadWrite.held g.W.RoadWrite.failures c.serve.new.out)
+          (g.G.RoadRead.seen c.args.graph_in.now) (g.G.RoadRead.seen c.read_solver.new.graph_in)
+          (g.Q.RoadRead.seen c.args.requests_in.now) (g.Q.RoadRead.seen c.serve.new.input)
+          (g.W.RoadWrite.seen c.args.out.now) (g.W.RoadWrite.seen c.serve.new.out)
           (c.suit.ensures.in_range c.if-not-suit.false) (graph_of c.in-Ok.solver) read c.in-Ok.ensures.reads.sound c.in-Ok.ensures.reads.end c.read_solver.ensures.reads.asked
           (c.serve.ensures.write stopped) (c.serve.ensures.sound (no_read c.serve.result stopped)));
     }

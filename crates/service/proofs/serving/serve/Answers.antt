@@ -12,26 +12,24 @@ use Rattle.service.proofs.serving.serve.Goals as goal
 pub returns-in-Ok-finish-clause-served : goal.returns-in-Ok-finish-clause-served
 returns-in-Ok-finish-clause-served g c =
     let buffer : List ℕ = c.ask.new.buffer in
-    let nothing : Consumes (g.I.RoadRead.left c.loop.input) (g.I.RoadRead.left c.ask.new.input) [] =
-    subst (λ k. Consumes (g.I.RoadRead.left c.loop.input) (g.I.RoadRead.left c.ask.new.input) (take k buffer)) c.in-Ok-eq0.field-0-test c.in-Ok-eq0.ensures.bytes.0 in
+    let nothing : Consumes (g.I.RoadRead.seen c.loop.input).left (g.I.RoadRead.seen c.ask.new.input).left [] =
+    subst (λ k. Consumes (g.I.RoadRead.seen c.loop.input).left (g.I.RoadRead.seen c.ask.new.input).left (take k buffer)) c.in-Ok-eq0.field-0-test c.in-Ok-eq0.ensures.bytes.0 in
     let room : 0 < length buffer = search rules in
-    served_all (MayAnswer (g.A.PathAlgebra.meaning c.args.answers.now.algebra) c.args.answers.now.run.now.settings.now (g.T.Gate.may_answer c.args.answers.now.run.now.gate.now) (graph_of c.args.solver.now)) c.loop.service (graph_of c.args.solver.now).vertices (g.I.RoadRead.left c.args.input.now)
-    (g.I.RoadRead.left c.loop.input) (g.I.RoadRead.left c.ask.new.input)
-    (g.W.RoadWrite.written c.args.out.now) (g.W.RoadWrite.written c.flush.new.self) (g.W.RoadWrite.written c.loop.out) (g.W.RoadWrite.written c.finish.new.out)
-    (g.W.RoadWrite.failures c.args.out.now) (g.W.RoadWrite.failures c.flush.new.self) (g.W.RoadWrite.failures c.loop.out) (g.W.RoadWrite.failures c.finish.new.out)
+    served_all (MayAnswer (g.A.PathAlgebra.meaning c.args.answers.now.algebra) c.args.answers.now.run.now.settings.now (g.T.Gate.may_answer c.args.answers.now.run.now.gate.now) (graph_of c.args.solver.now)) c.loop.service (graph_of c.args.solver.now).vertices (g.I.RoadRead.seen c.args.input.now).left
+    (g.I.RoadRead.seen c.loop.input).left (g.I.RoadRead.seen c.ask.new.input).left
+    (g.W.RoadWrite.seen c.args.out.now) (g.W.RoadWrite.seen c.flush.new.self) (g.W.RoadWrite.seen c.loop.out) (g.W.RoadWrite.seen c.finish.new.out)
     c.loop.invariant.vertices c.loop.invariant.served nothing (c.in-Ok-eq0.ensures.bytes.1 c.in-Ok-eq0.field-0-test room) c.flush.ensures.bytes c.in-Ok.ensures.sound (stays_own (g.A.PathAlgebra.meaning c.args.answers.now.algebra) c.args.answers.now.run.now.settings.now (g.T.Gate.may_answer c.args.answers.now.run.now.gate.now) c.args.solver.now c.loop.solver c.loop.invariant.same c.requires.kind
-    (λ (may : Asked → List ℕ → Type 0). Finished may c.loop.service (g.W.RoadWrite.written c.loop.out) (g.W.RoadWrite.written c.finish.new.out) (g.W.RoadWrite.failures c.loop.out) (g.W.RoadWrite.failures c.finish.new.out)) c.in-Ok-finish.ensures.finished)
+    (λ (may : Asked → List ℕ → Type 0). Finished may c.loop.service (g.W.RoadWrite.seen c.loop.out) (g.W.RoadWrite.seen c.finish.new.out)) c.in-Ok-finish.ensures.finished)
 
 pub loop-preserved : goal.loop-preserved
 loop-preserved g c = record {
   can = tt;
   finite = tt;
   served = served_more (MayAnswer (g.A.PathAlgebra.meaning c.args.answers.now.algebra) c.args.answers.now.run.now.settings.now (g.T.Gate.may_answer c.args.answers.now.run.now.gate.now) (graph_of c.args.solver.now)) c.loop.service c.feed.new.self (take c.in-Ok-ask.n c.ask.new.buffer)
-      (g.I.RoadRead.left c.args.input.now) (g.I.RoadRead.left c.loop.input) (g.I.RoadRead.left c.ask.new.input)
-      (g.W.RoadWrite.written c.flush.new.self) (g.W.RoadWrite.written c.loop.out) (g.W.RoadWrite.written c.feed.new.out) (g.W.RoadWrite.failures c.flush.new.self)
-      (g.W.RoadWrite.failures c.loop.out) (g.W.RoadWrite.failures c.feed.new.out)
+      (g.I.RoadRead.seen c.args.input.now).left (g.I.RoadRead.seen c.loop.input).left (g.I.RoadRead.seen c.ask.new.input).left
+      (g.W.RoadWrite.seen c.flush.new.self) (g.W.RoadWrite.seen c.loop.out) (g.W.RoadWrite.seen c.feed.new.out)
       c.loop.invariant.served c.in-Ok-ask.ensures.bytes.0 (stays_own (g.A.PathAlgebra.meaning c.args.answers.now.algebra) c.args.answers.now.run.now.settings.now (g.T.Gate.may_answer c.args.answers.now.run.now.gate.now) c.args.solver.now c.loop.solver c.loop.invariant.same c.requires.kind
-      (λ (may : Asked → List ℕ → Type 0). Fed may c.loop.service c.feed.new.self (take c.in-Ok-ask.n c.ask.new.buffer) (g.W.RoadWrite.written c.loop.out) (g.W.RoadWrite.written c.feed.new.out) (g.W.RoadWrite.failures c.loop.out) (g.W.RoadWrite.failures c.feed.new.out)) c.in-Ok-feed.ensures.fed);
+      (λ (may : Asked → List ℕ → Type 0). Fed may c.loop.service c.feed.new.self (take c.in-Ok-ask.n c.ask.new.buffer) (g.W.RoadWrite.seen c.loop.out) (g.W.RoadWrite.seen c.feed.new.out)) c.in-Ok-feed.ensures.fed);
   held = c.in-Ok-feed.ensures.passed_on (λ e. cc) c.loop.invariant.held;
   vertices = c.feed.ensures.vertices ∙ c.loop.invariant.vertices;
   same = record { graph = c.feed.ensures.same.graph ∙ c.loop.invariant.same.graph; kind = c.feed.ensures.same.kind ∙ c.loop.invariant.same.kind };
@@ -39,46 +37,41 @@ loop-preserved g c = record {
 }
 
 pub returns-in-Err-clause-write : goal.returns-in-Err-clause-write
-returns-in-Err-clause-write g c = λ is. flush_fell (MayAnswer (g.A.PathAlgebra.meaning c.args.answers.now.algebra) c.args.answers.now.run.now.settings.now (g.T.Gate.may_answer c.args.answers.now.run.now.gate.now) (graph_of c.args.solver.now)) (graph_of c.args.solver.now).vertices (g.I.RoadRead.left c.args.input.now)
-    (g.W.RoadWrite.written c.args.out.now) (g.W.RoadWrite.written c.flush.new.self) (g.W.RoadWrite.failures c.args.out.now)
-    (g.W.RoadWrite.failures c.flush.new.self) c.flush.ensures.bytes c.in-Err.ensures.failed
+returns-in-Err-clause-write g c = λ is. flush_fell (MayAnswer (g.A.PathAlgebra.meaning c.args.answers.now.algebra) c.args.answers.now.run.now.settings.now (g.T.Gate.may_answer c.args.answers.now.run.now.gate.now) (graph_of c.args.solver.now)) (graph_of c.args.solver.now).vertices (g.I.RoadRead.seen c.args.input.now).left
+    (g.W.RoadWrite.seen c.args.out.now) (g.W.RoadWrite.seen c.flush.new.self) c.flush.ensures.bytes c.in-Err.ensures.failed
 
 pub returns-in-Err-ask-clause-read : goal.returns-in-Err-ask-clause-read
 returns-in-Err-ask-clause-read g c = λ is. (
-  read_failed (MayAnswer (g.A.PathAlgebra.meaning c.args.answers.now.algebra) c.args.answers.now.run.now.settings.now (g.T.Gate.may_answer c.args.answers.now.run.now.gate.now) (graph_of c.args.solver.now)) c.loop.service (graph_of c.args.solver.now).vertices (g.I.RoadRead.left c.args.input.now)
-      (g.I.RoadRead.left c.loop.input) (g.I.RoadRead.left c.ask.new.input)
-      (g.W.RoadWrite.written c.args.out.now) (g.W.RoadWrite.written c.flush.new.self) (g.W.RoadWrite.written c.loop.out) (g.W.RoadWrite.written c.loop.out)
-      (g.W.RoadWrite.failures c.args.out.now) (g.W.RoadWrite.failures c.flush.new.self) (g.W.RoadWrite.failures c.loop.out) (g.W.RoadWrite.failures c.loop.out)
+  read_failed (MayAnswer (g.A.PathAlgebra.meaning c.args.answers.now.algebra) c.args.answers.now.run.now.settings.now (g.T.Gate.may_answer c.args.answers.now.run.now.gate.now) (graph_of c.args.solver.now)) c.loop.service (graph_of c.args.solver.now).vertices (g.I.RoadRead.seen c.args.input.now).left
+      (g.I.RoadRead.seen c.loop.input).left (g.I.RoadRead.seen c.ask.new.input).left
+      (g.W.RoadWrite.seen c.args.out.now) (g.W.RoadWrite.seen c.flush.new.self) (g.W.RoadWrite.seen c.loop.out) (g.W.RoadWrite.seen c.loop.out)
       c.loop.invariant.vertices c.loop.invariant.served c.flush.ensures.bytes c.in-Ok.ensures.sound c.in-Err-ask.ensures.bytes,
   c.in-Err-ask.ensures.failed ∙ ap (λ k. k + 1) c.loop.invariant.sound,
 )
 
 pub returns-in-Err-finish-clause-write : goal.returns-in-Err-finish-clause-write
-returns-in-Err-finish-clause-write g c = λ is. end_fell (MayAnswer (g.A.PathAlgebra.meaning c.args.answers.now.algebra) c.args.answers.now.run.now.settings.now (g.T.Gate.may_answer c.args.answers.now.run.now.gate.now) (graph_of c.args.solver.now)) c.loop.service (graph_of c.args.solver.now).vertices (g.I.RoadRead.left c.args.input.now)
-    (g.I.RoadRead.left c.loop.input) (g.I.RoadRead.left c.loop.input)
-    (g.W.RoadWrite.written c.args.out.now) (g.W.RoadWrite.written c.flush.new.self) (g.W.RoadWrite.written c.loop.out) (g.W.RoadWrite.written c.finish.new.out)
-    (g.W.RoadWrite.failures c.args.out.now) (g.W.RoadWrite.failures c.flush.new.self) (g.W.RoadWrite.failures c.loop.out) (g.W.RoadWrite.failures c.finish.new.out)
+returns-in-Err-finish-clause-write g c = λ is. end_fell (MayAnswer (g.A.PathAlgebra.meaning c.args.answers.now.algebra) c.args.answers.now.run.now.settings.now (g.T.Gate.may_answer c.args.answers.now.run.now.gate.now) (graph_of c.args.solver.now)) c.loop.service (graph_of c.args.solver.now).vertices (g.I.RoadRead.seen c.args.input.now).left
+    (g.I.RoadRead.seen c.loop.input).left (g.I.RoadRead.seen c.loop.input).left
+    (g.W.RoadWrite.seen c.args.out.now) (g.W.RoadWrite.seen c.flush.new.self) (g.W.RoadWrite.seen c.loop.out) (g.W.RoadWrite.seen c.finish.new.out)
     c.loop.invariant.vertices c.loop.invariant.served c.flush.ensures.bytes c.in-Ok.ensures.sound (stays_own (g.A.PathAlgebra.meaning c.args.answers.now.algebra) c.args.answers.now.run.now.settings.now (g.T.Gate.may_answer c.args.answers.now.run.now.gate.now) c.args.solver.now c.loop.solver c.loop.invariant.same c.requires.kind
-    (λ (may : Asked → List ℕ → Type 0). FinishedPart may c.loop.service (g.W.RoadWrite.written c.loop.out) (g.W.RoadWrite.written c.finish.new.out) (g.W.RoadWrite.failures c.loop.out) (g.W.RoadWrite.failures c.finish.new.out)) c.in-Err-finish.ensures.fell)
+    (λ (may : Asked → List ℕ → Type 0). FinishedPart may c.loop.service (g.W.RoadWrite.seen c.loop.out) (g.W.RoadWrite.seen c.finish.new.out)) c.in-Err-finish.ensures.fell)
 
 pub returns-in-Err-Write-clause-write : goal.returns-in-Err-Write-clause-write
 returns-in-Err-Write-clause-write g c = λ is.
-    feed_fell (MayAnswer (g.A.PathAlgebra.meaning c.args.answers.now.algebra) c.args.answers.now.run.now.settings.now (g.T.Gate.may_answer c.args.answers.now.run.now.gate.now) (graph_of c.args.solver.now)) c.loop.service (graph_of c.args.solver.now).vertices (g.I.RoadRead.left c.args.input.now)
-    (g.I.RoadRead.left c.loop.input) (g.I.RoadRead.left c.ask.new.input)
-    (g.W.RoadWrite.written c.args.out.now) (g.W.RoadWrite.written c.flush.new.self) (g.W.RoadWrite.written c.loop.out) (g.W.RoadWrite.written c.feed.new.out)
-    (g.W.RoadWrite.failures c.args.out.now) (g.W.RoadWrite.failures c.flush.new.self) (g.W.RoadWrite.failures c.loop.out) (g.W.RoadWrite.failures c.feed.new.out)
+    feed_fell (MayAnswer (g.A.PathAlgebra.meaning c.args.answers.now.algebra) c.args.answers.now.run.now.settings.now (g.T.Gate.may_answer c.args.answers.now.run.now.gate.now) (graph_of c.args.solver.now)) c.loop.service (graph_of c.args.solver.now).vertices (g.I.RoadRead.seen c.args.input.now).left
+    (g.I.RoadRead.seen c.loop.input).left (g.I.RoadRead.seen c.ask.new.input).left
+    (g.W.RoadWrite.seen c.args.out.now) (g.W.RoadWrite.seen c.flush.new.self) (g.W.RoadWrite.seen c.loop.out) (g.W.RoadWrite.seen c.feed.new.out)
     c.loop.invariant.vertices c.loop.invariant.served c.flush.ensures.bytes c.in-Ok.ensures.sound
     c.feed.new.self (take c.in-Ok-ask.n c.ask.new.buffer) (c.feed.ensures.vertices ∙ c.loop.invariant.vertices) c.in-Ok-ask.ensures.bytes.0
     (stays_own (g.A.PathAlgebra.meaning c.args.answers.now.algebra) c.args.answers.now.run.now.settings.now (g.T.Gate.may_answer c.args.answers.now.run.now.gate.now) c.args.solver.now c.loop.solver c.loop.invariant.same c.requires.kind
-    (λ (may : Asked → List ℕ → Type 0). FedPart may c.loop.service c.feed.new.self (take c.in-Ok-ask.n c.ask.new.buffer) (g.W.RoadWrite.written c.loop.out) (g.W.RoadWrite.written c.feed.new.out) (g.W.RoadWrite.failures c.loop.out) (g.W.RoadWrite.failures c.feed.new.out)) (c.feed.ensures.fell (c.in-Err-Write.is ∙ ap (λ (e : Unfed). Err e) c.in-Err-Write.field-0-is)))
+    (λ (may : Asked → List ℕ → Type 0). FedPart may c.loop.service c.feed.new.self (take c.in-Ok-ask.n c.ask.new.buffer) (g.W.RoadWrite.seen c.loop.out) (g.W.RoadWrite.seen c.feed.new.out)) (c.feed.ensures.fell (c.in-Err-Write.is ∙ ap (λ (e : Unfed). Err e) c.in-Err-Write.field-0-is)))
 
 pub returns-in-Err-TooLong-clause-long : goal.returns-in-Err-TooLong-clause-long
 returns-in-Err-TooLong-clause-long g c = λ is.
-    feed_long (MayAnswer (g.A.PathAlgebra.meaning c.args.answers.now.algebra) c.args.answers.now.run.now.settings.now (g.T.Gate.may_answer c.args.answers.now.run.now.gate.now) (graph_of c.args.solver.now)) c.loop.service (graph_of c.args.solver.now).vertices (g.I.RoadRead.left c.args.input.now)
-    (g.I.RoadRead.left c.loop.input) (g.I.RoadRead.left c.ask.new.input)
-    (g.W.RoadWrite.written c.args.out.now) (g.W.RoadWrite.written c.flush.new.self) (g.W.RoadWrite.written c.loop.out) (g.W.RoadWrite.written c.feed.new.out)
-    (g.W.RoadWrite.failures c.args.out.now) (g.W.RoadWrite.failures c.flush.new.self) (g.W.RoadWrite.failures c.loop.out) (g.W.RoadWrite.failures c.feed.new.out)
+    feed_long (MayAnswer (g.A.PathAlgebra.meaning c.args.answers.now.algebra) c.args.answers.now.run.now.settings.now (g.T.Gate.may_answer c.args.answers.now.run.now.gate.now) (graph_of c.args.solver.now)) c.loop.service (graph_of c.args.solver.now).vertices (g.I.RoadRead.seen c.args.input.now).left
+    (g.I.RoadRead.seen c.loop.input).left (g.I.RoadRead.seen c.ask.new.input).left
+    (g.W.RoadWrite.seen c.args.out.now) (g.W.RoadWrite.seen c.flush.new.self) (g.W.RoadWrite.seen c.loop.out) (g.W.RoadWrite.seen c.feed.new.out)
     c.loop.invariant.vertices c.loop.invariant.served c.flush.ensures.bytes c.in-Ok.ensures.sound
     c.feed.new.self (take c.in-Ok-ask.n c.ask.new.buffer) (c.feed.ensures.vertices ∙ c.loop.invariant.vertices) c.in-Ok-ask.ensures.bytes.0
     (stays_own (g.A.PathAlgebra.meaning c.args.answers.now.algebra) c.args.answers.now.run.now.settings.now (g.T.Gate.may_answer c.args.answers.now.run.now.gate.now) c.args.solver.now c.loop.solver c.loop.invariant.same c.requires.kind
-    (λ (may : Asked → List ℕ → Type 0). FedLong may c.loop.service c.feed.new.self (take c.in-Ok-ask.n c.ask.new.buffer) (g.W.RoadWrite.written c.loop.out) (g.W.RoadWrite.written c.feed.new.out) (g.W.RoadWrite.failures c.loop.out) (g.W.RoadWrite.failures c.feed.new.out)) (c.feed.ensures.long (c.in-Err-TooLong.is ∙ ap (λ (e : Unfed). Err e) c.in-Err-TooLong.field-0-is)))
+    (λ (may : Asked → List ℕ → Type 0). FedLong may c.loop.service c.feed.new.self (take c.in-Ok-ask.n c.ask.new.buffer) (g.W.RoadWrite.seen c.loop.out) (g.W.RoadWrite.seen c.feed.new.out)) (c.feed.ensures.long (c.in-Err-TooLong.is ∙ ap (λ (e : Unfed). Err e) c.in-Err-TooLong.field-0-is)))

@@ -17,7 +17,7 @@ use Rattle.service.proofs.service.Service.feed.Goals as goal
 
 pub loop-at-init : goal.loop-at-init
 loop-at-init g c = record {
-  fed = fed_none (MayAnswerBy (g.A.PathAlgebra.meaning c.args.answers.now.algebra) c.args.answers.now.run.now.settings.now (g.T.Gate.may_answer c.args.answers.now.run.now.gate.now) c.args.solver.now) c.args.self.now (g.W.RoadWrite.written c.args.out.now) (g.W.RoadWrite.failures c.args.out.now);
+  fed = fed_none (MayAnswerBy (g.A.PathAlgebra.meaning c.args.answers.now.algebra) c.args.answers.now.run.now.settings.now (g.T.Gate.may_answer c.args.answers.now.run.now.gate.now) c.args.solver.now) c.args.self.now (g.W.RoadWrite.seen c.args.out.now);
   same = record { graph = refl; kind = refl };
   held = λ h. h;
   vertices = refl;
@@ -45,16 +45,13 @@ loop-at-preserved-in-Ok g c =
     } in
     let counted : c.loop-at.self.count + n ≡ c.loop-at.self.count + length (take n slice) = ap (λ k. c.loop-at.self.count + k) (sym (length-take-le n slice c.to_line_end-taken.ensures.bound)) in
     let cut : EndsLine RequestSoFar c.loop-at.self.cutter v.cutter (take n slice) = rw c.if-ended.true at c.to_line_end-taken.ensures.cut in
-    let further = fed_line texts c.args.self.now c.loop-at.self v c.end_line.new.self (take at xs) (take n slice) (g.W.RoadWrite.written c.args.out.now)
-    (g.W.RoadWrite.written c.loop-at.out) (g.W.RoadWrite.written c.end_line.new.out)
-    (g.W.RoadWrite.failures c.args.out.now) (g.W.RoadWrite.failures c.loop-at.out) (g.W.RoadWrite.failures c.end_line.new.out)
+    let further = fed_line texts c.args.self.now c.loop-at.self v c.end_line.new.self (take at xs) (take n slice) (g.W.RoadWrite.seen c.args.out.now) (g.W.RoadWrite.seen c.loop-at.out) (g.W.RoadWrite.seen c.end_line.new.out)
     kept.1 kept.0 refl c.end_line.ensures.vertices c.end_line.ensures.line c.end_line.ensures.ready counted c.loop-at.invariant.fed cut
     (stays (g.A.PathAlgebra.meaning c.args.answers.now.algebra) c.args.answers.now.run.now.settings.now (g.T.Gate.may_answer c.args.answers.now.run.now.gate.now) c.args.solver.now c.loop-at.solver c.loop-at.invariant.same
     (λ (may : Asked → List ℕ → Type 0). (a : ℕ) (line : List ℕ) → v.line ≡ held_line a → IsLine RequestSoFar v.cutter line → LineEnded may a line v c.end_line.new.self
-    (g.W.RoadWrite.written c.loop-at.out) (g.W.RoadWrite.written c.end_line.new.out) (g.W.RoadWrite.failures c.loop-at.out) (g.W.RoadWrite.failures c.end_line.new.out) ok) c.in-Ok.ensures.ended) in
+    (g.W.RoadWrite.seen c.loop-at.out) (g.W.RoadWrite.seen c.end_line.new.out) ok) c.in-Ok.ensures.ended) in
     record {
-      fed = subst (λ (x : List ℕ). Fed texts c.args.self.now c.end_line.new.self x (g.W.RoadWrite.written c.args.out.now) (g.W.RoadWrite.written c.end_line.new.out)
-          (g.W.RoadWrite.failures c.args.out.now) (g.W.RoadWrite.failures c.end_line.new.out)) (sym (next_prefix xs at n m c.to_line_end-taken.ensures.bound)) further;
+      fed = subst (λ (x : List ℕ). Fed texts c.args.self.now c.end_line.new.self x (g.W.RoadWrite.seen c.args.out.now) (g.W.RoadWrite.seen c.end_line.new.out)) (sym (next_prefix xs at n m c.to_line_end-taken.ensures.bound)) further;
       same = record { graph = c.end_line.ensures.same.graph ∙ c.loop-at.invariant.same.graph; kind = c.end_line.ensures.same.kind ∙ c.loop-at.invariant.same.kind };
       held = λ h. c.in-Ok.ensures.passed_on (c.loop-at.invariant.held h);
       vertices = c.end_line.ensures.vertices ∙ kept.1 ∙ c.loop-at.invariant.vertices;
@@ -82,14 +79,12 @@ returns-in-Err-clause-fell g c = λ is.
     } in
     let counted : c.loop-at.self.count + n ≡ c.loop-at.self.count + length (take n slice) = ap (λ k. c.loop-at.self.count + k) (sym (length-take-le n slice c.to_line_end-taken.ensures.bound)) in
     let cut : EndsLine RequestSoFar c.loop-at.self.cutter v.cutter (take n slice) = rw c.if-ended.true at c.to_line_end-taken.ensures.cut in
-    fed_part texts c.args.self.now c.loop-at.self v c.end_line.new.self xs (take at xs) (take n slice) (drop (at + n) xs) (g.W.RoadWrite.written c.args.out.now)
-    (g.W.RoadWrite.written c.loop-at.out) (g.W.RoadWrite.written c.end_line.new.out)
-    (g.W.RoadWrite.failures c.args.out.now) (g.W.RoadWrite.failures c.loop-at.out) (g.W.RoadWrite.failures c.end_line.new.out)
+    fed_part texts c.args.self.now c.loop-at.self v c.end_line.new.self xs (take at xs) (take n slice) (drop (at + n) xs) (g.W.RoadWrite.seen c.args.out.now) (g.W.RoadWrite.seen c.loop-at.out) (g.W.RoadWrite.seen c.end_line.new.out)
     kept.1 kept.0 refl c.end_line.ensures.vertices c.end_line.ensures.line c.end_line.ensures.ready counted
     (sym (take-append-drop (at + n) xs) ∙ ap (λ x. x ++ drop (at + n) xs) (next_prefix xs at n m c.to_line_end-taken.ensures.bound)) c.loop-at.invariant.fed cut
     (stays (g.A.PathAlgebra.meaning c.args.answers.now.algebra) c.args.answers.now.run.now.settings.now (g.T.Gate.may_answer c.args.answers.now.run.now.gate.now) c.args.solver.now c.loop-at.solver c.loop-at.invariant.same
     (λ (may : Asked → List ℕ → Type 0). (a : ℕ) (line : List ℕ) → v.line ≡ held_line a → IsLine RequestSoFar v.cutter line → LineEnded may a line v c.end_line.new.self
-    (g.W.RoadWrite.written c.loop-at.out) (g.W.RoadWrite.written c.end_line.new.out) (g.W.RoadWrite.failures c.loop-at.out) (g.W.RoadWrite.failures c.end_line.new.out) failed) c.in-Err.ensures.ended)
+    (g.W.RoadWrite.seen c.loop-at.out) (g.W.RoadWrite.seen c.end_line.new.out) failed) c.in-Err.ensures.ended)
 
 pub loop-at-preserved : goal.loop-at-preserved
 loop-at-preserved g c =
@@ -112,8 +107,7 @@ loop-at-preserved g c =
     let counted : c.loop-at.self.count + n ≡ c.loop-at.self.count + length (take n slice) = ap (λ k. c.loop-at.self.count + k) (sym (length-take-le n slice c.to_line_end-taken.ensures.bound)) in
     let stay : StaysInLine RequestSoFar c.loop-at.self.cutter v.cutter slice n = rw c.if-ended.false at c.to_line_end-taken.ensures.cut in
     record {
-      fed = fed_stay texts c.args.self.now c.loop-at.self _ (take (at + n) xs) (take at xs) slice n (g.W.RoadWrite.written c.args.out.now) (g.W.RoadWrite.written c.loop-at.out)
-          (g.W.RoadWrite.failures c.args.out.now) (g.W.RoadWrite.failures c.loop-at.out) kept.1 kept.0 refl (ap (λ k. c.loop-at.self.count + k) stay.all)
+      fed = fed_stay texts c.args.self.now c.loop-at.self _ (take (at + n) xs) (take at xs) slice n (g.W.RoadWrite.seen c.args.out.now) (g.W.RoadWrite.seen c.loop-at.out) kept.1 kept.0 refl (ap (λ k. c.loop-at.self.count + k) stay.all)
           (next_all xs at n m stay.all) c.loop-at.invariant.fed stay;
       same = c.loop-at.invariant.same;
       held = c.loop-at.invariant.held;
@@ -122,12 +116,11 @@ loop-at-preserved g c =
     }
 
 pub returns-clause-fed : goal.returns-clause-fed
-returns-clause-fed g c = subst (λ (x : List ℕ). Fed (MayAnswerBy (g.A.PathAlgebra.meaning c.args.answers.now.algebra) c.args.answers.now.run.now.settings.now (g.T.Gate.may_answer c.args.answers.now.run.now.gate.now) c.args.solver.now) c.args.self.now c.loop-at.self x (g.W.RoadWrite.written c.args.out.now)
-    (g.W.RoadWrite.written c.loop-at.out) (g.W.RoadWrite.failures c.args.out.now) (g.W.RoadWrite.failures c.loop-at.out))
+returns-clause-fed g c = subst (λ (x : List ℕ). Fed (MayAnswerBy (g.A.PathAlgebra.meaning c.args.answers.now.algebra) c.args.answers.now.run.now.settings.now (g.T.Gate.may_answer c.args.answers.now.run.now.gate.now) c.args.solver.now) c.args.self.now c.loop-at.self x (g.W.RoadWrite.seen c.args.out.now) (g.W.RoadWrite.seen c.loop-at.out))
     (take_all c.loop-at.at c.args.bytes.now c.loop-at-test.false) c.loop-at.invariant.fed
 
 pub returns-then-room-eq0-clause-long : goal.returns-then-room-eq0-clause-long
 returns-then-room-eq0-clause-long g c = λ is.
     fed_long (MayAnswerBy (g.A.PathAlgebra.meaning c.args.answers.now.algebra) c.args.answers.now.run.now.settings.now (g.T.Gate.may_answer c.args.answers.now.run.now.gate.now) c.args.solver.now) c.args.self.now c.loop-at.self c.args.bytes.now c.loop-at.at
-    (g.W.RoadWrite.written c.args.out.now) (g.W.RoadWrite.written c.loop-at.out) (g.W.RoadWrite.failures c.args.out.now) (g.W.RoadWrite.failures c.loop-at.out)
+    (g.W.RoadWrite.seen c.args.out.now) (g.W.RoadWrite.seen c.loop-at.out)
     c.loop-at-test.true (omega (arith, c.if-room-eq0.true, c.loop-at.self.few_bytes)) c.loop-at.invariant.fed

@@ -8,9 +8,9 @@ use Rattle.service.proofs.service.Service.feed.Given as goal
 abbrev pub invariant-loop-at : goal.invariant-loop-at
 invariant-loop-at g l = record {
   fed : Fed (MayAnswerBy (g.A.PathAlgebra.meaning l.answers.algebra) l.answers.run.now.settings.now (g.T.Gate.may_answer l.answers.run.now.gate.now) l.fn.solver) l.initial.self l.self
-      (take l.at l.bytes) (g.W.RoadWrite.written l.initial.out) (g.W.RoadWrite.written l.out) (g.W.RoadWrite.failures l.initial.out) (g.W.RoadWrite.failures l.out);
+      (take l.at l.bytes) (g.W.RoadWrite.seen l.initial.out) (g.W.RoadWrite.seen l.out);
   same : IsSameSolver l.fn.solver l.solver;
-  held : g.W.RoadWrite.held l.initial.out ≡ [] → g.W.RoadWrite.held l.out ≡ [];
+  held : (g.W.RoadWrite.seen l.initial.out).held ≡ [] → (g.W.RoadWrite.seen l.out).held ≡ [];
   vertices : l.self.cutter.taker.questions.list.vertices ≡ l.initial.self.cutter.taker.questions.list.vertices;
   within : l.at ≤ length l.bytes;
 }

@@ -1,6 +1,6 @@
 //! What the solver by factors keeps between two questions.
-ghost use Rattle.std.specs.Prelude.{◌≡◌, IfOk, IfSome, IsSome, OnOk, Some};
-ghost use Rattle.std.specs.Option.{ForSome};
+ghost use Rattle.std.specs.Prelude.{◌≡◌, ◌↔◌, IfOk, IfSome, IsSome, IsTrue, OnOk, Some};
+ghost use Rattle.std.specs.Option.{ForSome, IsSomeAnd};
 
 use crate::plain_solver::PlainSolver;
 use crate::solved::Solved;
@@ -18,26 +18,43 @@ pub(crate) struct Factored {
 }
 
 impl Factored {
-    /// The factors of a graph for what arcs cost; none if the graph is too dense or too heavy. `rows` is the same graph by head.
+    /// The factors of a graph for what arcs cost. `rows` is the same graph by head.
     pub(crate) fn of(
         alloc: Global,
         cost: Cost,
         graph: &OutGraph,
         rows: &InGraph,
-    ) -> Result<Option<Factored>, Memory>
+    ) -> Result<Factored, Unfactored>
         requires { rows.now ≡ graph.now }
-        ensures roads { IfOk result (λ o. IfSome o (λ f. f.factors.roads ≡ graph.now)) }
-        ensures cost { IfOk result (λ o. IfSome o (λ f. f.factors.algebra.cost ≡ cost)) }
+        ensures roads { IfOk result (λ f. f.factors.roads ≡ graph.now) }
+        ensures cost { IfOk result (λ f. f.factors.algebra.cost ≡ cost) }
     {
-        match RoadFactors::of(alloc, cost, graph, rows) {
-            Ok(factors) => {
-                let asker = factors.asker(alloc)?;
-                Ok(Some(Factored { factors, asker }))
-            }
-            Err(Unfactored::Memory) => Err(Memory),
-            Err(_) => Ok(None),
+        let factors = RoadFactors::of(alloc, cost, graph, rows)?;
+        match factors.asker(alloc) {
+            Ok(asker) => Ok(Factored { factors, asker }),
+            Err(Memory) => Err(Unfactored::Memory),
         }
     }
+}
+
+/// Why a graph is left to the plain solver.
+#[derive(Clone, Copy, Debug, PartialEq, Eq)]
+pub enum Refusal {
+    /// Its factors would have too many links.
+    Dense,
+    /// The sums of its costs, with hops, could pass 2^63.
+    Heavy,
+}
+
+/// What became of factoring a graph.
+#[derive(Clone, Copy, Debug, PartialEq, Eq)]
+pub enum Factoring {
+    /// It has not been tried.
+    Untried,
+    /// The graph is factored.
+    Made,
+    /// The graph is not factored.
+    Refused(Refusal),
 }
 
 /// Solves a pair by asking the factors of the graph, and another question by two sweeps over them. The graph is factored when the
@@ -47,8 +64,8 @@ pub struct FactorSolver<A: PathAlgebra> {
     pub(crate) plain: PlainSolver<A>,
     /// The factors, once they are made.
     pub(crate) factored: Option<Factored>,
-    /// For which costs the graph was too dense or too heavy.
-    pub(crate) refused: Option<Cost>,
+    /// For which costs the graph is not factored, and why.
+    pub(crate) refused: Option<(Cost, Refusal)>,
     /// What the factors solved last.
     pub(crate) last: Option<Solved<A::Value>>,
     ghost of_graph: { ForSome factored (λ f. f.factors.roads ≡ plain.graph) },
@@ -89,6 +106,27 @@ impl<A: PathAlgebra> FactorSolver<A> {
         }
     }
 
+    /// What became of factoring the graph.
+    pub fn factoring(&self) -> Factoring
+        ensures made { (result ≡ Factoring.Made) ↔ IsSome self.now.factored }
+    {
+        match (&self.factored, self.refused) {
+            (Some(_), _) => Factoring::Made,
+            (None, Some((_, why))) => Factoring::Refused(why),
+            (None, None) => Factoring::Untried,
+        }
+    }
+
+    /// Whether the graph is not factored for what arcs cost.
+    fn is_refused(&self, cost: Cost) -> bool
+        ensures { IsTrue result ↔ IsSomeAnd self.now.refused (λ r. r.0 ≡ cost) }
+    {
+        match self.refused {
+            Some((refused, _)) => refused == cost,
+            None => false,
+        }
+    }
+
     /// Factors the graph for what arcs cost, unless it is so already, or was refused. The only error is want of memory.
     pub(crate) fn factor(&mut self, alloc: Global, cost: Cost) -> Result<(), Memory>
         requires { IsSome self.old.plain.by_head }
@@ -104,15 +142,18 @@ impl<A: PathAlgebra> FactorSolver<A> {
             }
         }
         self.factored = None;
-        if self.refused == Some(cost) {
+        if self.is_refused(cost) {
             return Ok(());
         }
-        let Some(rows) = &self.plain.by_head else {
+        let plain = &self.plain;
+        let Some(rows) = &plain.by_head else {
             unreachable!()
         };
-        match Factored::of(alloc, cost, &self.plain.graph, rows)? {
-            Some(factored) => self.factored = Some(factored),
-            None => self.refused = Some(cost),
+        match Factored::of(alloc, cost, &plain.graph, rows) {
+            Ok(factored) => self.factored = Some(factored),
+            Err(Unfactored::Memory) => return Err(Memory),
+            Err(Unfactored::Dense) => self.refused = Some((cost, Refusal::Dense)),
+            Err(Unfactored::Heavy) => self.refused = Some((cost, Refusal::Heavy)),
         }
         Ok(())
     }

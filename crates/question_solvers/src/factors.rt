@@ -75,6 +75,29 @@ fn solve_by_factors<A: PathAlgebra, R>(
     }
 }
 
+/// Factors the graph for what arcs cost under an algebra, unless it is so already, or was refused. Without a cost there are no factors. The
+/// only error is want of memory.
+pub fn factor<A: PathAlgebra>(
+    alloc: Global,
+    algebra: A,
+    solver: &mut FactorSolver<A>,
+) -> Result<(), Memory>
+    ensures graph { solver.new.plain.graph ≡ solver.old.plain.graph }
+    ensures searched { solver.new.plain.searched ≡ solver.old.plain.searched }
+    ensures searcher { solver.new.plain.searcher ≡ solver.old.plain.searcher }
+    ensures rows { OnOk result (IsSome solver.old.plain.by_head → IsSome solver.new.plain.by_head) }
+    ensures made { OnOk result (IfSome solver.new.factored (λ f. IsSome solver.new.plain.by_head)) }
+    ensures carried { OnOk result (IfSome solver.new.factored (λ f.
+        IsCarried (A.meaning algebra) (cost_of f.factors.algebra.cost))) }
+{
+    let Some(cost) = algebra.cost() else {
+        solver.factored = None;
+        return Ok(());
+    };
+    make_rows(alloc, &mut solver.plain)?;
+    solver.factor(alloc, cost)
+}
+
 /// Before the first question: forgets what was solved, and factors the graph for what arcs cost.
 pub fn start_factors<A: PathAlgebra, R>(
     task: &Task<'_, A, R>,
@@ -85,13 +108,8 @@ pub fn start_factors<A: PathAlgebra, R>(
         (asked_of task.now.questions.now) solver.new) }
 {
     solver.last = None;
-    let Some(cost) = task.algebra.cost() else {
-        solver.factored = None;
-        return start_plain(task, &mut solver.plain);
-    };
-    make_rows(task.alloc, &mut solver.plain)?;
     start_plain(task, &mut solver.plain)?;
-    solver.factor(task.alloc, cost)
+    factor(task.alloc, task.algebra, solver)
 }
 
 /// Solves the question at a place: by the factors, or plainly, if there are none.

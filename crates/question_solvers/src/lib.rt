@@ -13,8 +13,8 @@ mod side_by_side;
 mod solved;
 mod task;
 
-pub use factor_solver::FactorSolver;
-pub use factors::{solve_next_by_factors, start_factors};
+pub use factor_solver::{FactorSolver, Factoring, Refusal};
+pub use factors::{factor, solve_next_by_factors, start_factors};
 pub use pair::{answer_by, code_at};
 pub use plain::{solve_next_plainly, start_plain};
 pub use plain_solver::PlainSolver;

@@ -20,8 +20,8 @@ returns-in-Write-clause-wrote g c =
     (g.W.RoadWrite.seen c.args.out.now) (g.W.RoadWrite.seen c.answer_all.new.out)
     (Err c.in-Err.cause) c.in-Err.ensures.answered.text) (c.in-Err.ensures.answered.failed c.in-Write.is)
 
-pub returns-clause-wrote : goal.returns-clause-wrote
-returns-clause-wrote g c =
+pub returns-in_default-clause-wrote : goal.returns-in_default-clause-wrote
+returns-in_default-clause-wrote g c =
     stopped (g.A.PathAlgebra.meaning c.args.self.now.algebra) (is_plain c.args.solver.now) c.args.self.now.run.now.settings.now
     (g.T.Gate.may_answer c.args.self.now.run.now.gate.now) (graph_of c.args.solver.now)
     (asked_of c.args.questions.now) (g.W.RoadWrite.seen c.args.out.now)

@@ -1,7 +1,9 @@
 //! Values by substitution: by hand in every order of elimination, and against the search's on small graphs.
 use crate::graphs::{FIVE, graph_of};
 use elimination_order::least_degree_order;
-use path_algebra::{ComposingAlgebra, Cost, CountedSums, Labels, PathAlgebra};
+use path_algebra::{
+    ComposingAlgebra, Cost, CountedSums, Hops, Labels, PathAlgebra, Shortest, Within,
+};
 use path_factors::Factors;
 use path_plain::solve_outgoing;
 use road_graph::{OutGraph, Vertex};
@@ -100,6 +102,54 @@ fn five_vertices_in_all_orders(rt: HostRuntime) {
     assert_five(&rt, Cost::Weight, [5, 1, 5], &from_both);
 }
 
+/// Asserts the codes and the arcs that labels carry under an algebra.
+fn assert_codes<A: PathAlgebra>(
+    rt: &impl Abort,
+    algebra: A,
+    labels: &Labels<u64>,
+    wanted: &[Option<(u64, u64)>],
+) {
+    assert!(rt; labels.vertices() == wanted.len() && wanted.len() < 100);
+    for (i, known) in wanted.iter().enumerate() {
+        assert!(rt; i < 100 && i < labels.vertices());
+        let found = match labels.of(Vertex(i as u32 + 1)) {
+            Some(number) => algebra
+                .value_of(number / 8)
+                .map(|value| (algebra.code(value), number % 8)),
+            None => None,
+        };
+        assert!(rt; found == *known);
+    }
+}
+
+/// Asserts what the labels of the five vertices carry under an algebra, in all orders.
+fn assert_five_under<A: PathAlgebra>(
+    rt: &(impl Abort + AllocGlobal),
+    algebra: A,
+    wanted: &[Option<(u64, u64)>],
+) {
+    let graph = graph_of(rt, 5, &FIVE);
+    let cost = algebra.cost().expect(rt, "an algebra with factors");
+    let sums = CountedSums::new(cost, 3).expect(rt, "bits");
+    for number in 0..120 {
+        let order = order_of(rt, 5, number);
+        let labels = labels_by(rt, sums, graph.outgoing(), order, [Vertex(1); 3]);
+        assert_codes(rt, algebra, &labels, wanted);
+    }
+}
+
+/// The sum of 1, 3, 2, 4 is 8: at a limit of 8 it is a value, at 7 it is none.
+#[test]
+fn five_vertices_under_each_algebra_in_all_orders(rt: HostRuntime) {
+    let sums = [Some((0, 0)), Some((3, 2)), Some((1, 1)), Some((8, 3)), None];
+    assert_five_under(&rt, Shortest, &sums);
+    assert_five_under(&rt, Within::new(8).expect(&rt, "a limit"), &sums);
+    let near = [Some((0, 0)), Some((3, 2)), Some((1, 1)), None, None];
+    assert_five_under(&rt, Within::new(7).expect(&rt, "a limit"), &near);
+    let arcs = [Some((0, 0)), Some((1, 1)), Some((1, 1)), Some((2, 2)), None];
+    assert_five_under(&rt, Hops, &arcs);
+}
+
 /// Asserts that substitution and search find the same from each vertex, in some orders and the one by least degree.
 fn assert_as_searched(
     rt: &(impl Abort + AllocGlobal),
@@ -142,7 +192,7 @@ fn assert_same<A: PathAlgebra>(
 }
 
 /// One-way streets, cycles that cost nothing, parallel arcs, loops, and the greatest weight.
-const ONE_WAY: [(u32, u32, u32); 11] = [
+pub(crate) const ONE_WAY: [(u32, u32, u32); 11] = [
     (1, 2, 0),
     (2, 3, 0),
     (3, 1, 0),

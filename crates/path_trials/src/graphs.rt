@@ -68,7 +68,7 @@ fn refusals_hand_back(rt: HostRuntime) {
 }
 
 /// Five vertices, with two arcs from 1 to 3, a loop at 4, and nothing that enters 5. No arc has its number's place in the rows.
-fn five_vertices(alloc: Global) -> Option<Graph> {
+pub(crate) fn five_vertices(alloc: Global) -> Option<Graph> {
     let arcs = vec![in alloc;
         arc(3, 2, 2),
         arc(1, 2, 4),

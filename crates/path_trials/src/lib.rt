@@ -20,6 +20,12 @@ mod pairs;
 #[cfg(test)]
 mod plain_solver;
 #[cfg(test)]
+mod road_factors;
+#[cfg(test)]
+mod road_guard;
+#[cfg(test)]
+mod roads;
+#[cfg(test)]
 mod searcher;
 #[cfg(test)]
 mod trees;

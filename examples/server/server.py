@@ -181,6 +181,7 @@ def read_words():
 
 def main():
     words, signals = read_words(), {signal.SIGTERM, signal.SIGINT, signal.SIGHUP}
+    sys.setswitchinterval(0.0005)  # a thread whose search has ended gets the interpreter's lock back sooner
     signal.pthread_sigmask(signal.SIG_BLOCK, signals)
     try:
         server = Server(words)

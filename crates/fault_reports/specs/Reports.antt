@@ -23,8 +23,8 @@ status_of number =
 -- the text was written, whole, and nothing else; or a prefix of it, and then a write failed
 abbrev pub IsReported : {E : Type 0} → List ℕ → Output E → Output E → Type 0
 IsReported text errors errors_after =
-    WrotePrefix errors.written errors_after.written errors.failures errors_after.failures text []
-    ⊎ FailedAfterPrefix errors.written errors_after.written errors.failures errors_after.failures text
+    WrotePrefix errors errors_after text []
+    ⊎ FailedAfterPrefix errors errors_after text
 
 -- a fault ends a command: its line is written on the error output, and the exit status is its own
 abbrev pub ReportsFault : {E : Type 0} → RunFault → Output E → Output E → ℕ → Type 0

@@ -1,6 +1,5 @@
 //! How a command ends: what it shows, the line of a fault, and the exit status.
 ghost use Rattle.std.specs.Prelude.{◌≡◌};
-ghost use Rattle.batch_run.specs.Runs.{output};
 ghost use Rattle.fault_reports.specs.Reports.{Complains, EndsAs, Reaches, ReportsFault, fault_text, status_of};
 
 use batch_run::{RunFault, WRITE, fault_of_run};
@@ -40,9 +39,7 @@ fn status_of(number: u8) -> u8
 
 /// Writes the line of a fault, and gives the exit status, which is the same if the line cannot be written.
 pub fn report<E: RoadWrite>(errors: &mut E, fault: RunFault) -> u8
-    ensures { ReportsFault fault
-        (output E.written E.held E.failures errors.old)
-        (output E.written E.held E.failures errors.new) result }
+    ensures { ReportsFault fault (E.seen errors.old) (E.seen errors.new) result }
 {
     let _ = write_bytes(errors, line_of_fault(fault).as_str().as_bytes());
     status_of(fault.number)
@@ -50,9 +47,7 @@ pub fn report<E: RoadWrite>(errors: &mut E, fault: RunFault) -> u8
 
 /// Ends a command: a fault is reported, and gives its status; else the status is 0.
 pub fn end_with<E: RoadWrite>(errors: &mut E, outcome: Result<(), RunFault>) -> u8
-    ensures { EndsAs (λ _. 0)
-        (output E.written E.held E.failures errors.old)
-        (output E.written E.held E.failures errors.new) outcome result }
+    ensures { EndsAs (λ _. 0) (E.seen errors.old) (E.seen errors.new) outcome result }
 {
     match outcome {
         Ok(()) => 0,
@@ -62,9 +57,7 @@ pub fn end_with<E: RoadWrite>(errors: &mut E, outcome: Result<(), RunFault>) -> 
 
 /// Writes a text on the output, and flushes it.
 pub fn show<W: RoadWrite>(out: &mut W, text: &[u8]) -> Result<(), RunFault>
-    ensures { Reaches text.now
-        (output W.written W.held W.failures out.old)
-        (output W.written W.held W.failures out.new) result }
+    ensures { Reaches text.now (W.seen out.old) (W.seen out.new) result }
 {
     match write_bytes(out, text) {
         Ok(()) => match out.flush() {
@@ -77,9 +70,7 @@ pub fn show<W: RoadWrite>(out: &mut W, text: &[u8]) -> Result<(), RunFault>
 
 /// Says on the error output what is wrong with a command line, and gives the exit status.
 pub fn complain<E: RoadWrite>(errors: &mut E, text: &[u8]) -> u8
-    ensures { Complains text.now
-        (output E.written E.held E.failures errors.old)
-        (output E.written E.held E.failures errors.new) result }
+    ensures { Complains text.now (E.seen errors.old) (E.seen errors.new) result }
 {
     let _ = write_bytes(errors, text);
     USAGE

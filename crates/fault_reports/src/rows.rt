@@ -1,6 +1,5 @@
 //! What is said of faults by their numbers.
 ghost use Rattle.std.specs.Prelude.{◌≡◌, Some, Any, IfOk, IfSome, IfNone, flat_map, string_bytes};
-ghost use Rattle.batch_run.specs.Runs.{output};
 ghost use Rattle.fault_reports.specs.Explained.{AreAskedFor, Explains, HasNoRow, IsRowOf, row_text};
 
 use crate::reports::{complain, end_with, report, show};
@@ -96,10 +95,8 @@ pub fn explain<W: RoadWrite, E: RoadWrite>(
     out: &mut W,
     errors: &mut E,
 ) -> u8
-    ensures { Explains table.now numbers.now
-        (output W.written W.held W.failures out.old) (output W.written W.held W.failures out.new)
-        (output E.written E.held E.failures errors.old)
-        (output E.written E.held E.failures errors.new) result }
+    ensures { Explains table.now numbers.now (W.seen out.old) (W.seen out.new) (E.seen errors.old)
+        (E.seen errors.new) result }
 {
     let rows = match rows_for(alloc, table, numbers) {
         Ok(Some(rows)) => rows,

@@ -1,6 +1,6 @@
 //! A graph that is read from a text in memory.
 
-ghost use Rattle.std.specs.Prelude.{◌≡◌, ◌≤◌, ◌⊎◌, ◌≢◌, ◌↔◌, ◌∷◌, [], length, pos, true, Ok, None, Some, IfOk, IfErr};
+ghost use Rattle.std.specs.Prelude.{◌≡◌, ◌≤◌, ◌⊎◌, ◌≢◌, ◌↔◌, ◌∷◌, [], length, pos, true, Ok, None, Some, IfOk, IfErr, refl};
 ghost use Rattle.road_text.specs.Rules.{text_read};
 ghost use Rattle.graph_text.specs.GraphFiles.{gr_rules};
 ghost use Rattle.answer_lists.specs.Answers.{IsOneOf};
@@ -25,11 +25,12 @@ struct InMemory<'a> {
 }
 
 impl RoadRead for InMemory<'_> {
-    ghost left = { λ m. Some m.rest.now };
-
-    ghost failures = { λ _. 0 };
-
-    ghost asked = { λ m. m.reads.total };
+    ghost seen = { λ m. record {
+      state = m;
+      left = Some m.rest.now;
+      failures = 0;
+      asked = m.reads.total;
+    } };
 
     fn read(&mut self, buf: &mut [u8]) -> Result<usize, ReadFailed> {
         self.reads = self.reads.next();
@@ -42,6 +43,8 @@ impl RoadRead for InMemory<'_> {
         self.rest = rest;
         Ok(taken)
     }
+
+    ghost itself = { λ _. refl };
 }
 
 /// The graph of a text.

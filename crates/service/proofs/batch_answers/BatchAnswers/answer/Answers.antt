@@ -26,4 +26,4 @@ returns-in_default-clause-wrote g c =
     (g.T.Gate.may_answer c.args.self.now.run.now.gate.now) (graph_of c.args.solver.now)
     (asked_of c.args.questions.now) (g.W.RoadWrite.seen c.args.out.now)
     c.in-Err.cause (g.W.RoadWrite.seen c.answer_all.new.out) _ c.write_fault.result c.in-Err.ensures.answered.kind c.in_default.not-Write (c.in-Err.ensures.answered.whole c.in_default.not-Write)
-    (c.in-Err.ensures.answered.unfailed c.in_default.not-Write) c.write_fault.ensures
+    (c.in-Err.ensures.answered.unfailed c.in_default.not-Write) (rw c.number.ensures at c.write_fault.ensures)

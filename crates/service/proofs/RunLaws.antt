@@ -58,8 +58,8 @@ module _ {V G Q W : Type 0} (A : Algebra V) (how : Settings) (gate : ℕ → ℕ
     (asked : graph_after.asked ≤ graph.asked + 4294967297) where
   -- the input of requests stopped it: by a read that failed, and by nothing else it has this number
   pub stopped : (number : ℕ) → ((number ≡ 1) ⊎ (number ≡ 2))
-      → (number ≡ 1 → ServedSoFar (MayAnswer A how gate g) g.vertices input.left input_after.left out.written out_after.written out.failures out_after.failures)
-      → (number ≡ 2 → ServedToLimit (MayAnswer A how gate g) g.vertices input.left input_after.left out.written out_after.written out.failures out_after.failures)
+      → (number ≡ 1 → ServedSoFar (MayAnswer A how gate g) g.vertices input.left input_after.left out out_after)
+      → (number ≡ 2 → ServedToLimit (MayAnswer A how gate g) g.vertices input.left input_after.left out out_after)
       → out_after.held ≡ [] → (number ≡ 1) ↔ (input_after.failures ≢ input.failures) → RanService A how gate graph graph_after input input_after out out_after (Err (record { number = number; file = Questions; line = 0 }))
   stopped number which first long held failed = record {
     done = tt;
@@ -90,7 +90,7 @@ module _ {V G Q W : Type 0} (A : Algebra V) (how : Settings) (gate : ℕ → ℕ
       ]
 
   -- a write failed
-  pub fell : ServedPart (MayAnswer A how gate g) g.vertices input.left out.written out_after.written out.failures out_after.failures → input_after.failures ≡ input.failures
+  pub fell : ServedPart (MayAnswer A how gate g) g.vertices input.left out out_after → input_after.failures ≡ input.failures
       → RanService A how gate graph graph_after input input_after out out_after (Err (record { number = 42; file = NoFile; line = 0 }))
   fell part input_sound = record {
     done = tt;

@@ -9,7 +9,9 @@ use Rattle.road_graph.specs.GraphData.{GraphData}
 use Rattle.path_algebra.specs.Algebra.{Algebra}
 use Rattle.batch_run.specs.declared.solve.diffusion.GatheredDiffusion.{GatheredDiffusion}
 use Rattle.batch_run.specs.declared.solve.queue.DiffusionQueue.{DiffusionQueue}
-use Rattle.batch_run.specs.Diffusions.{AreNext, IsGatheredOver, IsPlanOf, sources_in_order}
+use Rattle.batch_run.specs.declared.settings.Settings.{Settings}
+use Rattle.batch_run.specs.Cut.{IsCut}
+use Rattle.batch_run.specs.Diffusions.{AreNext, IsGatheredOver, sources_in_order}
 use Rattle.batch_run.proofs.Together.{all_before, last_of_all}
 
 -- with one more, which comes before them
@@ -31,19 +33,19 @@ place_before sources were are k source low is had e =
     drop-cons sources at source inside ∙ ap (λ (y : ℕ). y ∷ drop (suc at) sources) (sym is) ∙ ap (λ (n : ℕ). source ∷ drop n sources) next in
     e ∙ ap (λ (l : List ℕ). source ∷ l) had ∙ sym step ∙ ap (λ (n : ℕ). drop n sources) here
 
-module _ {V : Type 0} (A : Algebra V) (g : GraphData) where
+module _ {V : Type 0} (A : Algebra V) (how : Settings) (g : GraphData) where
   -- none waits
-  pub none_waits : (to_come : List ℕ) (queue : DiffusionQueue V) → IsPlanOf g queue.plan → queue.waiting.items ≡ [] → AreNext A g to_come queue
+  pub none_waits : (to_come : List ℕ) (queue : DiffusionQueue V) → IsCut how g queue.plan → queue.waiting.items ≡ [] → AreNext A how g to_come queue
   none_waits to_come queue plan none = record {
     plan = plan;
-    gathered = rw none (All-nil (IsGatheredOver A g));
+    gathered = rw none (All-nil (IsGatheredOver A how g));
     rest = to_come;
     sources_are = ap (λ (l : List (GatheredDiffusion V)). sources_in_order l ++ to_come) (sym none);
   }
 
   module _ (to_come : List ℕ) (w : ℕ) where
     -- those that were gathered together wait
-    pub group_waits : (queue : DiffusionQueue V) → sources_in_order queue.waiting.items ≡ take w to_come → IsPlanOf g queue.plan → All (IsGatheredOver A g) queue.waiting.items → AreNext A g to_come queue
+    pub group_waits : (queue : DiffusionQueue V) → sources_in_order queue.waiting.items ≡ take w to_come → IsCut how g queue.plan → All (IsGatheredOver A how g) queue.waiting.items → AreNext A how g to_come queue
     group_waits queue are plan gathered = record {
       plan = plan;
       gathered = gathered;
@@ -62,20 +64,20 @@ module _ {V : Type 0} (A : Algebra V) (g : GraphData) where
 
   -- the next is taken
   module _ (to_come left : List ℕ) (source : ℕ) (old new : DiffusionQueue V) (e : GatheredDiffusion V) (next : to_come ≡ source ∷ left)
-      (were : AreNext A g to_come old) (is : old.waiting.items ≡ new.waiting.items ++ e ∷ []) where
+      (were : AreNext A how g to_come old) (is : old.waiting.items ≡ new.waiting.items ++ e ∷ []) where
     order : source ∷ left ≡ e.source ∷ (sources_in_order new.waiting.items ++ were.rest)
     order = sym next ∙ were.sources_are ∙ ap (λ (l : List ℕ). l ++ were.rest) (one_before new.waiting.items old.waiting.items e is)
 
     pub taken_source : e.source ≡ source
     taken_source = let o = order in cc
 
-    pub taken_gathered : IsGatheredOver A g e
-    taken_gathered = last_of_all (IsGatheredOver A g) old.waiting.items new.waiting.items e is were.gathered
+    pub taken_gathered : IsGatheredOver A how g e
+    taken_gathered = last_of_all (IsGatheredOver A how g) old.waiting.items new.waiting.items e is were.gathered
 
-    pub others_wait : new.plan ≡ old.plan → AreNext A g left new
+    pub others_wait : new.plan ≡ old.plan → AreNext A how g left new
     others_wait same = record {
       plan = rw same were.plan;
-      gathered = all_before (IsGatheredOver A g) old.waiting.items new.waiting.items (e ∷ []) is were.gathered;
+      gathered = all_before (IsGatheredOver A how g) old.waiting.items new.waiting.items (e ∷ []) is were.gathered;
       rest = were.rest;
       sources_are = let o = order in cc;
     }

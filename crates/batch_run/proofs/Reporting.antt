@@ -10,7 +10,6 @@ use Rattle.road_files.specs.Asked.{Question, Asked}
 use Rattle.path_algebra.specs.Algebra.{Algebra}
 use Rattle.path_algebra.specs.Walks.{AreBest}
 use Rattle.shard_store.specs.Plans.{PlanData}
-use Rattle.shard_store.specs.declared.queue_order.QueueOrder.{QueueOrder}
 use Rattle.shard_store.specs.Setup.{SetupData}
 use Rattle.station.specs.declared.gathering.Gathered.{Gathered}
 use Rattle.station.specs.Gather.{IsGathered}
@@ -20,6 +19,7 @@ use Rattle.batch_run.specs.declared.faults.Cause.{Cause}
 use Rattle.batch_run.specs.declared.settings.Settings.{Settings}
 use Rattle.batch_run.specs.declared.watcher.Report.{Report}
 use Rattle.batch_run.specs.declared.watcher.Report.TheVariants as report
+use Rattle.batch_run.specs.Cut.{IsCut, order_of}
 use Rattle.batch_run.specs.Diffusions.{IsEnded}
 use Rattle.batch_run.specs.Reports.{IsAccount, Due, Beginning, Account, Progress, IsReportOf, FollowsReports, Reported, ReportedAllOrPrefix, ReportedPrefix, ReportedWritten, Watched, accounts_due, question_due, questions_due, batch_due, count_diffusions, diffused}
 use Rattle.batch_run.specs.Choice.{without_diffusions}
@@ -28,11 +28,11 @@ use Rattle.batch_run.proofs.CauseCases.{no_setting}
 
 -- the counts of a diffusion that was run to its end are those that were gathered
 module _ {S V : Type 0} (meaning : S → Algebra V) where
-  account_of : (algebra : S) (g : GraphData) (plan : PlanData) (order : QueueOrder) (source : ℕ) (found : Gathered V) → IsGathered meaning (setup_of algebra g source plan order) found →
-      IsAccount (meaning algebra) g source found.tally
-  account_of algebra g plan order source found h = record {
+  account_of : (algebra : S) (how : Settings) (g : GraphData) (plan : PlanData) (source : ℕ) (found : Gathered V) → IsCut how g plan
+      → IsGathered meaning (setup_of algebra g source plan (order_of how)) found → IsAccount (meaning algebra) how g source found.tally
+  account_of algebra how g plan source found cut h = record {
     plan = plan;
-    order = order;
+    cut = cut;
     labels = found.labels;
     gathered = record { roads = h.roads; source = h.source; labels = h.labels; events = h.events; ended = h.ended; quiet = h.quiet; tally = h.tally; equal = h.equal; best = h.best };
   }
@@ -40,20 +40,20 @@ module _ {S V : Type 0} (meaning : S → Algebra V) where
   best_of : (t : SetupData S) (found : Gathered V) → IsGathered meaning t found → AreBest (meaning t.diffusion.algebra) t.diffusion.roads (t.diffusion.source ∷ []) found.labels
   best_of t found h = h.labels
 
-  -- so are the labels
-  pub are_best : (algebra : S) (g : GraphData) (plan : PlanData) (source : ℕ) (e : EndedDiffusion S V) (found : Gathered V) → IsEnded algebra g plan e → e.source ≡ source →
-      IsGathered meaning e.floor.setup found → AreBest (meaning algebra) g (source ∷ []) found.labels
-  are_best algebra g plan source e found ended from h =
-      subst (λ (s : ℕ). AreBest (meaning algebra) g (s ∷ []) found.labels) from (best_of (setup_of algebra g e.source plan ended.0) found
-      (subst (λ (t : SetupData S). IsGathered meaning t found) ended.1.setup h))
+  module _ (algebra : S) (how : Settings) (g : GraphData) (plan : PlanData) (e : EndedDiffusion S V) (found : Gathered V) (ended : IsEnded algebra how g plan e)
+      (h : IsGathered meaning e.floor.setup found) where
+    gathered_of : IsGathered meaning (setup_of algebra g e.source plan (order_of how)) found
+    gathered_of = subst (λ (t : SetupData S). IsGathered meaning t found) ended.setup h
 
-  pub is_account : (algebra : S) (g : GraphData) (plan : PlanData) (source : ℕ) (e : EndedDiffusion S V) (found : Gathered V) → IsEnded algebra g plan e → e.source ≡ source →
-      IsGathered meaning e.floor.setup found → IsAccount (meaning algebra) g source found.tally
-  is_account algebra g plan source e found ended from h =
-      subst (λ (s : ℕ). IsAccount (meaning algebra) g s found.tally) from (account_of algebra g plan ended.0 e.source found (subst (λ (t : SetupData S). IsGathered meaning t found) ended.1.setup h))
+    -- so are the labels
+    pub are_best : AreBest (meaning algebra) g (e.source ∷ []) found.labels
+    are_best = best_of (setup_of algebra g e.source plan (order_of how)) found gathered_of
 
-module _ {V S : Type 0} (A : Algebra V) (g : GraphData) (may_become : S → Report → S → Type 0) where
-  all_more : (ds es : List Due) (rs qs : List Report) → AllZip (IsReportOf A g) ds rs → AllZip (IsReportOf A g) es qs → AllZip (IsReportOf A g) (ds ++ es) (rs ++ qs)
+    pub is_account : IsCut how g plan → IsAccount (meaning algebra) how g e.source found.tally
+    is_account cut = account_of algebra how g plan e.source found cut gathered_of
+
+module _ {V S : Type 0} (A : Algebra V) (how : Settings) (g : GraphData) (may_become : S → Report → S → Type 0) where
+  all_more : (ds es : List Due) (rs qs : List Report) → AllZip (IsReportOf A how g) ds rs → AllZip (IsReportOf A how g) es qs → AllZip (IsReportOf A how g) (ds ++ es) (rs ++ qs)
   all_more [] es [] qs h k = k
   all_more [] es (r ∷ rs) qs h k = absurd h
   all_more (d ∷ ds) es [] qs h k = absurd h
@@ -64,15 +64,15 @@ module _ {V S : Type 0} (A : Algebra V) (g : GraphData) (may_become : S → Repo
   told_more (r ∷ rs) qs old mid new h k = (h.0, h.1, told_more rs qs h.0 mid new h.2 k)
 
   -- nothing was reported
-  pub none : (s : S) → Reported A g may_become [] s s
+  pub none : (s : S) → Reported A how g may_become [] s s
   none s = record { reports = []; are_due = tt; told = refl }
 
   -- one report was made
-  pub one : (d : Due) (r : Report) (old new : S) → IsReportOf A g d r → may_become old r new → Reported A g may_become (d ∷ []) old new
+  pub one : (d : Due) (r : Report) (old new : S) → IsReportOf A how g d r → may_become old r new → Reported A how g may_become (d ∷ []) old new
   one d r old new is become = record { reports = r ∷ []; are_due = (is, tt); told = (new, become, refl) }
 
   -- more was reported
-  pub more : (ds es : List Due) (old mid new : S) → Reported A g may_become ds old mid → Reported A g may_become es mid new → Reported A g may_become (ds ++ es) old new
+  pub more : (ds es : List Due) (old mid new : S) → Reported A how g may_become ds old mid → Reported A how g may_become es mid new → Reported A how g may_become (ds ++ es) old new
   more ds es old mid new h k = record {
     reports = h.reports ++ k.reports;
     are_due = all_more ds es h.reports k.reports h.are_due k.are_due;
@@ -80,25 +80,25 @@ module _ {V S : Type 0} (A : Algebra V) (g : GraphData) (may_become : S → Repo
   }
 
   -- nothing was of what is due
-  pub prefix_none : (due : List Due) (s : S) → ReportedPrefix A g may_become due s s
+  pub prefix_none : (due : List Due) (s : S) → ReportedPrefix A how g may_become due s s
   prefix_none due s = record { prefix = []; rest = due; due_is = refl; reported = none s }
 
-  pub prefix_if_err : {T E : Type 0} (due : List Due) (old new : S) (r : Result T E) (f : E) → r ≡ Err f → ReportedPrefix A g may_become due old new → ReportedAllOrPrefix A g may_become due old new r
-  prefix_if_err due old new r f e h = subst (ReportedAllOrPrefix A g may_become due old new) (sym e) h
+  pub prefix_if_err : {T E : Type 0} (due : List Due) (old new : S) (r : Result T E) (f : E) → r ≡ Err f → ReportedPrefix A how g may_become due old new → ReportedAllOrPrefix A how g may_become due old new r
+  prefix_if_err due old new r f e h = subst (ReportedAllOrPrefix A how g may_become due old new) (sym e) h
 
-  pub prefix_kept : (due : List Due) (old new : S) → new ≡ old → ReportedPrefix A g may_become due old new
-  prefix_kept due old new e = subst (λ (s : S). ReportedPrefix A g may_become due old s) (sym e) (prefix_none due old)
+  pub prefix_kept : (due : List Due) (old new : S) → new ≡ old → ReportedPrefix A how g may_become due old new
+  prefix_kept due old new e = subst (λ (s : S). ReportedPrefix A how g may_become due old s) (sym e) (prefix_none due old)
 
   -- what was reported is a prefix of what is due
-  pub prefix_whole : (ds rest due : List Due) (old new : S) → due ≡ ds ++ rest → Reported A g may_become ds old new → ReportedPrefix A g may_become due old new
+  pub prefix_whole : (ds rest due : List Due) (old new : S) → due ≡ ds ++ rest → Reported A how g may_become ds old new → ReportedPrefix A how g may_become due old new
   prefix_whole ds rest due old new e h = record { prefix = ds; rest = rest; due_is = e; reported = h }
 
-  pub prefix_all : (due : List Due) (old new : S) → Reported A g may_become due old new → ReportedPrefix A g may_become due old new
+  pub prefix_all : (due : List Due) (old new : S) → Reported A how g may_become due old new → ReportedPrefix A how g may_become due old new
   prefix_all due old new h = prefix_whole due [] due old new (sym (append-nil due)) h
 
   -- so is it with a prefix of what is due next
-  pub prefix_more : (ds es rest due : List Due) (old mid new : S) → due ≡ (ds ++ es) ++ rest → Reported A g may_become ds old mid → ReportedPrefix A g may_become es mid new →
-      ReportedPrefix A g may_become due old new
+  pub prefix_more : (ds es rest due : List Due) (old mid new : S) → due ≡ (ds ++ es) ++ rest → Reported A how g may_become ds old mid → ReportedPrefix A how g may_become es mid new →
+      ReportedPrefix A how g may_become due old new
   prefix_more ds es rest due old mid new e h k = record {
     prefix = ds ++ k.prefix;
     rest = k.rest ++ rest;
@@ -113,27 +113,27 @@ account_from k xs zero = (map (Account k) xs, refl)
 account_from k [] (suc i) = ([], refl)
 account_from k (x ∷ xs) (suc i) = let after = account_from k xs i in (after.0, ap (λ (l : List Due). Account k x ∷ l) after.1)
 
-module _ {V S : Type 0} (A : Algebra V) (g : GraphData) (may_become : S → Report → S → Type 0) (k : ℕ) (xs : List ℕ) where
+module _ {V S : Type 0} (A : Algebra V) (how : Settings) (g : GraphData) (may_become : S → Report → S → Type 0) (k : ℕ) (xs : List ℕ) where
   -- of one source
-  pub sources_begun : (x : ℕ) (old new : S) → take 1 xs ≡ x ∷ [] → Reported A g may_become (Account k x ∷ []) old new → Reported A g may_become (map (Account k) (take 1 xs)) old new
-  sources_begun x old new e h = subst (λ (l : List ℕ). Reported A g may_become (map (Account k) l) old new) (sym e) h
+  pub sources_begun : (x : ℕ) (old new : S) → take 1 xs ≡ x ∷ [] → Reported A how g may_become (Account k x ∷ []) old new → Reported A how g may_become (map (Account k) (take 1 xs)) old new
+  sources_begun x old new e h = subst (λ (l : List ℕ). Reported A how g may_become (map (Account k) l) old new) (sym e) h
 
   -- of one source more
-  pub sources_more : (i x : ℕ) (old mid new : S) → i < length xs → x ≡ get_or xs i x → Reported A g may_become (map (Account k) (take i xs)) old mid →
-      Reported A g may_become (Account k x ∷ []) mid new → Reported A g may_become (map (Account k) (take (i + 1) xs)) old new
+  pub sources_more : (i x : ℕ) (old mid new : S) → i < length xs → x ≡ get_or xs i x → Reported A how g may_become (map (Account k) (take i xs)) old mid →
+      Reported A how g may_become (Account k x ∷ []) mid new → Reported A how g may_become (map (Account k) (take (i + 1) xs)) old new
   sources_more i x old mid new low is h one =
       let longer : take (i + 1) xs ≡ take i xs ++ x ∷ [] = take_more xs i x low ∙ ap (λ (y : ℕ). take i xs ++ y ∷ []) (sym is) in
-      subst (λ (l : List Due). Reported A g may_become l old new) (sym (ap (map (Account k)) longer ∙ map-append (Account k) (take i xs) (x ∷ [])))
-      (more A g may_become (map (Account k) (take i xs)) (Account k x ∷ []) old mid new h one)
+      subst (λ (l : List Due). Reported A how g may_become l old new) (sym (ap (map (Account k)) longer ∙ map-append (Account k) (take i xs) (x ∷ [])))
+      (more A how g may_become (map (Account k) (take i xs)) (Account k x ∷ []) old mid new h one)
 
   -- it stopped at a source
-  pub sources_stopped : (i : ℕ) (old mid new : S) → Reported A g may_become (map (Account k) (take i xs)) old mid → new ≡ mid → ReportedPrefix A g may_become (map (Account k) xs) old new
+  pub sources_stopped : (i : ℕ) (old mid new : S) → Reported A how g may_become (map (Account k) (take i xs)) old mid → new ≡ mid → ReportedPrefix A how g may_become (map (Account k) xs) old new
   sources_stopped i old mid new h e =
       let after = account_from k xs i in
-      subst (λ (s : S). ReportedPrefix A g may_become (map (Account k) xs) old s) (sym e) (prefix_whole A g may_become (map (Account k) (take i xs)) after.0 (map (Account k) xs) old mid after.1 h)
+      subst (λ (s : S). ReportedPrefix A how g may_become (map (Account k) xs) old s) (sym e) (prefix_whole A how g may_become (map (Account k) (take i xs)) after.0 (map (Account k) xs) old mid after.1 h)
 
-  pub sources_ended : (i : ℕ) (old new : S) → length xs ≤ i → Reported A g may_become (map (Account k) (take i xs)) old new → Reported A g may_become (map (Account k) xs) old new
-  sources_ended i old new le h = subst (λ (l : List ℕ). Reported A g may_become (map (Account k) l) old new) (take_all i xs le) h
+  pub sources_ended : (i : ℕ) (old new : S) → length xs ≤ i → Reported A how g may_become (map (Account k) (take i xs)) old new → Reported A how g may_become (map (Account k) xs) old new
+  sources_ended i old new le h = subst (λ (l : List ℕ). Reported A how g may_become (map (Account k) l) old new) (take_all i xs le) h
 
 -- due of a batch until so many questions are answered
 abbrev pub due_first : Bool → List Question → ℕ → List Due
@@ -185,28 +185,28 @@ module _ (plain : Bool) (qs : List Question) (i : ℕ) where
               ∙ ap (λ (x : List Due). first ++ (ds ++ x)) (append_assoc es last after.0) ∙ sym (append_assoc first ds (es ++ (last ++ after.0))),
         )
 
-module _ {V S : Type 0} (A : Algebra V) (g : GraphData) (may_become : S → Report → S → Type 0) (plain : Bool) (qs : List Question) where
+module _ {V S : Type 0} (A : Algebra V) (how : Settings) (g : GraphData) (may_become : S → Report → S → Type 0) (plain : Bool) (qs : List Question) where
   -- the batch begins
-  pub begun : (n d : ℕ) (old new : S) → n ≡ length qs → d ≡ count_diffusions plain qs → may_become old (report.Begun n d) new → Reported A g may_become (due_first plain qs 0) old new
+  pub begun : (n d : ℕ) (old new : S) → n ≡ length qs → d ≡ count_diffusions plain qs → may_become old (report.Begun n d) new → Reported A how g may_become (due_first plain qs 0) old new
   begun n d old new count diffusions become =
-      one A g may_become (Beginning (length qs) (count_diffusions plain qs)) (report.Begun n d) old new
+      one A how g may_become (Beginning (length qs) (count_diffusions plain qs)) (report.Begun n d) old new
       (ap (λ (m : ℕ). report.Begun m d) count ∙ ap (λ (m : ℕ). report.Begun (length qs) m) diffusions) become
 
   -- all questions are answered
-  pub ended : (i : ℕ) (old new : S) → length qs ≤ i → Reported A g may_become (due_first plain qs i) old new → Reported A g may_become (batch_due plain qs) old new
-  ended i old new le h = subst (λ (x : List Question). Reported A g may_become (Beginning (length qs) (count_diffusions plain qs) ∷ questions_due plain 0 x) old new) (take_all i qs le) h
+  pub ended : (i : ℕ) (old new : S) → length qs ≤ i → Reported A how g may_become (due_first plain qs i) old new → Reported A how g may_become (batch_due plain qs) old new
+  ended i old new le h = subst (λ (x : List Question). Reported A how g may_become (Beginning (length qs) (count_diffusions plain qs) ∷ questions_due plain 0 x) old new) (take_all i qs le) h
 
-  module _ (i k : ℕ) (q : Question) (low : i < length qs) (number : k ≡ i + 1) (old mid : S) (first : Reported A g may_become (due_first plain qs i) old mid) where
+  module _ (i k : ℕ) (q : Question) (low : i < length qs) (number : k ≡ i + 1) (old mid : S) (first : Reported A how g may_become (due_first plain qs i) old mid) where
     -- one question more is answered
-    pub answered : (new : S) → Reported A g may_become (question_due plain k (get_or qs i q)) mid new → Reported A g may_become (due_first plain qs (i + 1)) old new
+    pub answered : (new : S) → Reported A how g may_become (question_due plain k (get_or qs i q)) mid new → Reported A how g may_become (due_first plain qs (i + 1)) old new
     answered new one =
-        subst (λ (x : List Due). Reported A g may_become x old new) (sym (next_due plain qs i k q low number)) (more A g may_become (due_first plain qs i) (question_due plain k (get_or qs i q)) old mid new first one)
+        subst (λ (x : List Due). Reported A how g may_become x old new) (sym (next_due plain qs i k q low number)) (more A how g may_become (due_first plain qs i) (question_due plain k (get_or qs i q)) old mid new first one)
 
 -- a question is answered
-module _ {V S : Type 0} (A : Algebra V) (g : GraphData) (may_become : S → Report → S → Type 0) (plain : Bool) (k : ℕ) (q : Question) where
-  pub question_answered : (old mid new : S) → Reported A g may_become (accounts_due plain k q) old mid → may_become mid (report.Answered k) new → Reported A g may_become (question_due plain k q) old new
+module _ {V S : Type 0} (A : Algebra V) (how : Settings) (g : GraphData) (may_become : S → Report → S → Type 0) (plain : Bool) (k : ℕ) (q : Question) where
+  pub question_answered : (old mid new : S) → Reported A how g may_become (accounts_due plain k q) old mid → may_become mid (report.Answered k) new → Reported A how g may_become (question_due plain k q) old new
   question_answered old mid new accounts become =
-      more A g may_become (accounts_due plain k q) (Progress k ∷ []) old mid new accounts (one A g may_become (Progress k) (report.Answered k) mid new refl become)
+      more A how g may_become (accounts_due plain k q) (Progress k ∷ []) old mid new accounts (one A how g may_become (Progress k) (report.Answered k) mid new refl become)
 
 -- the plain solver answers by no diffusion
 none_diffused : (qs : List Question) → flat_map (diffused true) qs ≡ []
@@ -219,10 +219,10 @@ none_counted qs = sym (ap (λ (l : List ℕ). length l) (none_diffused qs))
 -- what a run reports of inputs that were read, from what answering them reports
 module _ {V S W : Type 0} (A : Algebra V) (how : Settings) (IsRead : GraphData → Asked → Type 0) (may_become : S → Report → S → Type 0) (old new : S) (out out_after : Output W) (g : GraphData)
     (asked : Asked) (read : IsRead g asked) where
-  pub watched_all : Reported A g may_become (batch_due (without_diffusions how) asked.questions) old new → Watched A how IsRead may_become old new out out_after (Ok tt)
+  pub watched_all : Reported A how g may_become (batch_due (without_diffusions how) asked.questions) old new → Watched A how IsRead may_become old new out out_after (Ok tt)
   watched_all reported = record { all = record { graph = g; asked = asked; read = read; reported = reported }; first = tt; nothing = tt; untouched = tt }
 
-  pub watched_first : (cause : Cause) → ReportedWritten A g asked (without_diffusions how) may_become old new out out_after → Watched A how IsRead may_become old new out out_after (Err (fault_of cause))
+  pub watched_first : (cause : Cause) → ReportedWritten A how g asked (without_diffusions how) may_become old new out out_after → Watched A how IsRead may_become old new out out_after (Err (fault_of cause))
   watched_first cause reported = record {
     all = tt;
     first = λ file other. record { graph = g; asked = asked; read = read; reported = reported };

@@ -11,6 +11,7 @@ use Rattle.path_algebra.specs.Algebra.{Algebra}
 use Rattle.road_text.specs.Written.{WrotePrefix}
 use Rattle.batch_run.specs.Answered.{WroteAtLeast, WroteNext, begun_text}
 use Rattle.batch_run.specs.declared.faults.Cause.{Cause}
+use Rattle.batch_run.specs.declared.settings.Settings.{Settings}
 use Rattle.batch_run.specs.declared.watcher.Report.{Report}
 use Rattle.batch_run.specs.Reports.{Account, Beginning, Due, IsWritten, Progress, Reported, ReportedPrefix, ReportedWritten, accounts_due, batch_due, diffused, question_due}
 use Rattle.batch_run.proofs.CauseCases.{write_or_other}
@@ -97,26 +98,26 @@ module _ {V : Type 0} (A : Algebra V) (g : GraphData) (asked : Asked) where
     | inr other ↦ subst (λ (x : Output X). AllByRecursion (IsWritten A g asked old x) ds) (sym (h.1 other)) all
   ]
 
-  module _ {S W : Type 0} (plain : Bool) (may_become : S → Report → S → Type 0) (old : S) (out out_after : Output W) where
-    reported_as : (new : S) (ds rest : List Due) → batch_due plain asked.questions ≡ ds ++ rest → Reported A g may_become ds old new → AllByRecursion (IsWritten A g asked out out_after) ds →
-        ReportedWritten A g asked plain may_become old new out out_after
+  module _ {S W : Type 0} (how : Settings) (plain : Bool) (may_become : S → Report → S → Type 0) (old : S) (out out_after : Output W) where
+    reported_as : (new : S) (ds rest : List Due) → batch_due plain asked.questions ≡ ds ++ rest → Reported A how g may_become ds old new → AllByRecursion (IsWritten A g asked out out_after) ds →
+        ReportedWritten A how g asked plain may_become old new out out_after
     reported_as new ds rest e h all = record { reported = record { prefix = ds; rest = rest; due_is = e; reported = h }; written = all }
 
     -- nothing was reported
-    pub unreported : (new : S) → new ≡ old → ReportedWritten A g asked plain may_become old new out out_after
-    unreported new e = reported_as new [] (batch_due plain asked.questions) refl (subst (λ (s : S). Reported A g may_become [] old s) (sym e) (none A g may_become old)) tt
+    pub unreported : (new : S) → new ≡ old → ReportedWritten A how g asked plain may_become old new out out_after
+    unreported new e = reported_as new [] (batch_due plain asked.questions) refl (subst (λ (s : S). Reported A how g may_become [] old s) (sym e) (none A how g may_become old)) tt
 
-    module _ (i : ℕ) (mid : S) (first : Reported A g may_become (due_first plain asked.questions i) old mid)
+    module _ (i : ℕ) (mid : S) (first : Reported A how g may_become (due_first plain asked.questions i) old mid)
         (all : AllByRecursion (IsWritten A g asked out out_after) (due_first plain asked.questions i)) where
       -- so many questions were reported as answered
-      pub reported_first : ReportedWritten A g asked plain may_become old mid out out_after
+      pub reported_first : ReportedWritten A how g asked plain may_become old mid out out_after
       reported_first = let after = first_follows plain asked.questions i in reported_as mid (due_first plain asked.questions i) after.0 after.1 first all
 
       -- and some accounts of the next
-      pub reported_within : (q : Question) (new : S) → i < length asked.questions → ReportedPrefix A g may_become (accounts_due plain (i + 1) (get_or asked.questions i q)) mid new →
-          ReportedWritten A g asked plain may_become old new out out_after
+      pub reported_within : (q : Question) (new : S) → i < length asked.questions → ReportedPrefix A how g may_become (accounts_due plain (i + 1) (get_or asked.questions i q)) mid new →
+          ReportedWritten A how g asked plain may_become old new out out_after
       reported_within q new low part =
           let after = accounts_follow plain asked.questions i (i + 1) q low refl part.prefix part.rest part.due_is in
           reported_as new (due_first plain asked.questions i ++ part.prefix) after.0 after.1
-          (more A g may_become (due_first plain asked.questions i) part.prefix old mid new first part.reported)
+          (more A how g may_become (due_first plain asked.questions i) part.prefix old mid new first part.reported)
           (written_then out out_after (due_first plain asked.questions i) part.prefix all (within_accounts out out_after plain (i + 1) (get_or asked.questions i q) part.prefix part.rest part.due_is))

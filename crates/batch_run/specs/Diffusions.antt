@@ -6,7 +6,6 @@ use Rattle.road_files.specs.Asked.{Question, sources_of}
 use Rattle.path_algebra.specs.Algebra.{Algebra}
 use Rattle.path_algebra.specs.Walks.{AreBest}
 use Rattle.shard_store.specs.Plans.{PlanData}
-use Rattle.shard_store.specs.declared.queue_order.QueueOrder.{QueueOrder}
 use Rattle.shard_store.specs.Setup.{SetupData}
 use Rattle.post_floor.specs.Data.{FloorData}
 use Rattle.station.specs.Opened.{setup_of}
@@ -15,6 +14,8 @@ use Rattle.worker_fleet.specs.Groups.{HasShard}
 use Rattle.batch_run.specs.declared.solve.diffusion.EndedDiffusion.{EndedDiffusion}
 use Rattle.batch_run.specs.declared.solve.diffusion.GatheredDiffusion.{GatheredDiffusion}
 use Rattle.batch_run.specs.declared.solve.queue.DiffusionQueue.{DiffusionQueue}
+use Rattle.batch_run.specs.declared.settings.Settings.{Settings}
+use Rattle.batch_run.specs.Cut.{IsCut, order_of}
 use Rattle.batch_run.specs.Reports.{IsAccount}
 
 -- the plan is one of the graph
@@ -37,22 +38,22 @@ pub record AreEnded {A V : Type 0} (t : SetupData A) (floor : FloorData A) (stat
   pub ended : All (λ s. s.ended ≡ true) stations
   pub all : (k : ℕ) → k < t.plan.shards → HasShard k stations
 
--- it was one over this graph and plan, from its source, in some order
-abbrev pub IsEnded : {A V : Type 0} → A → GraphData → PlanData → EndedDiffusion A V → Type 0
-IsEnded algebra roads plan e = (order : QueueOrder) × AreEnded (setup_of algebra roads e.source plan order) e.floor e.stations.items
+-- it was one over this graph and plan, from its source, in the order that the settings choose
+abbrev pub IsEnded : {A V : Type 0} → A → Settings → GraphData → PlanData → EndedDiffusion A V → Type 0
+IsEnded algebra how roads plan e = AreEnded (setup_of algebra roads e.source plan (order_of how)) e.floor e.stations.items
 
 -- a diffusion over the graph was gathered: its labels are best from its source, and its counts are its own
-pub record IsGatheredOver {V : Type 0} (A : Algebra V) (g : GraphData) (d : GatheredDiffusion V) : Type 0 where
+pub record IsGatheredOver {V : Type 0} (A : Algebra V) (how : Settings) (g : GraphData) (d : GatheredDiffusion V) : Type 0 where
   pub labels : AreBest A g (d.source ∷ []) d.labels
-  pub account : IsAccount A g d.source d.tally
+  pub account : IsAccount A how g d.source d.tally
 
 -- the sources of diffusions of which the next one is last, in the order in which they are taken
 abbrev pub sources_in_order : {V : Type 0} → List (GatheredDiffusion V) → List ℕ
 sources_in_order waiting = reverse (map (λ d. d.source) waiting)
 
--- the plan is one of the graph, those that wait were gathered, and their sources are a prefix of those to come
-pub record AreNext {V : Type 0} (A : Algebra V) (g : GraphData) (to_come : List ℕ) (queue : DiffusionQueue V) : Type 0 where
-  pub plan : IsPlanOf g queue.plan
-  pub gathered : All (IsGatheredOver A g) queue.waiting.items
+-- the plan is the one that the settings choose, those that wait were gathered, and their sources are a prefix of those to come
+pub record AreNext {V : Type 0} (A : Algebra V) (how : Settings) (g : GraphData) (to_come : List ℕ) (queue : DiffusionQueue V) : Type 0 where
+  pub plan : IsCut how g queue.plan
+  pub gathered : All (IsGatheredOver A how g) queue.waiting.items
   pub rest : List ℕ
   pub sources_are : to_come ≡ sources_in_order queue.waiting.items ++ rest

@@ -5,6 +5,7 @@ pub mod Diffusions
 pub mod Answered
 pub mod Ran
 pub mod FaultTexts
+pub mod Cut
 pub mod Stopping
 pub mod Causes
 pub mod Runs

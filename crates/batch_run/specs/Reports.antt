@@ -9,25 +9,25 @@ use Rattle.road_files.specs.Asked.{Question, Asked, sources_of}
 use Rattle.path_algebra.specs.Algebra.{Algebra}
 use Rattle.shard_store.specs.declared.tally.Tally.{Tally}
 use Rattle.shard_store.specs.Plans.{PlanData}
-use Rattle.shard_store.specs.declared.queue_order.QueueOrder.{QueueOrder}
 use Rattle.station.specs.Gather.{IsGathered}
 use Rattle.batch_run.specs.declared.faults.File.TheVariants.{NoFile}
 use Rattle.batch_run.specs.declared.faults.RunFault.{RunFault}
 use Rattle.batch_run.specs.declared.settings.Settings.{Settings}
 use Rattle.batch_run.specs.Answered.{WroteAtLeast}
 use Rattle.batch_run.specs.Choice.{without_diffusions}
+use Rattle.batch_run.specs.Cut.{IsCut, order_of}
 use Rattle.batch_run.specs.declared.watcher.Report.{Report}
 use Rattle.batch_run.specs.declared.watcher.Report.TheVariants.{Begun, Gathered, Answered}
 use Rattle.station.specs.Opened.{setup_of}
 
--- The counts of a diffusion over a graph from a source are those that `gather` reports with some labels, whatever the plan and the order: some events, counted in full, lead from
+-- The counts of a diffusion over a graph from a source are those that `gather` reports with some labels, in the shards and the order that the settings choose: some events, counted in full, lead from
 -- its opening to a state that has ended and is quiet; each counter is the lesser of its total and its top, full exactly where a total reaches that, and all totals are
 -- the same.
-pub record IsAccount {V : Type 0} (A : Algebra V) (g : GraphData) (source : ℕ) (tally : Tally) : Type 0 where
+pub record IsAccount {V : Type 0} (A : Algebra V) (how : Settings) (g : GraphData) (source : ℕ) (tally : Tally) : Type 0 where
   pub plan : PlanData
-  pub order : QueueOrder
+  pub cut : IsCut how g plan
   pub labels : List (Option V)
-  pub gathered : IsGathered (λ (B : Algebra V). B) (setup_of A g source plan order) (record { labels = labels; tally = tally })
+  pub gathered : IsGathered (λ (B : Algebra V). B) (setup_of A g source plan (order_of how)) (record { labels = labels; tally = tally })
 
 -- what is due to be reported: that the batch begins, with so many questions and diffusions; that a question's diffusion from a source was gathered; or that so
 -- many questions are answered
@@ -37,10 +37,10 @@ pub data Due : Type 0 where
   Progress : (questions : ℕ) → Due
 
 -- the report is the one that is due; one of a diffusion that was gathered has its counts
-abbrev pub IsReportOf : {V : Type 0} → Algebra V → GraphData → Due → Report → Type 0
-IsReportOf A g (Beginning n d) r = r ≡ Begun n d
-IsReportOf A g (Account k s) r = (tally : Tally) × IsAccount A g s tally × (r ≡ Gathered k s tally)
-IsReportOf A g (Progress n) r = r ≡ Answered n
+abbrev pub IsReportOf : {V : Type 0} → Algebra V → Settings → GraphData → Due → Report → Type 0
+IsReportOf A how g (Beginning n d) r = r ≡ Begun n d
+IsReportOf A how g (Account k s) r = (tally : Tally) × IsAccount A how g s tally × (r ≡ Gathered k s tally)
+IsReportOf A how g (Progress n) r = r ≡ Answered n
 
 -- the sources from which a question is answered by diffusions: none with the plain solver
 abbrev pub diffused : Bool → Question → List ℕ
@@ -74,29 +74,29 @@ FollowsReports may_become old [] new = new ≡ old
 FollowsReports {S} may_become old (r ∷ rs) new = (next : S) × may_become old r next × FollowsReports may_become next rs new
 
 -- what is due was reported to a watcher, in order, and nothing else
-pub record Reported {V S : Type 0} (A : Algebra V) (g : GraphData) (may_become : S → Report → S → Type 0) (due : List Due) (old new : S) : Type 0 where
+pub record Reported {V S : Type 0} (A : Algebra V) (how : Settings) (g : GraphData) (may_become : S → Report → S → Type 0) (due : List Due) (old new : S) : Type 0 where
   pub reports : List Report
-  pub are_due : AllZip (IsReportOf A g) due reports
+  pub are_due : AllZip (IsReportOf A how g) due reports
   pub told : FollowsReports may_become old reports new
 
 -- a prefix of what is due was
-pub record ReportedPrefix {V S : Type 0} (A : Algebra V) (g : GraphData) (may_become : S → Report → S → Type 0) (due : List Due) (old new : S) : Type 0 where
+pub record ReportedPrefix {V S : Type 0} (A : Algebra V) (how : Settings) (g : GraphData) (may_become : S → Report → S → Type 0) (due : List Due) (old new : S) : Type 0 where
   pub prefix : List Due
   pub rest : List Due
   pub due_is : due ≡ prefix ++ rest
-  pub reported : Reported A g may_become prefix old new
+  pub reported : Reported A how g may_become prefix old new
 
 -- all that is due was reported, or before a fault a prefix of it
-abbrev pub ReportedAllOrPrefix : {V S T E : Type 0} (A : Algebra V) (g : GraphData) (may_become : S → Report → S → Type 0) (due : List Due) (old new : S) → Result T E → Type 0
-ReportedAllOrPrefix A g may_become due old new (Ok _) = Reported A g may_become due old new
-ReportedAllOrPrefix A g may_become due old new (Err _) = ReportedPrefix A g may_become due old new
+abbrev pub ReportedAllOrPrefix : {V S T E : Type 0} (A : Algebra V) (how : Settings) (g : GraphData) (may_become : S → Report → S → Type 0) (due : List Due) (old new : S) → Result T E → Type 0
+ReportedAllOrPrefix A how g may_become due old new (Ok _) = Reported A how g may_become due old new
+ReportedAllOrPrefix A how g may_become due old new (Err _) = ReportedPrefix A how g may_become due old new
 
 -- all that is due of what was read was reported
-pub record ReportedAll {V S : Type 0} (A : Algebra V) (plain : Bool) (IsRead : GraphData → Asked → Type 0) (may_become : S → Report → S → Type 0) (old new : S) : Type 0 where
+pub record ReportedAll {V S : Type 0} (A : Algebra V) (how : Settings) (plain : Bool) (IsRead : GraphData → Asked → Type 0) (may_become : S → Report → S → Type 0) (old new : S) : Type 0 where
   pub graph : GraphData
   pub asked : Asked
   pub read : IsRead graph asked
-  pub reported : Reported A graph may_become (batch_due plain asked.questions) old new
+  pub reported : Reported A how graph may_become (batch_due plain asked.questions) old new
 
 -- what a report says was written, before: that a batch begins, the header; that so many questions are answered, their answers too, each whole
 abbrev pub IsWritten : {V W : Type 0} → Algebra V → GraphData → Asked → Output W → Output W → Due → Type 0
@@ -105,23 +105,23 @@ IsWritten A g asked out out_after (Account k s) = Unit {0}
 IsWritten A g asked out out_after (Progress n) = WroteAtLeast A g asked n out out_after
 
 -- a prefix of what is due of a batch was reported, and what it says was written
-pub record ReportedWritten {V S W : Type 0} (A : Algebra V) (g : GraphData) (asked : Asked) (plain : Bool) (may_become : S → Report → S → Type 0) (old new : S) (out out_after : Output W) : Type 0 where
-  pub reported : ReportedPrefix A g may_become (batch_due plain asked.questions) old new
+pub record ReportedWritten {V S W : Type 0} (A : Algebra V) (how : Settings) (g : GraphData) (asked : Asked) (plain : Bool) (may_become : S → Report → S → Type 0) (old new : S) (out out_after : Output W) : Type 0 where
+  pub reported : ReportedPrefix A how g may_become (batch_due plain asked.questions) old new
   pub written : AllByRecursion (IsWritten A g asked out out_after) reported.prefix
 
 -- so it was with a prefix of what is due of what was read
-pub record ReportedFirst {V S W : Type 0} (A : Algebra V) (plain : Bool) (IsRead : GraphData → Asked → Type 0) (may_become : S → Report → S → Type 0) (old new : S) (out out_after : Output W) : Type 0 where
+pub record ReportedFirst {V S W : Type 0} (A : Algebra V) (how : Settings) (plain : Bool) (IsRead : GraphData → Asked → Type 0) (may_become : S → Report → S → Type 0) (old new : S) (out out_after : Output W) : Type 0 where
   pub graph : GraphData
   pub asked : Asked
   pub read : IsRead graph asked
-  pub reported : ReportedWritten A graph asked plain may_become old new out out_after
+  pub reported : ReportedWritten A how graph asked plain may_become old new out out_after
 
 -- what a batch over what was read reported to a watcher, which went from the one state to the other, while the output took bytes
 pub record Watched {V S W : Type 0} (A : Algebra V) (how : Settings) (IsRead : GraphData → Asked → Type 0) (may_become : S → Report → S → Type 0) (old new : S) (out out_after : Output W) (outcome : Result (Unit {0}) RunFault) : Type 0 where
   -- on success all that is due was reported, in order, and nothing else
-  pub all : OnOk outcome (ReportedAll A (without_diffusions how) IsRead may_become old new)
+  pub all : OnOk outcome (ReportedAll A how (without_diffusions how) IsRead may_become old new)
   -- before a fault of the run a prefix of it was, and each question that it reports as answered has its answer in the output, whole
-  pub first : IfErr outcome (λ f. f.file ≡ NoFile → f.number ≢ 43 → ReportedFirst A (without_diffusions how) IsRead may_become old new out out_after)
+  pub first : IfErr outcome (λ f. f.file ≡ NoFile → f.number ≢ 43 → ReportedFirst A how (without_diffusions how) IsRead may_become old new out out_after)
   -- before a fault of an input nothing was
   pub nothing : IfErr outcome (λ f. f.file ≢ NoFile → new ≡ old)
   -- nor before one of a setting

@@ -4,6 +4,7 @@ use Rattle.road_graph.specs.GraphData.{GraphData}
 use Rattle.road_files.specs.Asked.{Asked}
 use Rattle.path_algebra.specs.declared.algebra.PathAlgebra.{Ghosts}
 use Rattle.path_algebra.specs.Algebra.{Algebra}
+use Rattle.batch_run.specs.declared.settings.Settings.{Settings}
 use Rattle.batch_run.specs.Diffusions.{AreNext, sources_to_come}
 use Rattle.question_solvers.specs.Solvers.{IsFactorReady, IsPlainReady, last_by_factors, last_of_plain}
 use Rattle.question_solvers.specs.declared.solved.Solved.{Solved}
@@ -12,9 +13,9 @@ use Rattle.batch_run.specs.declared.solve.Solver.TheVariants.{Plain, Factors, Wo
 use Rattle.batch_run.specs.declared.solve.workers.WorkerSolver.{WorkerSolver}
 
 -- the workers': what waits was gathered, and goes on with the question at this place
-pub record IsWorkerReady {V : Type 0} (A : Algebra V) (asked : Asked) (i : ℕ) (s : WorkerSolver V) : Type 0 where
+pub record IsWorkerReady {V : Type 0} (A : Algebra V) (how : Settings) (asked : Asked) (i : ℕ) (s : WorkerSolver V) : Type 0 where
   pub some : IsSome s.queue
-  pub next : IfSome s.queue (AreNext A s.graph (sources_to_come asked.questions i 0))
+  pub next : IfSome s.queue (AreNext A how s.graph (sources_to_come asked.questions i 0))
 
 -- the graph over which it solves
 abbrev pub graph_of : {S V : Type 0} {G : Ghosts S V} → Solver S V G → GraphData
@@ -34,11 +35,11 @@ last_of (Plain s) = last_of_plain s
 last_of (Factors s) = last_by_factors s.last s.plain
 last_of (Workers s) = s.last
 
--- what it holds is right for this algebra, of this meaning, and question list, and the question at this place is the next one
-abbrev pub IsReady : {S V : Type 0} {G : Ghosts S V} → (S → Algebra V) → S → Asked → ℕ → Solver S V G → Type 0
-IsReady meaning algebra asked i (Plain s) = IsPlainReady meaning algebra asked s
-IsReady meaning algebra asked i (Factors s) = IsFactorReady meaning algebra asked s
-IsReady meaning algebra asked i (Workers s) = IsWorkerReady (meaning algebra) asked i s
+-- what it holds is right for this algebra, of this meaning, these settings and question list, and the question at this place is the next one
+abbrev pub IsReady : {S V : Type 0} {G : Ghosts S V} → (S → Algebra V) → S → Settings → Asked → ℕ → Solver S V G → Type 0
+IsReady meaning algebra how asked i (Plain s) = IsPlainReady meaning algebra asked s
+IsReady meaning algebra how asked i (Factors s) = IsFactorReady meaning algebra asked s
+IsReady meaning algebra how asked i (Workers s) = IsWorkerReady (meaning algebra) how asked i s
 
 -- it is of one kind, over one graph, from the one moment to the other
 pub record IsSameSolver {S V : Type 0} {G : Ghosts S V} (old new : Solver S V G) : Type 0 where

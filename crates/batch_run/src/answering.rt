@@ -28,10 +28,10 @@ fn answer_next<A: PathAlgebra, W: RoadWrite, R: Threads + Wait + Sync, T: Gate, 
 ) -> Result<(), Cause>
     requires place { i < length (asked_of batch.now.questions.now).questions }
     requires within { AreQuestionsOf (graph_of solver.old).vertices batch.now.questions.now }
-    requires ready { IsReady A.meaning batch.now.algebra (asked_of batch.now.questions.now) i
+    requires ready { IsReady A.meaning batch.now.algebra batch.now.run.now.settings.now (asked_of batch.now.questions.now) i
         solver.old }
     ensures same { IsSameSolver solver.old solver.new }
-    ensures ready { OnOk result (IsReady A.meaning batch.now.algebra
+    ensures ready { OnOk result (IsReady A.meaning batch.now.algebra batch.now.run.now.settings.now
         (asked_of batch.now.questions.now) (i + 1) solver.new) }
     ensures wrote { (default : Question) → WroteNext (A.meaning batch.now.algebra)
         (graph_of solver.old) (slice_index_or (asked_of batch.now.questions.now).questions i
@@ -39,11 +39,11 @@ fn answer_next<A: PathAlgebra, W: RoadWrite, R: Threads + Wait + Sync, T: Gate, 
     ensures kind { IfErr result (MayStop (is_plain solver.old)
         batch.now.run.now.settings.now (T.may_answer batch.now.run.now.gate.now)) }
     ensures reported { OnOk result ((default : Question) → Reported (A.meaning batch.now.algebra)
-        (graph_of solver.old) O.may_become (question_due (is_plain solver.old) (i + 1)
+        batch.now.run.now.settings.now (graph_of solver.old) O.may_become (question_due (is_plain solver.old) (i + 1)
         (slice_index_or (asked_of batch.now.questions.now).questions i default)) watcher.old
         watcher.new) }
     ensures unreported { OnErr result ((default : Question) →
-        ReportedPrefix (A.meaning batch.now.algebra) (graph_of solver.old) O.may_become
+        ReportedPrefix (A.meaning batch.now.algebra) batch.now.run.now.settings.now (graph_of solver.old) O.may_become
         (accounts_due (is_plain solver.old) (i + 1)
         (slice_index_or (asked_of batch.now.questions.now).questions i default)) watcher.old
         watcher.new) }
@@ -68,10 +68,10 @@ pub fn answer_all<A: PathAlgebra, W: RoadWrite, R: Threads + Wait + Sync, T: Gat
         (asked_of batch.now.questions.now) (MayStop (is_plain solver.old)
         batch.now.run.now.settings.now (T.may_answer batch.now.run.now.gate.now))
         (W.seen out.old) (W.seen out.new) result }
-    ensures all { OnOk result (Reported (A.meaning batch.now.algebra) (graph_of solver.old)
+    ensures all { OnOk result (Reported (A.meaning batch.now.algebra) batch.now.run.now.settings.now (graph_of solver.old)
         O.may_become (batch_due (is_plain solver.old) (asked_of batch.now.questions.now).questions)
         watcher.old watcher.new) }
-    ensures reported { ReportedWritten (A.meaning batch.now.algebra) (graph_of solver.old)
+    ensures reported { ReportedWritten (A.meaning batch.now.algebra) batch.now.run.now.settings.now (graph_of solver.old)
         (asked_of batch.now.questions.now) (is_plain solver.old) O.may_become watcher.old
         watcher.new (W.seen out.old) (W.seen out.new) }
 {

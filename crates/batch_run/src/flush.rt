@@ -73,10 +73,10 @@ pub(crate) fn answer_and_flush<
         (W.seen out.old).failures + 1) }
     ensures flushed { IfErr result (λ cause. cause ≢ Cause.Write → IsPassedOn (W.seen out.new).held
         (W.seen out.old).failures (W.seen out.new).failures) }
-    ensures all { OnOk result (Reported (A.meaning batch.now.algebra) (graph_of solver.old)
+    ensures all { OnOk result (Reported (A.meaning batch.now.algebra) batch.now.run.now.settings.now (graph_of solver.old)
         O.may_become (batch_due (is_plain solver.old) (asked_of batch.now.questions.now).questions)
         watcher.old watcher.new) }
-    ensures reported { ReportedWritten (A.meaning batch.now.algebra) (graph_of solver.old)
+    ensures reported { ReportedWritten (A.meaning batch.now.algebra) batch.now.run.now.settings.now (graph_of solver.old)
         (asked_of batch.now.questions.now) (is_plain solver.old) O.may_become watcher.old
         watcher.new (W.seen out.old) (W.seen out.new) }
 {

@@ -3,6 +3,7 @@ ghost use Rattle.std.specs.Prelude.{◌≡◌, ◌+◌, ◌<◌, true, length, s
 ghost use Rattle.road_graph.specs.GraphData.{IsGraph};
 ghost use Rattle.road_files.specs.Asked.{AreQuestionsOf, Question, asked_of};
 ghost use Rattle.worker_fleet.specs.Stops.{Says};
+ghost use Rattle.batch_run.specs.Stopping.{Stops};
 ghost use Rattle.batch_run.specs.Reports.{ReportedAllOrPrefix, accounts_due};
 ghost use Rattle.question_solvers.specs.Solved.{IsSolvedFor};
 ghost use Rattle.batch_run.specs.Solvers.{IsReady, IsSameSolver, graph_of, is_plain, last_of};
@@ -91,7 +92,7 @@ pub(crate) fn start<A: PathAlgebra, R, T>(
     solver: &mut Solver<A>,
 ) -> Result<(), Memory>
     ensures same { IsSameSolver solver.old solver.new }
-    ensures ready { OnOk result (IsReady A.meaning batch.now.algebra
+    ensures ready { OnOk result (IsReady A.meaning batch.now.algebra batch.now.run.now.settings.now
         (asked_of batch.now.questions.now) 0 solver.new) }
 {
     match solver {
@@ -110,19 +111,21 @@ pub(crate) fn solve_next<A: PathAlgebra, R: Threads + Wait + Sync, T: Gate, O: W
 ) -> Result<(), GroupFault>
     requires place { i < length (asked_of batch.now.questions.now).questions }
     requires within { AreQuestionsOf (graph_of solver.old).vertices batch.now.questions.now }
-    requires ready { IsReady A.meaning batch.now.algebra (asked_of batch.now.questions.now) i
+    requires ready { IsReady A.meaning batch.now.algebra batch.now.run.now.settings.now (asked_of batch.now.questions.now) i
         solver.old }
     ensures same { IsSameSolver solver.old solver.new }
-    ensures ready { OnOk result (IsReady A.meaning batch.now.algebra
+    ensures ready { OnOk result (IsReady A.meaning batch.now.algebra batch.now.run.now.settings.now
         (asked_of batch.now.questions.now) (i + 1) solver.new) }
     ensures some { OnOk result (IsSome (last_of solver.new)) }
     ensures solved { OnOk result (IfSome (last_of solver.new) (IsSolvedFor
         (A.meaning batch.now.algebra) (graph_of solver.old) (asked_of batch.now.questions.now) i)) }
     ensures plain { is_plain solver.old ≡ true → IfErr result (λ f. f ≡ GroupFault.Memory) }
+    ensures stops { IfErr result (Stops A.meaning batch.now.algebra (graph_of solver.old)
+        batch.now.run.now.settings.now (T.may_answer batch.now.run.now.gate.now)) }
     ensures says { IfErr result (Says (T.may_answer batch.now.run.now.gate.now)
         batch.now.run.now.settings.now.workers batch.now.run.now.settings.now.turns) }
     ensures reported { (default : Question) → ReportedAllOrPrefix (A.meaning batch.now.algebra)
-        (graph_of solver.old) O.may_become (accounts_due (is_plain solver.old) (i + 1)
+        batch.now.run.now.settings.now (graph_of solver.old) O.may_become (accounts_due (is_plain solver.old) (i + 1)
         (slice_index_or (asked_of batch.now.questions.now).questions i default)) watcher.old
         watcher.new result }
 {

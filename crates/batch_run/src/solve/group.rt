@@ -1,9 +1,10 @@
 //! Diffusions that are run together, on threads, to their end, and gathered.
-ghost use Rattle.std.specs.Prelude.{◌≡◌, ℕ, ◌<◌, [], ◌∷◌, ◌++◌, length, get_or, IfOk, IfErr, vec_len};
+ghost use Rattle.std.specs.Prelude.{◌≡◌, ℕ, ◌<◌, ◌≤◌, [], ◌∷◌, ◌++◌, length, get_or, IfOk, IfErr, vec_len};
 ghost use Rattle.std.specs.List.{All};
 ghost use Rattle.road_graph.specs.GraphData.{HasVertex};
 ghost use Rattle.station.specs.Opened.{AreOpened, setup_of};
-ghost use Rattle.worker_fleet.specs.Stops.{Says};
+ghost use Rattle.batch_run.specs.Stopping.{Stops};
+ghost use Rattle.batch_run.specs.Cut.{IsCut};
 ghost use Rattle.batch_run.specs.Diffusions.{IsEnded, IsGatheredOver, IsPlanOf, sources_in_order};
 
 use crate::batch::BatchOver;
@@ -97,19 +98,19 @@ fn take_last<'g, A: PathAlgebra>(
 }
 
 /// What an ended diffusion came to.
-fn gathered_from<'g, A: PathAlgebra>(
-    alloc: Global,
-    algebra: A,
-    graph: &'g Graph,
-    plan: &'g Plan,
+fn gathered_from<'g, A: PathAlgebra, R, T>(
+    batch: &BatchOver<'_, A, Graph, R, T>,
+    plan: &Plan,
     ended: EndedDiffusion<'g, A>,
 ) -> Result<GatheredDiffusion<A::Value>, AllocError>
-    requires { IsEnded algebra graph.now plan.now ended }
-    ensures gathered { IfOk result (IsGatheredOver (A.meaning algebra) graph.now) }
+    requires plan { IsCut batch.now.run.now.settings.now batch.now.graph.now plan.now }
+    requires ended { IsEnded batch.now.algebra batch.now.run.now.settings.now batch.now.graph.now plan.now ended }
+    ensures gathered { IfOk result (IsGatheredOver (A.meaning batch.now.algebra)
+        batch.now.run.now.settings.now batch.now.graph.now) }
     ensures source { IfOk result (λ d. d.source ≡ ended.entry.source) }
 {
     let source = ended.source;
-    let gathered = gather_ended(alloc, ended)?;
+    let gathered = gather_ended(batch.run.alloc, ended)?;
     let Gathered { labels, tally } = gathered;
     Ok(GatheredDiffusion {
         source,
@@ -124,13 +125,12 @@ pub(crate) fn run_together<A: PathAlgebra, R: Threads + Wait, T: Gate>(
     plan: &Plan,
     sources: &[Vertex],
 ) -> Result<Vec<GatheredDiffusion<A::Value>>, GroupFault>
-    requires plan { IsPlanOf batch.now.graph.now plan.now }
+    requires plan { IsCut batch.now.run.now.settings.now batch.now.graph.now plan.now }
     requires sources { All (HasVertex batch.now.graph.now) sources.now }
-    ensures gathered { IfOk result (λ v. All (IsGatheredOver (A.meaning batch.now.algebra)
-        batch.now.graph.now) v.items) }
+    requires width { length sources.now ≤ batch.now.run.now.settings.now.width }
+    ensures gathered { IfOk result (λ v. All (IsGatheredOver (A.meaning batch.now.algebra) batch.now.run.now.settings.now batch.now.graph.now) v.items) }
     ensures sources { IfOk result (λ v. sources_in_order v.items ≡ sources.now) }
-    ensures says { IfErr result (Says (T.may_answer batch.now.run.now.gate.now)
-        batch.now.run.now.settings.now.workers batch.now.run.now.settings.now.turns) }
+    ensures stops { IfErr result (Stops A.meaning batch.now.algebra batch.now.graph.now batch.now.run.now.settings.now (T.may_answer batch.now.run.now.gate.now)) }
 {
     let (alloc, settings) = (batch.run.alloc, batch.run.settings);
     let (algebra, graph) = (batch.algebra, batch.graph);
@@ -150,7 +150,7 @@ pub(crate) fn run_together<A: PathAlgebra, R: Threads + Wait, T: Gate>(
     for k in 0..sources.len() {
         let source = sources[sources.len() - 1 - k];
         let last = take_last(&mut floors, &mut lists, source);
-        let next = gathered_from(alloc, algebra, graph, plan, last)?;
+        let next = gathered_from(batch, plan, last)?;
         match gathered.push(next) {
             Ok(()) => {}
             Err(_) => return Err(GroupFault::Memory),

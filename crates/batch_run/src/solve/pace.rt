@@ -1,4 +1,7 @@
 //! How the parts of a diffusion take their items.
+ghost use Rattle.std.specs.Prelude.{◌≡◌};
+ghost use Rattle.batch_run.specs.Cut.{order_of};
+
 use crate::settings::Settings;
 use road_graph::{ArcNo, Graph};
 use shard_part::QueueOrder;
@@ -12,7 +15,9 @@ pub(crate) struct Pace {
 
 impl Pace {
     /// The pace that settings ask for. Best first, a shard may run ahead by the mean weight of the arcs, unless they say by what.
-    pub(crate) fn of(settings: &Settings, graph: &Graph) -> Pace {
+    pub(crate) fn of(settings: &Settings, graph: &Graph) -> Pace
+        ensures { result.order ≡ order_of settings.now }
+    {
         let ahead = match settings.ahead {
             _ if !settings.best_first => None,
             Some(ahead) => Some(ahead),

@@ -3,7 +3,7 @@ ghost use Rattle.std.specs.Prelude.{◌≡◌, ◌+◌, ◌<◌, [], ◌∷◌, 
 ghost use Rattle.road_graph.specs.GraphData.{HasVertex};
 ghost use Rattle.path_algebra.specs.Walks.{AreBest};
 ghost use Rattle.road_files.specs.Asked.{AreQuestionsOf, Question, asked_of, sources_of};
-ghost use Rattle.worker_fleet.specs.Stops.{Says};
+ghost use Rattle.batch_run.specs.Stopping.{Stops};
 ghost use Rattle.batch_run.specs.Diffusions.{AreNext, sources_to_come};
 ghost use Rattle.batch_run.specs.Reports.{ReportedAllOrPrefix, accounts_due};
 ghost use Rattle.question_solvers.specs.Solved.{IsAnswerBetween, IsSolvedFor};
@@ -88,16 +88,15 @@ fn solve_by_workers<A: PathAlgebra, R: Threads + Wait, T: Gate, O: Watcher>(
     watcher: &mut O,
 ) -> Result<Solved<A::Value>, GroupFault>
     requires place { i < length (asked_of batch.now.questions.now).questions }
-    requires ready { AreNext (A.meaning batch.now.algebra) batch.now.graph.now
+    requires ready { AreNext (A.meaning batch.now.algebra) batch.now.run.now.settings.now batch.now.graph.now
         (sources_to_come (asked_of batch.now.questions.now).questions i 0) queue.old }
     ensures solved { IfOk result (IsSolvedFor (A.meaning batch.now.algebra) batch.now.graph.now
         (asked_of batch.now.questions.now) i) }
-    ensures ready { OnOk result (AreNext (A.meaning batch.now.algebra) batch.now.graph.now
+    ensures ready { OnOk result (AreNext (A.meaning batch.now.algebra) batch.now.run.now.settings.now batch.now.graph.now
         (sources_to_come (asked_of batch.now.questions.now).questions (i + 1) 0) queue.new) }
-    ensures says { IfErr result (Says (T.may_answer batch.now.run.now.gate.now)
-        batch.now.run.now.settings.now.workers batch.now.run.now.settings.now.turns) }
+    ensures stops { IfErr result (Stops A.meaning batch.now.algebra batch.now.graph.now batch.now.run.now.settings.now (T.may_answer batch.now.run.now.gate.now)) }
     ensures reported { (default : Question) → ReportedAllOrPrefix (A.meaning batch.now.algebra)
-        batch.now.graph.now O.may_become (accounts_due false (i + 1)
+        batch.now.run.now.settings.now batch.now.graph.now O.may_become (accounts_due false (i + 1)
         (slice_index_or (asked_of batch.now.questions.now).questions i default)) watcher.old
         watcher.new result }
 {
@@ -128,7 +127,7 @@ pub(crate) fn start_workers<A: PathAlgebra, R, T>(
     solver: &mut WorkerSolver<A::Value>,
 ) -> Result<(), Memory>
     ensures graph { solver.new.graph ≡ solver.old.graph }
-    ensures ready { OnOk result (IsWorkerReady (A.meaning batch.now.algebra)
+    ensures ready { OnOk result (IsWorkerReady (A.meaning batch.now.algebra) batch.now.run.now.settings.now
         (asked_of batch.now.questions.now) 0 solver.new) }
 {
     let (alloc, shards) = (batch.run.alloc, batch.run.settings.shards as u8);
@@ -149,18 +148,17 @@ pub(crate) fn solve_next_by_workers<A: PathAlgebra, R: Threads + Wait, T: Gate, 
 ) -> Result<(), GroupFault>
     requires place { i < length (asked_of batch.now.questions.now).questions }
     requires within { AreQuestionsOf solver.old.graph.vertices batch.now.questions.now }
-    requires ready { IsWorkerReady (A.meaning batch.now.algebra)
+    requires ready { IsWorkerReady (A.meaning batch.now.algebra) batch.now.run.now.settings.now
         (asked_of batch.now.questions.now) i solver.old }
     ensures graph { solver.new.graph ≡ solver.old.graph }
-    ensures ready { OnOk result (IsWorkerReady (A.meaning batch.now.algebra)
+    ensures ready { OnOk result (IsWorkerReady (A.meaning batch.now.algebra) batch.now.run.now.settings.now
         (asked_of batch.now.questions.now) (i + 1) solver.new) }
     ensures some { OnOk result (IsSome solver.new.last) }
     ensures solved { OnOk result (IfSome solver.new.last (IsSolvedFor (A.meaning batch.now.algebra)
         solver.old.graph (asked_of batch.now.questions.now) i)) }
-    ensures says { IfErr result (Says (T.may_answer batch.now.run.now.gate.now)
-        batch.now.run.now.settings.now.workers batch.now.run.now.settings.now.turns) }
+    ensures stops { IfErr result (Stops A.meaning batch.now.algebra solver.old.graph batch.now.run.now.settings.now (T.may_answer batch.now.run.now.gate.now)) }
     ensures reported { (default : Question) → ReportedAllOrPrefix (A.meaning batch.now.algebra)
-        solver.old.graph O.may_become (accounts_due false (i + 1)
+        batch.now.run.now.settings.now solver.old.graph O.may_become (accounts_due false (i + 1)
         (slice_index_or (asked_of batch.now.questions.now).questions i default)) watcher.old
         watcher.new result }
 {

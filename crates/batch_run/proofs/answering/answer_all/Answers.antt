@@ -22,7 +22,7 @@ returns-in_err-begin-clause-answered g c =
     (MayStop (is_plain c.args.solver.now) c.args.batch.now.run.now.settings.now (g.T.Gate.may_answer c.args.batch.now.run.now.gate.now)) _ _ fault.0 fault.2 (rw fault.2 tt) c.in_err-begin.ensures.wrote)
 
 pub returns-in_err-begin-clause-reported : goal.returns-in_err-begin-clause-reported
-returns-in_err-begin-clause-reported g c = unreported (g.A.PathAlgebra.meaning c.args.batch.now.algebra) (graph_of c.args.solver.now) (asked_of c.args.batch.now.questions.now) (is_plain c.args.solver.now) g.O.Watcher.may_become _ _ _ _ c.in_err-begin.ensures.unreported
+returns-in_err-begin-clause-reported g c = unreported (g.A.PathAlgebra.meaning c.args.batch.now.algebra) (graph_of c.args.solver.now) (asked_of c.args.batch.now.questions.now) c.args.batch.now.run.now.settings.now (is_plain c.args.solver.now) g.O.Watcher.may_become _ _ _ _ c.in_err-begin.ensures.unreported
 
 pub returns-in_err-start-clause-answered : goal.returns-in_err-start-clause-answered
 returns-in_err-start-clause-answered g c =
@@ -32,8 +32,8 @@ returns-in_err-start-clause-answered g c =
     (start (g.A.PathAlgebra.meaning c.args.batch.now.algebra) (graph_of c.args.solver.now) (asked_of c.args.batch.now.questions.now) _ _ c.in_ok-begin.ensures.wrote))
 
 pub returns-in_err-start-clause-reported : goal.returns-in_err-start-clause-reported
-returns-in_err-start-clause-reported g c = reported_first (g.A.PathAlgebra.meaning c.args.batch.now.algebra) (graph_of c.args.solver.now) (asked_of c.args.batch.now.questions.now) (is_plain c.args.solver.now) g.O.Watcher.may_become _ _ _ 0 _
-    (reports_begun (g.A.PathAlgebra.meaning c.args.batch.now.algebra) (graph_of c.args.solver.now) g.O.Watcher.may_become (is_plain c.args.solver.now) (asked_of c.args.batch.now.questions.now).questions _ _ _ _ refl (ap (λ b. count_diffusions b (asked_of c.args.batch.now.questions.now).questions) c.is_plain-plain.ensures) c.in_ok-begin.ensures.reported)
+returns-in_err-start-clause-reported g c = reported_first (g.A.PathAlgebra.meaning c.args.batch.now.algebra) (graph_of c.args.solver.now) (asked_of c.args.batch.now.questions.now) c.args.batch.now.run.now.settings.now (is_plain c.args.solver.now) g.O.Watcher.may_become _ _ _ 0 _
+    (reports_begun (g.A.PathAlgebra.meaning c.args.batch.now.algebra) c.args.batch.now.run.now.settings.now (graph_of c.args.solver.now) g.O.Watcher.may_become (is_plain c.args.solver.now) (asked_of c.args.batch.now.questions.now).questions _ _ _ _ refl (ap (λ b. count_diffusions b (asked_of c.args.batch.now.questions.now).questions) c.is_plain-plain.ensures) c.in_ok-begin.ensures.reported)
     (at_least (g.A.PathAlgebra.meaning c.args.batch.now.algebra) (graph_of c.args.solver.now) (asked_of c.args.batch.now.questions.now) 0 _ _ (start (g.A.PathAlgebra.meaning c.args.batch.now.algebra) (graph_of c.args.solver.now) (asked_of c.args.batch.now.questions.now) _ _ c.in_ok-begin.ensures.wrote), tt)
 
 pub answer_next-requires-clause-within : goal.answer_next-requires-clause-within
@@ -46,7 +46,7 @@ loop-i-init g c =
       progress = first;
       ready = c.in_ok-start.ensures.ready;
       same = c.in_ok-start.ensures.same;
-      reported = reports_begun (g.A.PathAlgebra.meaning c.args.batch.now.algebra) (graph_of c.args.solver.now) g.O.Watcher.may_become (is_plain c.args.solver.now) (asked_of c.args.batch.now.questions.now).questions _ _ _ _ refl
+      reported = reports_begun (g.A.PathAlgebra.meaning c.args.batch.now.algebra) c.args.batch.now.run.now.settings.now (graph_of c.args.solver.now) g.O.Watcher.may_become (is_plain c.args.solver.now) (asked_of c.args.batch.now.questions.now).questions _ _ _ _ refl
           (ap (λ b. count_diffusions b (asked_of c.args.batch.now.questions.now).questions) c.is_plain-plain.ensures) c.in_ok-begin.ensures.reported;
       written = (at_least (g.A.PathAlgebra.meaning c.args.batch.now.algebra) (graph_of c.args.solver.now) (asked_of c.args.batch.now.questions.now) 0 _ _ first, tt);
     }
@@ -62,7 +62,7 @@ loop-i-preserved g c =
       progress = progress;
       ready = next.ready;
       same = record { graph = next.same.graph ∙ was.same.graph; kind = next.same.kind ∙ was.same.kind };
-      reported = reports_answered (g.A.PathAlgebra.meaning c.args.batch.now.algebra) (graph_of c.args.solver.now) g.O.Watcher.may_become (is_plain c.args.solver.now)
+      reported = reports_answered (g.A.PathAlgebra.meaning c.args.batch.now.algebra) c.args.batch.now.run.now.settings.now (graph_of c.args.solver.now) g.O.Watcher.may_become (is_plain c.args.solver.now)
           (asked_of c.args.batch.now.questions.now).questions c.loop-i.i (c.loop-i.i + 1) (FromSource 0) (search rules) refl _ _ was.reported _
           (rw (was.same.graph, was.same.kind) at (next.reported (FromSource 0)));
       written = written_next (g.A.PathAlgebra.meaning c.args.batch.now.algebra) (graph_of c.args.solver.now) (asked_of c.args.batch.now.questions.now) (is_plain c.args.solver.now) c.loop-i.i (FromSource 0) _ _ _ (answer_text wrote.0) (search rules) wrote.2 progress was.written;
@@ -88,7 +88,7 @@ pub returns-in_err-answer_next-clause-reported : goal.returns-in_err-answer_next
 returns-in_err-answer_next-clause-reported g c =
     let was = c.loop-i.invariant in
     let next = c.in_err-answer_next.ensures in
-    reported_within (g.A.PathAlgebra.meaning c.args.batch.now.algebra) (graph_of c.args.solver.now) (asked_of c.args.batch.now.questions.now) (is_plain c.args.solver.now) g.O.Watcher.may_become _ _ _ c.loop-i.i _ was.reported
+    reported_within (g.A.PathAlgebra.meaning c.args.batch.now.algebra) (graph_of c.args.solver.now) (asked_of c.args.batch.now.questions.now) c.args.batch.now.run.now.settings.now (is_plain c.args.solver.now) g.O.Watcher.may_become _ _ _ c.loop-i.i _ was.reported
     (written_still (g.A.PathAlgebra.meaning c.args.batch.now.algebra) (graph_of c.args.solver.now) (asked_of c.args.batch.now.questions.now) (get_or (asked_of c.args.batch.now.questions.now).questions c.loop-i.i (FromSource 0)) _ _ _ c.in_err-answer_next.field-0.0
     (due_first (is_plain c.args.solver.now) (asked_of c.args.batch.now.questions.now).questions c.loop-i.i)
     (subst (λ (r : GraphData). WroteNext (g.A.PathAlgebra.meaning c.args.batch.now.algebra) r (get_or (asked_of c.args.batch.now.questions.now).questions c.loop-i.i (FromSource 0))
@@ -99,7 +99,7 @@ pub returns-clause-answered : goal.returns-clause-answered
 returns-clause-answered g c = all_answered (g.A.PathAlgebra.meaning c.args.batch.now.algebra) (graph_of c.args.solver.now) (asked_of c.args.batch.now.questions.now) (MayStop (is_plain c.args.solver.now) c.args.batch.now.run.now.settings.now (g.T.Gate.may_answer c.args.batch.now.run.now.gate.now)) c.loop-i.i _ _ (search rules) c.loop-i.invariant.progress
 
 pub returns-clause-all : goal.returns-clause-all
-returns-clause-all g c = reports_ended (g.A.PathAlgebra.meaning c.args.batch.now.algebra) (graph_of c.args.solver.now) g.O.Watcher.may_become (is_plain c.args.solver.now) (asked_of c.args.batch.now.questions.now).questions c.loop-i.i _ _ (search rules) c.loop-i.invariant.reported
+returns-clause-all g c = reports_ended (g.A.PathAlgebra.meaning c.args.batch.now.algebra) c.args.batch.now.run.now.settings.now (graph_of c.args.solver.now) g.O.Watcher.may_become (is_plain c.args.solver.now) (asked_of c.args.batch.now.questions.now).questions c.loop-i.i _ _ (search rules) c.loop-i.invariant.reported
 
 pub returns-clause-reported : goal.returns-clause-reported
-returns-clause-reported g c = reported_first (g.A.PathAlgebra.meaning c.args.batch.now.algebra) (graph_of c.args.solver.now) (asked_of c.args.batch.now.questions.now) (is_plain c.args.solver.now) g.O.Watcher.may_become _ _ _ c.loop-i.i _ c.loop-i.invariant.reported c.loop-i.invariant.written
+returns-clause-reported g c = reported_first (g.A.PathAlgebra.meaning c.args.batch.now.algebra) (graph_of c.args.solver.now) (asked_of c.args.batch.now.questions.now) c.args.batch.now.run.now.settings.now (is_plain c.args.solver.now) g.O.Watcher.may_become _ _ _ c.loop-i.i _ c.loop-i.invariant.reported c.loop-i.invariant.written

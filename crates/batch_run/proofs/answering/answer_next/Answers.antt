@@ -39,11 +39,11 @@ returns-in_err-answer_at-clause-wrote g c =
 pub returns-in_err-answer_at-clause-unreported : goal.returns-in_err-answer_at-clause-unreported
 returns-in_err-answer_at-clause-unreported g c =
     let fault = err_from_is_err_and c.from_residual-in_err-answer_at.result c.from_residual-in_err-answer_at.ensures.1 in
-    rw fault.1 (λ d. prefix_all (g.A.PathAlgebra.meaning c.args.batch.now.algebra) (graph_of c.args.solver.now) g.O.Watcher.may_become _ _ _ (c.in_ok-solve_next.ensures.reported d))
+    rw fault.1 (λ d. prefix_all (g.A.PathAlgebra.meaning c.args.batch.now.algebra) c.args.batch.now.run.now.settings.now (graph_of c.args.solver.now) g.O.Watcher.may_become _ _ _ (c.in_ok-solve_next.ensures.reported d))
 
 pub returns-clause-wrote : goal.returns-clause-wrote
 returns-clause-wrote g c = λ d. rw c.in_ok-solve_next.ensures.same.graph at (c.in_ok-answer_at.ensures d)
 
 pub returns-clause-reported : goal.returns-clause-reported
-returns-clause-reported g c = λ d. question_answered (g.A.PathAlgebra.meaning c.args.batch.now.algebra) (graph_of c.args.solver.now) g.O.Watcher.may_become (is_plain c.args.solver.now) (c.args.i + 1)
+returns-clause-reported g c = λ d. question_answered (g.A.PathAlgebra.meaning c.args.batch.now.algebra) c.args.batch.now.run.now.settings.now (graph_of c.args.solver.now) g.O.Watcher.may_become (is_plain c.args.solver.now) (c.args.i + 1)
     (get_or (asked_of c.args.batch.now.questions.now).questions c.args.i d) _ _ _ (c.in_ok-solve_next.ensures.reported d) c.report.ensures

@@ -47,4 +47,4 @@ pub returns-clause-all : goal.returns-clause-all
 returns-clause-all g c = after_all _ _ c.answer_all-answered.result c.flush_all.result c.answer_all-answered.ensures.all c.flush_all.ensures.passed_on
 
 pub returns-clause-reported : goal.returns-clause-reported
-returns-clause-reported g c = reported_flushed (g.A.PathAlgebra.meaning c.args.batch.now.algebra) (graph_of c.args.solver.now) (asked_of c.args.batch.now.questions.now) (is_plain c.args.solver.now) g.O.Watcher.may_become _ _ _ _ _ c.flush_all.ensures.bytes c.answer_all-answered.ensures.reported
+returns-clause-reported g c = reported_flushed (g.A.PathAlgebra.meaning c.args.batch.now.algebra) c.args.batch.now.run.now.settings.now (graph_of c.args.solver.now) (asked_of c.args.batch.now.questions.now) (is_plain c.args.solver.now) g.O.Watcher.may_become _ _ _ _ _ c.flush_all.ensures.bytes c.answer_all-answered.ensures.reported

@@ -27,7 +27,7 @@ returns-in_err-answer_and_flush g c =
           (record { text = was.text; failed = was.failed; whole = was.whole; once = was.once; flushed = was.flushed });
       read = g.met.I.BatchInput.later c.args.input.now c.read_batch.new.input (fault_of cause) refl (no_setting cause) c.in-Ok.ensures.done;
       watched = watched_first A how is_read g.O.Watcher.may_become _ _ _ _ roads asked c.in-Ok.ensures.read cause
-          (subst (λ (b : Bool). ReportedWritten A roads asked b g.O.Watcher.may_become c.args.watcher.now c.answer_and_flush.new.watcher (g.W.RoadWrite.seen c.args.out.now)
+          (subst (λ (b : Bool). ReportedWritten A how roads asked b g.O.Watcher.may_become c.args.watcher.now c.answer_and_flush.new.watcher (g.W.RoadWrite.seen c.args.out.now)
           (g.W.RoadWrite.seen c.answer_and_flush.new.out)) c.in-Ok.ensures.kind was.reported);
     })
 
@@ -46,5 +46,5 @@ returns g c =
           was.text was.passed_on was.sound;
       read = c.in-Ok.ensures.done;
       watched = watched_all A how is_read g.O.Watcher.may_become _ _ _ _ roads asked c.in-Ok.ensures.read
-          (subst (λ (b : Bool). Reported A roads g.O.Watcher.may_become (batch_due b asked.questions) c.args.watcher.now c.answer_and_flush.new.watcher) c.in-Ok.ensures.kind was.all);
+          (subst (λ (b : Bool). Reported A how roads g.O.Watcher.may_become (batch_due b asked.questions) c.args.watcher.now c.answer_and_flush.new.watcher) c.in-Ok.ensures.kind was.all);
     }

@@ -41,7 +41,7 @@ loop-j-init g c =
     record {
       best = rw first c.in_ok-labels.ensures.labels;
       ready = c.in_ok-labels.ensures.ready;
-      reported = sources_begun (g.A.PathAlgebra.meaning c.args.batch.now.algebra) c.args.batch.now.graph.now g.O.Watcher.may_become
+      reported = sources_begun (g.A.PathAlgebra.meaning c.args.batch.now.algebra) c.args.batch.now.run.now.settings.now c.args.batch.now.graph.now g.O.Watcher.may_become
           (c.args.i + 1) c.sources-sources.result.now c.index-sources-0.result _ _ first c.in_ok-labels.ensures.reported;
     }
 
@@ -51,7 +51,7 @@ loop-j-preserved g c = record {
       c.sources-sources.result.now c.loop-j.j c.index-sources-j.result c.loop-j.labels c.in_ok-other.other c.merge.new.self c.loop-j-test.true c.index-sources-j.is
       c.loop-j.invariant.best c.in_ok-other.ensures.labels c.merge.ensures.count c.merge.ensures.labels;
   ready = c.in_ok-other.ensures.ready;
-  reported = sources_more (g.A.PathAlgebra.meaning c.args.batch.now.algebra) c.args.batch.now.graph.now g.O.Watcher.may_become
+  reported = sources_more (g.A.PathAlgebra.meaning c.args.batch.now.algebra) c.args.batch.now.run.now.settings.now c.args.batch.now.graph.now g.O.Watcher.may_become
       (c.args.i + 1) c.sources-sources.result.now c.loop-j.j c.index-sources-j.result _ _ _
       c.loop-j-test.true c.index-sources-j.is c.loop-j.invariant.reported c.in_ok-other.ensures.reported;
 }
@@ -70,22 +70,22 @@ returns-clause-ready g c =
 
 pub returns-clause-reported : goal.returns-clause-reported
 returns-clause-reported g c = λ d.
-    subst (λ (xs : List ℕ). Reported (g.A.PathAlgebra.meaning c.args.batch.now.algebra) c.args.batch.now.graph.now g.O.Watcher.may_become
+    subst (λ (xs : List ℕ). Reported (g.A.PathAlgebra.meaning c.args.batch.now.algebra) c.args.batch.now.run.now.settings.now c.args.batch.now.graph.now g.O.Watcher.may_become
     (map (Account (c.args.i + 1)) xs) c.args.watcher.now c.loop-j.watcher) (c.sources-sources.ensures d)
-    (sources_ended (g.A.PathAlgebra.meaning c.args.batch.now.algebra) c.args.batch.now.graph.now g.O.Watcher.may_become
+    (sources_ended (g.A.PathAlgebra.meaning c.args.batch.now.algebra) c.args.batch.now.run.now.settings.now c.args.batch.now.graph.now g.O.Watcher.may_become
     (c.args.i + 1) c.sources-sources.result.now c.loop-j.j _ _ c.loop-j-test.false c.loop-j.invariant.reported)
 
 pub returns-in_err-other-clause-reported : goal.returns-in_err-other-clause-reported
 returns-in_err-other-clause-reported g c =
     let fault = err_from_is_err_and c.from_residual-in_err-other.result c.from_residual-in_err-other.ensures.1 in
-    λ d. prefix_if_err (g.A.PathAlgebra.meaning c.args.batch.now.algebra) c.args.batch.now.graph.now g.O.Watcher.may_become _ _ _ _ fault.0 fault.1 (
-    subst (λ (xs : List ℕ). ReportedPrefix (g.A.PathAlgebra.meaning c.args.batch.now.algebra) c.args.batch.now.graph.now g.O.Watcher.may_become
+    λ d. prefix_if_err (g.A.PathAlgebra.meaning c.args.batch.now.algebra) c.args.batch.now.run.now.settings.now c.args.batch.now.graph.now g.O.Watcher.may_become _ _ _ _ fault.0 fault.1 (
+    subst (λ (xs : List ℕ). ReportedPrefix (g.A.PathAlgebra.meaning c.args.batch.now.algebra) c.args.batch.now.run.now.settings.now c.args.batch.now.graph.now g.O.Watcher.may_become
     (map (Account (c.args.i + 1)) xs) c.args.watcher.now c.next_labels-in-loop-j.new.watcher) (c.sources-sources.ensures d)
-    (sources_stopped (g.A.PathAlgebra.meaning c.args.batch.now.algebra) c.args.batch.now.graph.now g.O.Watcher.may_become
+    (sources_stopped (g.A.PathAlgebra.meaning c.args.batch.now.algebra) c.args.batch.now.run.now.settings.now c.args.batch.now.graph.now g.O.Watcher.may_become
     (c.args.i + 1) c.sources-sources.result.now c.loop-j.j _ _ _ c.loop-j.invariant.reported c.in_err-other.ensures.unreported))
 
 pub returns-in_err-labels-clause-reported : goal.returns-in_err-labels-clause-reported
 returns-in_err-labels-clause-reported g c =
     let fault = err_from_is_err_and c.from_residual.result c.from_residual.ensures.1 in
-    λ d. prefix_if_err (g.A.PathAlgebra.meaning c.args.batch.now.algebra) c.args.batch.now.graph.now g.O.Watcher.may_become _ _ _ _ fault.0 fault.1
-    (prefix_kept (g.A.PathAlgebra.meaning c.args.batch.now.algebra) c.args.batch.now.graph.now g.O.Watcher.may_become _ _ _ c.in_err-labels.ensures.unreported)
+    λ d. prefix_if_err (g.A.PathAlgebra.meaning c.args.batch.now.algebra) c.args.batch.now.run.now.settings.now c.args.batch.now.graph.now g.O.Watcher.may_become _ _ _ _ fault.0 fault.1
+    (prefix_kept (g.A.PathAlgebra.meaning c.args.batch.now.algebra) c.args.batch.now.run.now.settings.now c.args.batch.now.graph.now g.O.Watcher.may_become _ _ _ c.in_err-labels.ensures.unreported)

@@ -11,9 +11,9 @@ returns-clause-labels g c =
 
 pub returns-clause-reported : goal.returns-clause-reported
 returns-clause-reported g c =
-    one (g.A.PathAlgebra.meaning c.args.batch.now.algebra) c.args.batch.now.graph.now g.O.Watcher.may_become (Account (c.args.i + 1) c.args.source) _ _ _ (
+    one (g.A.PathAlgebra.meaning c.args.batch.now.algebra) c.args.batch.now.run.now.settings.now c.args.batch.now.graph.now g.O.Watcher.may_become (Account (c.args.i + 1) c.args.source) _ _ _ (
       c.in_ok-next.next.tally,
-      subst (λ (s : ℕ). IsAccount (g.A.PathAlgebra.meaning c.args.batch.now.algebra) c.args.batch.now.graph.now s c.in_ok-next.next.tally) c.in_ok-next.ensures.source c.in_ok-next.ensures.gathered.account,
+      subst (λ (s : ℕ). IsAccount (g.A.PathAlgebra.meaning c.args.batch.now.algebra) c.args.batch.now.run.now.settings.now c.args.batch.now.graph.now s c.in_ok-next.next.tally) c.in_ok-next.ensures.source c.in_ok-next.ensures.gathered.account,
       refl,
     )
     c.report.ensures

@@ -1,4 +1,4 @@
-use Rattle.std.proofs.Common.{◌∙◌}
+use Rattle.std.proofs.Common.{◌∙◌, ◌≤◌, length, take, arith, length-take}
 use Rattle.std.proofs.lemmas.List.Elements.{All-take}
 use Rattle.road_files.specs.Asked.{FromSource, IsVertexOf, asked_of}
 use Rattle.batch_run.specs.Diffusions.{sources_to_come}
@@ -17,11 +17,16 @@ run_together-requires-clause-plan g c κs within = c.requires.ready.plan
 
 pub returns-clause-some : goal.returns-clause-some
 returns-clause-some g c =
-    some_wait (g.A.PathAlgebra.meaning c.args.batch.now.algebra) c.args.batch.now.graph.now (sources_to_come (asked_of c.args.batch.now.questions.now).questions c.args.i c.args.j) c.args.batch.now.run.now.settings.now.width c.in_ok-gathered.gathered.items
+    some_wait (g.A.PathAlgebra.meaning c.args.batch.now.algebra) c.args.batch.now.run.now.settings.now c.args.batch.now.graph.now (sources_to_come (asked_of c.args.batch.now.questions.now).questions c.args.i c.args.j) c.args.batch.now.run.now.settings.now.width c.in_ok-gathered.gathered.items
     (c.in_ok-gathered.ensures.sources ∙ c.deref.ensures.value ∙ c.in_ok-sources.ensures) c.args.batch.now.in_range.width.0
     (some_to_come (asked_of c.args.batch.now.questions.now).questions c.args.i c.args.j (FromSource 0) c.requires.source)
 
 pub returns-clause-ready : goal.returns-clause-ready
 returns-clause-ready g c =
-    group_waits (g.A.PathAlgebra.meaning c.args.batch.now.algebra) c.args.batch.now.graph.now (sources_to_come (asked_of c.args.batch.now.questions.now).questions c.args.i c.args.j) c.args.batch.now.run.now.settings.now.width _
+    group_waits (g.A.PathAlgebra.meaning c.args.batch.now.algebra) c.args.batch.now.run.now.settings.now c.args.batch.now.graph.now (sources_to_come (asked_of c.args.batch.now.questions.now).questions c.args.i c.args.j) c.args.batch.now.run.now.settings.now.width _
     (c.in_ok-gathered.ensures.sources ∙ c.deref.ensures.value ∙ c.in_ok-sources.ensures) c.requires.ready.plan c.in_ok-gathered.ensures.gathered
+
+pub run_together-requires-clause-width : goal.run_together-requires-clause-width
+run_together-requires-clause-width g c κs within =
+    rw (c.deref.ensures.value, c.in_ok-sources.ensures)
+    (let l = length-take c.args.batch.now.run.now.settings.now.width (sources_to_come (asked_of c.args.batch.now.questions.now).questions c.args.i c.args.j) in omega (arith, l))

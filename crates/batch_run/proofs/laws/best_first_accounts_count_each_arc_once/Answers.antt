@@ -1,0 +1,13 @@
+use Rattle.std.proofs.Common.{ap, cond, ◌∙◌}
+use Rattle.shard_store.specs.declared.queue_order.QueueOrder.TheVariants.{Arrival, BestFirst}
+use Rattle.path_algebra.specs.Algebra.{Algebra}
+use Rattle.station.specs.Opened.{setup_of}
+use Rattle.station.proofs.ExactCounts.{best_first_once_an_arc}
+use Rattle.batch_run.specs.Cut.{order_of}
+use Rattle.batch_run.proofs.laws.best_first_accounts_count_each_arc_once.Goals as goal
+
+pub returns : goal.returns
+returns g c = λ how roads source tally one best account marked M.
+    let laws = g.met.A.PathAlgebra g.world.𝓛 g.world.𝓜 g.world.𝓡 ((λ s x. x), (λ x. x), (λ x. x), λ x. x) in
+    best_first_once_an_arc (λ (B : Algebra g.row.A-Value.Denot). B) (setup_of (g.A.PathAlgebra.meaning c.args._algebra) roads source account.plan (order_of how)) (record { labels = account.labels; tally = tally })
+    (laws.lawful c.args._algebra) (account.cut.shards ∙ one, ap (λ b. cond b BestFirst Arrival) best) account.gathered marked M

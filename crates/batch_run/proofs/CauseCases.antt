@@ -1,10 +1,10 @@
 -- Causes by cases, and by their numbers.
 use Rattle.std.proofs.Common.{◌≡◌, ◌≢◌, ◌⊎◌, inl, inr, ℕ, ◌<◌, Bool, false, refl, ap, arith}
 use Rattle.batch_run.specs.Causes.{MayStop, number_of}
-use Rattle.batch_run.specs.Stopping.{Stalls, Closes}
+use Rattle.worker_fleet.specs.declared.group.GroupFault.{GroupFault}
+use Rattle.worker_fleet.specs.declared.group.GroupFault.TheVariants as group
 use Rattle.batch_run.specs.declared.faults.Cause.{Cause}
 use Rattle.batch_run.specs.declared.faults.Cause.TheVariants.{Memory, Stalled, Gated, Write}
-use Rattle.batch_run.specs.declared.settings.Settings.{Settings}
 
 -- a cause is a failed write, or another
 pub write_or_other : (cause : Cause) → (cause ≡ Write) ⊎ (cause ≢ Write)
@@ -38,17 +38,24 @@ numbered Stalled = inr (inl refl)
 numbered Gated = inr (inr (inl refl))
 numbered Write = inr (inr (inr (inl refl)))
 
-module _ (plain : Bool) (s : Settings) (answers : ℕ → ℕ → Bool → Type 0) where
-  -- 40 reports that some worker made each turn up to the limit
-  pub stalled_by_number : (cause : Cause) → MayStop plain s answers cause → number_of cause ≡ 40 → (plain ≡ false) × Stalls answers s.workers s.turns
+module _ (plain : Bool) (stops : GroupFault → Type 0) where
+  -- 40 reports a limit of turns
+  pub stalled_by_number : (cause : Cause) → MayStop plain stops cause → number_of cause ≡ 40 → (plain ≡ false) × stops group.Stalled
   stalled_by_number Memory may e = absurd (omega (arith, e))
   stalled_by_number Stalled may e = may
   stalled_by_number Gated may e = absurd (omega (arith, e))
   stalled_by_number Write may e = absurd (omega (arith, e))
 
-  -- and 41 that the gate answered some worker false before
-  pub gated_by_number : (cause : Cause) → MayStop plain s answers cause → number_of cause ≡ 41 → (plain ≡ false) × Closes answers s.workers s.turns
+  -- and 41 a gate
+  pub gated_by_number : (cause : Cause) → MayStop plain stops cause → number_of cause ≡ 41 → (plain ≡ false) × stops group.Gated
   gated_by_number Memory may e = absurd (omega (arith, e))
   gated_by_number Stalled may e = absurd (omega (arith, e))
   gated_by_number Gated may e = may
   gated_by_number Write may e = absurd (omega (arith, e))
+
+-- a cause says less of a group if its fault does
+pub may_stop_weaker : (plain : Bool) (stops says : GroupFault → Type 0) → ((f : GroupFault) → stops f → says f) → (cause : Cause) → MayStop plain stops cause → MayStop plain says cause
+may_stop_weaker plain stops says less Memory may = tt
+may_stop_weaker plain stops says less Stalled may = (may.0, less group.Stalled may.1)
+may_stop_weaker plain stops says less Gated may = (may.0, less group.Gated may.1)
+may_stop_weaker plain stops says less Write may = tt

@@ -6,7 +6,7 @@ mod Progress
 mod Existing
 pub mod Prefixes
 mod OfInputs
-mod Stopped
+pub mod Stopped
 mod Together
 mod SourcesToCome
 mod NextDiffusions

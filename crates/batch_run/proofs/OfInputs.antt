@@ -3,6 +3,7 @@ use Rattle.std.proofs.Common.{◌≡◌, ◌≢◌, ◌⊎◌, ◌<◌, ◌≤�
 use Rattle.road_graph.specs.GraphData.{GraphData}
 use Rattle.road_files.specs.Asked.{Asked}
 use Rattle.path_algebra.specs.Algebra.{Algebra}
+use Rattle.worker_fleet.specs.Stops.{Says}
 use Rattle.batch_run.specs.declared.faults.Cause.{Cause}
 use Rattle.batch_run.specs.declared.faults.Cause.TheVariants.{Write}
 use Rattle.batch_run.specs.declared.faults.File.{File}
@@ -51,7 +52,7 @@ module _ {V W : Type 0} (A : Algebra V) (how : Settings) (answers : ℕ → ℕ 
     stopped = tt;
   }
 
-  module _ (cause : Cause) (may : MayStop (without_diffusions how) how answers cause) (leaves : Leaves A g asked cause out out_after) where
+  module _ (cause : Cause) (may : MayStop (without_diffusions how) (Says answers how.workers how.turns) cause) (leaves : Leaves A g asked cause out out_after) where
     begun_whole : number_of cause ≢ 42 → BegunWhole A IsRead out out_after
     begun_whole other = record { graph = g; asked = asked; read = read; wrote = leaves.whole (other_by_number cause other) }
 
@@ -66,8 +67,8 @@ module _ {V W : Type 0} (A : Algebra V) (how : Settings) (answers : ℕ → ℕ 
       write = λ e. leaves.failed (write_by_number cause e);
       kinds = inr (refl, refl, numbered cause);
       placed = λ _. refl;
-      stalled = stalled_by_number (without_diffusions how) how answers cause may;
-      gated = gated_by_number (without_diffusions how) how answers cause may;
+      stalled = stalled_by_number (without_diffusions how) (Says answers how.workers how.turns) cause may;
+      gated = gated_by_number (without_diffusions how) (Says answers how.workers how.turns) cause may;
       nothing = λ other. absurd (other refl);
       unwritten = λ other. absurd (other refl);
       untouched = λ e. absurd (no_setting cause e);

@@ -16,13 +16,11 @@ use Rattle.answer_text.specs.AnswerText.{answer_text, blocks_text, header_text}
 use Rattle.answer_text.proofs.OneAnswer.{blocks_split, answers_count}
 use Rattle.batch_run.specs.declared.faults.Cause.{Cause}
 use Rattle.batch_run.specs.declared.faults.Cause.TheVariants as causes
-use Rattle.batch_run.specs.declared.settings.Settings.{Settings}
 use Rattle.worker_fleet.specs.declared.group.GroupFault.{GroupFault}
 use Rattle.worker_fleet.specs.declared.group.GroupFault.TheVariants as group
 use Rattle.batch_run.specs.Answered.{AnsweredAll, WroteAnswers, WroteNext, begun_text, WroteFirst, WroteWhole}
 use Rattle.batch_run.specs.Causes.{MayStop, cause_of}
 use Rattle.batch_run.proofs.CauseCases.{write_or_other}
-use Rattle.worker_fleet.specs.Stops.{Says}
 
 -- the first i questions were answered, and the answers written
 pub record Progress {V X : Type 0} (A : Algebra V) (g : GraphData) (asked : Asked) (i : ℕ) (old new : Output X) : Type 0 where
@@ -165,13 +163,12 @@ module _ {V : Type 0} (A : Algebra V) (g : GraphData) (asked : Asked) where
   all_answered MayStop i old new le p = record { text = whole_text i old new le p; sound = p.left.sound; kind = tt; failed = tt; unfailed = tt; whole = tt }
 
 -- a question is not solved: memory or a thread was refused; or, if workers answer, one of them stopped
-pub group_may_stop : (s : Settings) (answers : ℕ → ℕ → Bool → Type 0) (plain : Bool) (f : GroupFault) → (plain ≡ true → f ≡ group.Memory) → Says answers s.workers s.turns f →
-    MayStop plain s answers (cause_of f)
-group_may_stop s answers plain group.Memory only says = tt
-group_may_stop s answers false group.Stalled only says = (refl, says)
-group_may_stop s answers true group.Stalled only says = let bad : group.Stalled ≡ group.Memory = only refl in absurd cc
-group_may_stop s answers false group.Gated only says = (refl, says)
-group_may_stop s answers true group.Gated only says = let bad : group.Gated ≡ group.Memory = only refl in absurd cc
+pub group_may_stop : (stops : GroupFault → Type 0) (plain : Bool) (f : GroupFault) → (plain ≡ true → f ≡ group.Memory) → stops f → MayStop plain stops (cause_of f)
+group_may_stop stops plain group.Memory only stop = tt
+group_may_stop stops false group.Stalled only stop = (refl, stop)
+group_may_stop stops true group.Stalled only stop = let bad : group.Stalled ≡ group.Memory = only refl in absurd cc
+group_may_stop stops false group.Gated only stop = (refl, stop)
+group_may_stop stops true group.Gated only stop = let bad : group.Gated ≡ group.Memory = only refl in absurd cc
 
 -- that is no failed write
 no_write : (f : GroupFault) → cause_of f ≢ causes.Write

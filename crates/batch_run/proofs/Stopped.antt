@@ -1,14 +1,30 @@
 -- What a fault that stops a batch says of its workers and their gate.
-use Rattle.std.proofs.Common.{ℕ, Bool, sym, subst, inl, inr}
+use Rattle.std.proofs.Common.{ℕ, Bool, Err, sym, subst, inl, inr}
 use Rattle.road_graph.specs.GraphData.{GraphData}
+use Rattle.road_files.specs.Asked.{Asked}
 use Rattle.path_algebra.specs.Algebra.{Algebra}
 use Rattle.worker_fleet.specs.declared.group.GroupFault.{GroupFault}
 use Rattle.worker_fleet.specs.Stops.{Says}
 use Rattle.worker_fleet.proofs.Stopped.{StopsGroup-says}
+use Rattle.batch_run.specs.declared.faults.Cause.{Cause}
 use Rattle.batch_run.specs.declared.settings.Settings.{Settings}
-use Rattle.batch_run.specs.Stopping.{IsDiffusionOf, Stops}
+use Rattle.batch_run.specs.Causes.{MayStop, fault_of}
+use Rattle.batch_run.specs.Stopping.{IsDiffusionOf, Stops, Stopped}
+use Rattle.batch_run.proofs.CauseCases.{gated_by_number, may_stop_weaker, stalled_by_number}
 
 pub says_of : {S V : Type 0} (meaning : S → Algebra V) (algebra : S) (g : GraphData) (how : Settings) (answers : ℕ → ℕ → Bool → Type 0) (fault : GroupFault)
     → Stops meaning algebra g how answers fault → Says answers how.workers how.turns fault
 says_of meaning algebra g how answers fault (inl memory) = subst (λ (f : GroupFault). Says answers how.workers how.turns f) (sym memory) tt
 says_of meaning algebra g how answers fault (inr stop) = StopsGroup-says meaning (IsDiffusionOf algebra g how) how.workers how.width how.budget how.turns answers fault stop
+
+module _ {S V : Type 0} (meaning : S → Algebra V) (algebra : S) (g : GraphData) (how : Settings) (answers : ℕ → ℕ → Bool → Type 0) (plain : Bool) (cause : Cause)
+    (may : MayStop plain (Stops meaning algebra g how answers) cause) where
+  pub says_of_cause : MayStop plain (Says answers how.workers how.turns) cause
+  says_of_cause = may_stop_weaker plain (Stops meaning algebra g how answers) (Says answers how.workers how.turns) (says_of meaning algebra g how answers) cause may
+
+  -- a run over what was read stopped for this cause
+  pub stopped_for : (IsRead : GraphData → Asked → Type 0) (asked : Asked) → IsRead g asked → Stopped meaning algebra how answers IsRead (Err (fault_of cause))
+  stopped_for IsRead asked read = record {
+    stalled = λ e. record { graph = g; asked = asked; read = read; stops = (stalled_by_number plain (Stops meaning algebra g how answers) cause may e).1 };
+    gated = λ e. record { graph = g; asked = asked; read = read; stops = (gated_by_number plain (Stops meaning algebra g how answers) cause may e).1 };
+  }

@@ -2,12 +2,10 @@
 use Rattle.std.specs.Prelude.{◌≡◌, ℕ, Bool, false}
 use Rattle.worker_fleet.specs.declared.group.GroupFault.{GroupFault}
 use Rattle.worker_fleet.specs.declared.group.GroupFault.TheVariants as group
-use Rattle.batch_run.specs.Stopping.{Stalls, Closes}
 use Rattle.batch_run.specs.declared.faults.Cause.{Cause}
 use Rattle.batch_run.specs.declared.faults.Cause.TheVariants.{Memory, Stalled, Gated, Write}
 use Rattle.batch_run.specs.declared.faults.File.TheVariants.{NoFile}
 use Rattle.batch_run.specs.declared.faults.RunFault.{RunFault}
-use Rattle.batch_run.specs.declared.settings.Settings.{Settings}
 
 -- the number that reports it
 abbrev pub number_of : Cause → ℕ
@@ -26,9 +24,10 @@ cause_of group.Memory = Memory
 cause_of group.Stalled = Stalled
 cause_of group.Gated = Gated
 
--- a batch may stop for this: memory or a thread, or a write; and if stations answer, a worker that made all turns of the limit, or one whose gate answered false before
-abbrev pub MayStop : (plain : Bool) → Settings → (ℕ → ℕ → Bool → Type 0) → Cause → Type 0
-MayStop plain s answers Memory = Unit {0}
-MayStop plain s answers Stalled = (plain ≡ false) × Stalls answers s.workers s.turns
-MayStop plain s answers Gated = (plain ≡ false) × Closes answers s.workers s.turns
-MayStop plain s answers Write = Unit {0}
+-- a batch may stop for this: memory or a thread, or a write; and if stations answer, a limit of turns or a gate that stopped a group of diffusions, of which `stops`
+-- says what holds
+abbrev pub MayStop : (plain : Bool) → (stops : GroupFault → Type 0) → Cause → Type 0
+MayStop plain stops Memory = Unit {0}
+MayStop plain stops Stalled = (plain ≡ false) × stops group.Stalled
+MayStop plain stops Gated = (plain ≡ false) × stops group.Gated
+MayStop plain stops Write = Unit {0}

@@ -1,13 +1,15 @@
 -- What stops a batch if stations answer, where `answers` says what a gate may answer to a worker before a turn of it.
-use Rattle.std.specs.Prelude.{◌≡◌, ◌⊎◌, ℕ, Bool}
+use Rattle.std.specs.Prelude.{◌≡◌, ◌⊎◌, ℕ, Bool, Result, IfErr}
 use Rattle.road_graph.specs.GraphData.{GraphData, HasVertex}
+use Rattle.road_files.specs.Asked.{Asked}
 use Rattle.path_algebra.specs.Algebra.{Algebra}
 use Rattle.shard_store.specs.Plans.{PlanData}
 use Rattle.shard_store.specs.Setup.{SetupData}
 use Rattle.station.specs.Opened.{setup_of}
 use Rattle.worker_fleet.specs.declared.group.GroupFault.{GroupFault}
-use Rattle.worker_fleet.specs.declared.group.GroupFault.TheVariants.{Memory}
+use Rattle.worker_fleet.specs.declared.group.GroupFault.TheVariants.{Memory, Stalled, Gated}
 use Rattle.worker_fleet.specs.Stops.{StopsGroup}
+use Rattle.batch_run.specs.declared.faults.RunFault.{RunFault}
 use Rattle.batch_run.specs.declared.settings.Settings.{Settings}
 use Rattle.batch_run.specs.Cut.{IsCut, order_of}
 pub use Rattle.worker_fleet.specs.Stops.{Stalls, Closes}
@@ -24,3 +26,17 @@ pub record IsDiffusionOf {S : Type 0} (algebra : S) (g : GraphData) (how : Setti
 -- its limit, and the least numbered worker that stopped before the end did so by this fault
 abbrev pub Stops : {S V : Type 0} → (S → Algebra V) → S → GraphData → Settings → (ℕ → ℕ → Bool → Type 0) → GroupFault → Type 0
 Stops meaning algebra g how answers fault = (fault ≡ Memory) ⊎ StopsGroup meaning (IsDiffusionOf algebra g how) how.workers how.width how.budget how.turns answers fault
+
+-- it stops a batch over a graph that was read
+pub record StopsRead {S V : Type 0} (meaning : S → Algebra V) (algebra : S) (how : Settings) (answers : ℕ → ℕ → Bool → Type 0) (IsRead : GraphData → Asked → Type 0) (fault : GroupFault) : Type 0 where
+  pub graph : GraphData
+  pub asked : Asked
+  pub read : IsRead graph asked
+  pub stops : Stops meaning algebra graph how answers fault
+
+-- why workers did not run a group of diffusions of a batch to its end, by the number of the fault that this left
+pub record Stopped {S V : Type 0} (meaning : S → Algebra V) (algebra : S) (how : Settings) (answers : ℕ → ℕ → Bool → Type 0) (IsRead : GraphData → Asked → Type 0) (outcome : Result (Unit {0}) RunFault) : Type 0 where
+  -- 40 is reported only if the first of them that stopped was at its limit of turns
+  pub stalled : IfErr outcome (λ f. f.number ≡ 40 → StopsRead meaning algebra how answers IsRead Stalled)
+  -- 41 is reported only if the gate stopped it
+  pub gated : IfErr outcome (λ f. f.number ≡ 41 → StopsRead meaning algebra how answers IsRead Gated)

@@ -4,6 +4,7 @@ ghost use Rattle.road_files.specs.Asked.{AreQuestionsOf, Question, asked_of};
 ghost use Rattle.batch_run.specs.Answered.{AnsweredAll, WroteNext};
 ghost use Rattle.batch_run.specs.Causes.{MayStop};
 ghost use Rattle.batch_run.specs.Reports.{Reported, ReportedPrefix, ReportedWritten, accounts_due, batch_due, question_due};
+ghost use Rattle.batch_run.specs.Stopping.{Stops};
 ghost use Rattle.batch_run.specs.Solvers.{IsReady, IsSameSolver, graph_of, is_plain};
 
 use crate::batch::Batch;
@@ -36,8 +37,9 @@ fn answer_next<A: PathAlgebra, W: RoadWrite, R: Threads + Wait + Sync, T: Gate, 
     ensures wrote { (default : Question) → WroteNext (A.meaning batch.now.algebra)
         (graph_of solver.old) (slice_index_or (asked_of batch.now.questions.now).questions i
         default) (W.seen out.old) (W.seen out.new) result }
-    ensures kind { IfErr result (MayStop (is_plain solver.old)
-        batch.now.run.now.settings.now (T.may_answer batch.now.run.now.gate.now)) }
+    ensures kind { IfErr result (MayStop (is_plain solver.old) (Stops A.meaning batch.now.algebra
+        (graph_of solver.old) batch.now.run.now.settings.now
+        (T.may_answer batch.now.run.now.gate.now))) }
     ensures reported { OnOk result ((default : Question) → Reported (A.meaning batch.now.algebra)
         batch.now.run.now.settings.now (graph_of solver.old) O.may_become (question_due (is_plain solver.old) (i + 1)
         (slice_index_or (asked_of batch.now.questions.now).questions i default)) watcher.old
@@ -65,8 +67,9 @@ pub fn answer_all<A: PathAlgebra, W: RoadWrite, R: Threads + Wait + Sync, T: Gat
     requires within { AreQuestionsOf (graph_of solver.old).vertices batch.now.questions.now }
     ensures same { IsSameSolver solver.old solver.new }
     ensures answered { AnsweredAll (A.meaning batch.now.algebra) (graph_of solver.old)
-        (asked_of batch.now.questions.now) (MayStop (is_plain solver.old)
-        batch.now.run.now.settings.now (T.may_answer batch.now.run.now.gate.now))
+        (asked_of batch.now.questions.now) (MayStop (is_plain solver.old) (Stops A.meaning
+        batch.now.algebra (graph_of solver.old) batch.now.run.now.settings.now
+        (T.may_answer batch.now.run.now.gate.now)))
         (W.seen out.old) (W.seen out.new) result }
     ensures all { OnOk result (Reported (A.meaning batch.now.algebra) batch.now.run.now.settings.now (graph_of solver.old)
         O.may_become (batch_due (is_plain solver.old) (asked_of batch.now.questions.now).questions)

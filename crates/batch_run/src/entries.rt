@@ -2,6 +2,7 @@
 ghost use Rattle.batch_run.specs.Reports.{Watched};
 ghost use Rattle.batch_run.specs.Runs.{RanBundle, RanPair};
 ghost use Rattle.batch_run.specs.Ran.{IsBundleOf, IsPairOf};
+ghost use Rattle.batch_run.specs.Stopping.{Stopped};
 
 use crate::batch::Run;
 use crate::faults::RunFault;
@@ -34,6 +35,9 @@ pub fn run_pair<
     ensures ran { RanPair (A.meaning algebra) run.now.settings.now (T.may_answer run.now.gate.now)
         (G.seen graph.old) (G.seen graph.new) (Q.seen questions.old) (Q.seen questions.new)
         (W.seen out.old) (W.seen out.new) result }
+    ensures stopped { Stopped A.meaning algebra run.now.settings.now
+        (T.may_answer run.now.gate.now) (IsPairOf (G.seen graph.old).left
+        (Q.seen questions.old).left) result }
     ensures watched { Watched (A.meaning algebra) run.now.settings.now (IsPairOf
         (G.seen graph.old).left (Q.seen questions.old).left) O.may_become watcher.old watcher.new
         (W.seen out.old) (W.seen out.new) result }
@@ -59,6 +63,8 @@ pub fn run_bundle<
 ) -> Result<(), RunFault>
     ensures ran { RanBundle (A.meaning algebra) run.now.settings.now (T.may_answer run.now.gate.now)
         (B.seen bundle.old) (B.seen bundle.new) (W.seen out.old) (W.seen out.new) result }
+    ensures stopped { Stopped A.meaning algebra run.now.settings.now
+        (T.may_answer run.now.gate.now) (IsBundleOf (B.seen bundle.old).left) result }
     ensures watched { Watched (A.meaning algebra) run.now.settings.now (IsBundleOf
         (B.seen bundle.old).left) O.may_become watcher.old watcher.new
         (W.seen out.old) (W.seen out.new) result }

@@ -6,6 +6,7 @@ ghost use Rattle.batch_run.specs.Answered.{WroteAllOrPrefix, WroteWhole};
 ghost use Rattle.batch_run.specs.Causes.{MayStop};
 ghost use Rattle.batch_run.specs.Reports.{Reported, ReportedWritten, batch_due};
 ghost use Rattle.batch_run.specs.Ran.{IsPassedOn};
+ghost use Rattle.batch_run.specs.Stopping.{Stops};
 ghost use Rattle.batch_run.specs.Solvers.{graph_of, is_plain};
 
 use crate::answering::answer_all;
@@ -62,8 +63,9 @@ pub(crate) fn answer_and_flush<
         result }
     ensures passed_on { OnOk result ((W.seen out.new).held ≡ []) }
     ensures sound { OnOk result ((W.seen out.new).failures ≡ (W.seen out.old).failures) }
-    ensures kind { IfErr result (MayStop (is_plain solver.old)
-        batch.now.run.now.settings.now (T.may_answer batch.now.run.now.gate.now)) }
+    ensures kind { IfErr result (MayStop (is_plain solver.old) (Stops A.meaning batch.now.algebra
+        (graph_of solver.old) batch.now.run.now.settings.now
+        (T.may_answer batch.now.run.now.gate.now))) }
     ensures failed { IfErr result (λ cause. cause ≡ Cause.Write → (W.seen out.old).failures <
         (W.seen out.new).failures) }
     ensures whole { IfErr result (λ cause. cause ≢ Cause.Write → WroteWhole

@@ -3,6 +3,7 @@ ghost use Rattle.std.specs.Prelude.{◌≡◌, ◌≢◌, ◌≤◌, Ok, Err, If
 ghost use Rattle.road_files.specs.Asked.{AreQuestionsOf, asked_of};
 ghost use Rattle.batch_run.specs.Reports.{Watched};
 ghost use Rattle.batch_run.specs.Runs.{Ran};
+ghost use Rattle.batch_run.specs.Stopping.{Stopped};
 ghost use Rattle.batch_run.specs.Ran.{IsRoadNumber};
 ghost use Rattle.batch_run.specs.Solvers.{graph_of, is_plain};
 ghost use Rattle.batch_run.specs.Choice.{without_diffusions};
@@ -84,6 +85,8 @@ pub fn run_batch<
     ensures ran { Ran (A.meaning algebra) run.now.settings.now (T.may_answer run.now.gate.now)
         (I.is_read input.old) I.is_own (W.seen out.old) (W.seen out.new) result }
     ensures read { I.has_read input.old input.new result }
+    ensures stopped { Stopped A.meaning algebra run.now.settings.now
+        (T.may_answer run.now.gate.now) (I.is_read input.old) result }
     ensures watched { Watched (A.meaning algebra) run.now.settings.now (I.is_read input.old)
         O.may_become watcher.old watcher.new (W.seen out.old) (W.seen out.new)
         result }

@@ -2,7 +2,6 @@
 ghost use Rattle.std.specs.Prelude.{◌≡◌, ◌+◌, ◌<◌, true, length, slice_index_or, IfErr, OnOk, IfSome, IsSome, Some};
 ghost use Rattle.road_graph.specs.GraphData.{IsGraph};
 ghost use Rattle.road_files.specs.Asked.{AreQuestionsOf, Question, asked_of};
-ghost use Rattle.worker_fleet.specs.Stops.{Says};
 ghost use Rattle.batch_run.specs.Stopping.{Stops};
 ghost use Rattle.batch_run.specs.Reports.{ReportedAllOrPrefix, accounts_due};
 ghost use Rattle.question_solvers.specs.Solved.{IsSolvedFor};
@@ -122,8 +121,6 @@ pub(crate) fn solve_next<A: PathAlgebra, R: Threads + Wait + Sync, T: Gate, O: W
     ensures plain { is_plain solver.old ≡ true → IfErr result (λ f. f ≡ GroupFault.Memory) }
     ensures stops { IfErr result (Stops A.meaning batch.now.algebra (graph_of solver.old)
         batch.now.run.now.settings.now (T.may_answer batch.now.run.now.gate.now)) }
-    ensures says { IfErr result (Says (T.may_answer batch.now.run.now.gate.now)
-        batch.now.run.now.settings.now.workers batch.now.run.now.settings.now.turns) }
     ensures reported { (default : Question) → ReportedAllOrPrefix (A.meaning batch.now.algebra)
         batch.now.run.now.settings.now (graph_of solver.old) O.may_become (accounts_due (is_plain solver.old) (i + 1)
         (slice_index_or (asked_of batch.now.questions.now).questions i default)) watcher.old

@@ -11,6 +11,7 @@ use Rattle.batch_run.specs.declared.faults.Cause.{Cause}
 use Rattle.batch_run.specs.declared.faults.Cause.TheVariants.{Write}
 use Rattle.batch_run.specs.declared.settings.Settings.{Settings}
 use Rattle.batch_run.specs.Answered.{WroteAnswers, WroteAnswersPrefix, WroteWhole, begun_text}
+use Rattle.worker_fleet.specs.Stops.{Says}
 use Rattle.batch_run.specs.Causes.{MayStop, number_of}
 use Rattle.service.specs.Replies.{fault_text}
 use Rattle.service.specs.Answering.{MayAnswerAs}
@@ -27,7 +28,7 @@ module _ {V : Type 0} (A : Algebra V) (plain : Bool) (how : Settings) (gate : �
   fell new w one = (answers_text w.answers, inl (w.answers, w.right, refl), record { prefix = w.prefix; rest = w.rest; text_is = w.text_is; bytes = w.bytes; failed = one })
 
   -- the first of them were, each whole, and then the line of the fault that stopped it
-  pub stopped : {R E : Type 0} (cause : Cause) (mid new : Output X) (res : Result R E) → MayStop plain how gate cause → cause ≢ Write → WroteWhole A g asked old mid → mid.failures ≡ old.failures →
+  pub stopped : {R E : Type 0} (cause : Cause) (mid new : Output X) (res : Result R E) → MayStop plain (Says gate how.workers how.turns) cause → cause ≢ Write → WroteWhole A g asked old mid → mid.failures ≡ old.failures →
       WritesText mid new (fault_text (number_of cause) 0) res
       → (text : List ℕ) × MayAnswerAs A plain how gate g asked text × WritesText old new text res
   stopped cause mid new res may other w same line =

@@ -8,6 +8,7 @@ use Rattle.answer_text.specs.AnswerData.{AnswerData, AnswerList}
 use Rattle.answer_text.specs.IsAnswer.{AreAnswers, IsAnswerList}
 use Rattle.answer_text.specs.AnswerText.{answers_text}
 use Rattle.batch_run.specs.Answered.{begun_text}
+use Rattle.worker_fleet.specs.Stops.{Says}
 use Rattle.batch_run.specs.Causes.{MayStop, number_of}
 use Rattle.batch_run.specs.declared.faults.Cause.{Cause}
 use Rattle.batch_run.specs.declared.faults.Cause.TheVariants.{Write}
@@ -28,7 +29,7 @@ pub record IsStopped {V : Type 0} (A : Algebra V) (plain : Bool) (how : Settings
   pub answers : List AnswerData
   pub right : AreAnswers A g (take count asked.questions) answers
   pub cause : Cause
-  pub may : MayStop plain how gate cause
+  pub may : MayStop plain (Says gate how.workers how.turns) cause
   pub other : cause ≢ Write
   pub text_is : text ≡ begun_text A asked answers ++ fault_text (number_of cause) 0
 

@@ -5,6 +5,7 @@ use Rattle.road_files.specs.Asked.{asked_of, FromSource}
 use Rattle.answer_text.specs.AnswerText.{answer_text}
 use Rattle.batch_run.specs.Answered.{WroteNext}
 use Rattle.batch_run.specs.Causes.{MayStop}
+use Rattle.batch_run.specs.Stopping.{Stops}
 use Rattle.batch_run.specs.Reports.{count_diffusions}
 use Rattle.batch_run.specs.Solvers.{graph_of, is_plain}
 use Rattle.batch_run.proofs.Progress.{start, answered, stopped_first, stopped_at, stopped_for_memory, all_answered}
@@ -19,7 +20,7 @@ pub returns-in_err-begin-clause-answered : goal.returns-in_err-begin-clause-answ
 returns-in_err-begin-clause-answered g c =
     let fault = err_from_is_err_and c.from_residual.result c.from_residual.ensures.1 in
     rw fault.1 (stopped_first (g.A.PathAlgebra.meaning c.args.batch.now.algebra) (graph_of c.args.solver.now) (asked_of c.args.batch.now.questions.now)
-    (MayStop (is_plain c.args.solver.now) c.args.batch.now.run.now.settings.now (g.T.Gate.may_answer c.args.batch.now.run.now.gate.now)) _ _ fault.0 fault.2 (rw fault.2 tt) c.in_err-begin.ensures.wrote)
+    (MayStop (is_plain c.args.solver.now) (Stops g.A.PathAlgebra.meaning c.args.batch.now.algebra (graph_of c.args.solver.now) c.args.batch.now.run.now.settings.now (g.T.Gate.may_answer c.args.batch.now.run.now.gate.now))) _ _ fault.0 fault.2 (rw fault.2 tt) c.in_err-begin.ensures.wrote)
 
 pub returns-in_err-begin-clause-reported : goal.returns-in_err-begin-clause-reported
 returns-in_err-begin-clause-reported g c = unreported (g.A.PathAlgebra.meaning c.args.batch.now.algebra) (graph_of c.args.solver.now) (asked_of c.args.batch.now.questions.now) c.args.batch.now.run.now.settings.now (is_plain c.args.solver.now) g.O.Watcher.may_become _ _ _ _ c.in_err-begin.ensures.unreported
@@ -28,7 +29,7 @@ pub returns-in_err-start-clause-answered : goal.returns-in_err-start-clause-answ
 returns-in_err-start-clause-answered g c =
     let fault = err_from_is_err_and c.from_residual-in_err-start.result c.from_residual-in_err-start.ensures.1 in
     rw fault.1 (stopped_for_memory (g.A.PathAlgebra.meaning c.args.batch.now.algebra) (graph_of c.args.solver.now) (asked_of c.args.batch.now.questions.now)
-    (MayStop (is_plain c.args.solver.now) c.args.batch.now.run.now.settings.now (g.T.Gate.may_answer c.args.batch.now.run.now.gate.now)) _ _ fault.0 fault.2 (rw fault.2 tt)
+    (MayStop (is_plain c.args.solver.now) (Stops g.A.PathAlgebra.meaning c.args.batch.now.algebra (graph_of c.args.solver.now) c.args.batch.now.run.now.settings.now (g.T.Gate.may_answer c.args.batch.now.run.now.gate.now))) _ _ fault.0 fault.2 (rw fault.2 tt)
     (start (g.A.PathAlgebra.meaning c.args.batch.now.algebra) (graph_of c.args.solver.now) (asked_of c.args.batch.now.questions.now) _ _ c.in_ok-begin.ensures.wrote))
 
 pub returns-in_err-start-clause-reported : goal.returns-in_err-start-clause-reported
@@ -80,7 +81,7 @@ returns-in_err-answer_next-clause-answered g c =
     let was = c.loop-i.invariant in
     let next = c.in_err-answer_next.ensures in
     rw (fault.1, fault.2) (stopped_at (g.A.PathAlgebra.meaning c.args.batch.now.algebra) (graph_of c.args.solver.now) (asked_of c.args.batch.now.questions.now) c.loop-i.i _ _ _ (search rules) (FromSource 0) was.progress
-    (MayStop (is_plain c.args.solver.now) c.args.batch.now.run.now.settings.now (g.T.Gate.may_answer c.args.batch.now.run.now.gate.now)) c.in_err-answer_next.field-0.0 (rw was.same.kind at next.kind)
+    (MayStop (is_plain c.args.solver.now) (Stops g.A.PathAlgebra.meaning c.args.batch.now.algebra (graph_of c.args.solver.now) c.args.batch.now.run.now.settings.now (g.T.Gate.may_answer c.args.batch.now.run.now.gate.now))) c.in_err-answer_next.field-0.0 (rw (was.same.graph, was.same.kind) at next.kind)
     (subst (λ (r : GraphData). WroteNext (g.A.PathAlgebra.meaning c.args.batch.now.algebra) r (get_or (asked_of c.args.batch.now.questions.now).questions c.loop-i.i (FromSource 0))
     (g.W.RoadWrite.seen c.loop-i.out) (g.W.RoadWrite.seen c.answer_next.new.out) (Err c.in_err-answer_next.field-0.0)) was.same.graph (next.wrote (FromSource 0))))
 
@@ -96,7 +97,7 @@ returns-in_err-answer_next-clause-reported g c =
     (FromSource 0) _ (search rules) (rw (was.same.graph, was.same.kind) at (next.unreported (FromSource 0)))
 
 pub returns-clause-answered : goal.returns-clause-answered
-returns-clause-answered g c = all_answered (g.A.PathAlgebra.meaning c.args.batch.now.algebra) (graph_of c.args.solver.now) (asked_of c.args.batch.now.questions.now) (MayStop (is_plain c.args.solver.now) c.args.batch.now.run.now.settings.now (g.T.Gate.may_answer c.args.batch.now.run.now.gate.now)) c.loop-i.i _ _ (search rules) c.loop-i.invariant.progress
+returns-clause-answered g c = all_answered (g.A.PathAlgebra.meaning c.args.batch.now.algebra) (graph_of c.args.solver.now) (asked_of c.args.batch.now.questions.now) (MayStop (is_plain c.args.solver.now) (Stops g.A.PathAlgebra.meaning c.args.batch.now.algebra (graph_of c.args.solver.now) c.args.batch.now.run.now.settings.now (g.T.Gate.may_answer c.args.batch.now.run.now.gate.now))) c.loop-i.i _ _ (search rules) c.loop-i.invariant.progress
 
 pub returns-clause-all : goal.returns-clause-all
 returns-clause-all g c = reports_ended (g.A.PathAlgebra.meaning c.args.batch.now.algebra) c.args.batch.now.run.now.settings.now (graph_of c.args.solver.now) g.O.Watcher.may_become (is_plain c.args.solver.now) (asked_of c.args.batch.now.questions.now).questions c.loop-i.i _ _ (search rules) c.loop-i.invariant.reported

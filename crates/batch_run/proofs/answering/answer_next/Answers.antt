@@ -6,6 +6,7 @@ use Rattle.road_text.specs.Written.{FailedAfterPrefix}
 use Rattle.answer_text.specs.AnswerData.{AnswerData}
 use Rattle.answer_text.specs.AnswerText.{answer_text}
 use Rattle.answer_text.specs.IsAnswer.{IsAnswer}
+use Rattle.batch_run.specs.Stopping.{Stops}
 use Rattle.batch_run.specs.Solvers.{graph_of, is_plain}
 use Rattle.batch_run.proofs.Progress.{group_may_stop, not_solved, not_written}
 use Rattle.batch_run.proofs.Reporting.{prefix_all, question_answered}
@@ -19,8 +20,8 @@ returns-in_err-solve_next-clause-wrote g c =
 pub returns-in_err-solve_next-clause-kind : goal.returns-in_err-solve_next-clause-kind
 returns-in_err-solve_next-clause-kind g c =
     let fault = err_from_is_err_and c.from_residual.result c.from_residual.ensures.1 in
-    rw (fault.1, fault.2) (group_may_stop c.args.batch.now.run.now.settings.now (g.T.Gate.may_answer c.args.batch.now.run.now.gate.now) (is_plain c.args.solver.now) c.in_err-solve_next.field-0.0
-    c.in_err-solve_next.ensures.plain c.in_err-solve_next.ensures.says)
+    rw (fault.1, fault.2) (group_may_stop (Stops g.A.PathAlgebra.meaning c.args.batch.now.algebra (graph_of c.args.solver.now) c.args.batch.now.run.now.settings.now (g.T.Gate.may_answer c.args.batch.now.run.now.gate.now)) (is_plain c.args.solver.now) c.in_err-solve_next.field-0.0
+    c.in_err-solve_next.ensures.plain c.in_err-solve_next.ensures.stops)
 
 pub answer_at-requires-clause-within : goal.answer_at-requires-clause-within
 answer_at-requires-clause-within g c κs within = rw c.in_ok-solve_next.ensures.same.graph c.requires.within

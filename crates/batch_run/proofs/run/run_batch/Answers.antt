@@ -3,10 +3,12 @@ use Rattle.std.proofs.lemmas.Result.{err_from_is_err_and}
 use Rattle.road_files.specs.Asked.{asked_of}
 use Rattle.batch_run.specs.Causes.{MayStop, fault_of}
 use Rattle.batch_run.specs.Reports.{Reported, ReportedWritten, batch_due}
+use Rattle.batch_run.specs.Stopping.{Stops}
 use Rattle.batch_run.specs.Solvers.{graph_of}
 use Rattle.batch_run.proofs.CauseCases.{no_setting}
 use Rattle.batch_run.proofs.OfInputs.{ran_stopped, ran_whole}
 use Rattle.batch_run.proofs.Reporting.{watched_all, watched_first}
+use Rattle.batch_run.proofs.Stopped.{says_of_cause, stopped_for}
 use Rattle.batch_run.proofs.run.run_batch.Goals as goal
 
 pub returns-in_err-answer_and_flush : goal.returns-in_err-answer_and_flush
@@ -20,12 +22,14 @@ returns-in_err-answer_and_flush g c =
     let was = c.in_err-answer_and_flush.ensures in
     let cause = c.in_err-answer_and_flush.field-0.0 in
     let fault = err_from_is_err_and c.from_residual.result c.from_residual.ensures.1 in
+    let may = subst (λ (b : Bool). MayStop b (Stops g.A.PathAlgebra.meaning c.args.algebra roads how gate) cause) c.in-Ok.ensures.kind was.kind in
     rw (fault.1, fault.2) (record {
       ran = ran_stopped A how gate is_read g.I.BatchInput.is_own (g.W.RoadWrite.seen c.args.out.now)
           (g.W.RoadWrite.seen c.answer_and_flush.new.out) (c.suit.ensures.in_range c.if-not-suit.false) roads asked c.in-Ok.ensures.read cause
-          (subst (λ (b : Bool). MayStop b how gate cause) c.in-Ok.ensures.kind was.kind)
+          (says_of_cause g.A.PathAlgebra.meaning c.args.algebra roads how gate _ cause may)
           (record { text = was.text; failed = was.failed; whole = was.whole; once = was.once; flushed = was.flushed });
       read = g.met.I.BatchInput.later c.args.input.now c.read_batch.new.input (fault_of cause) refl (no_setting cause) c.in-Ok.ensures.done;
+      stopped = stopped_for g.A.PathAlgebra.meaning c.args.algebra roads how gate _ cause may is_read asked c.in-Ok.ensures.read;
       watched = watched_first A how is_read g.O.Watcher.may_become _ _ _ _ roads asked c.in-Ok.ensures.read cause
           (subst (λ (b : Bool). ReportedWritten A how roads asked b g.O.Watcher.may_become c.args.watcher.now c.answer_and_flush.new.watcher (g.W.RoadWrite.seen c.args.out.now)
           (g.W.RoadWrite.seen c.answer_and_flush.new.out)) c.in-Ok.ensures.kind was.reported);
@@ -45,6 +49,7 @@ returns g c =
           (g.W.RoadWrite.seen c.answer_and_flush.new.out) (c.suit.ensures.in_range c.if-not-suit.false) roads asked c.in-Ok.ensures.read
           was.text was.passed_on was.sound;
       read = c.in-Ok.ensures.done;
+      stopped = record { stalled = tt; gated = tt };
       watched = watched_all A how is_read g.O.Watcher.may_become _ _ _ _ roads asked c.in-Ok.ensures.read
           (subst (λ (b : Bool). Reported A how roads g.O.Watcher.may_become (batch_due b asked.questions) c.args.watcher.now c.answer_and_flush.new.watcher) c.in-Ok.ensures.kind was.all);
     }

@@ -3,8 +3,6 @@ use Rattle.road_files.specs.Asked.{asked_of}
 use Rattle.question_solvers.specs.Solved.{IsSolvedFor}
 use Rattle.question_solvers.specs.declared.searched.Searched.{Searched}
 use Rattle.question_solvers.proofs.LastSolved.{held_mapped}
-use Rattle.std.proofs.lemmas.Result.{IfErr-weaker}
-use Rattle.batch_run.proofs.Stopped.{says_of}
 use Rattle.batch_run.proofs.solve.solve_next.Goals as goal
 
 pub returns-in-Ok-clause-solved : goal.returns-in-Ok-clause-solved
@@ -17,7 +15,3 @@ returns-in-Workers-clause-reported g c = λ d. rw c.in-Workers.is (c.solve_next_
 
 pub returns-in-Workers-clause-stops : goal.returns-in-Workers-clause-stops
 returns-in-Workers-clause-stops g c = rw c.in-Workers.is c.solve_next_by_workers.ensures.stops
-
-pub returns-in-Workers-clause-says : goal.returns-in-Workers-clause-says
-returns-in-Workers-clause-says g c = IfErr-weaker c.solve_next_by_workers.result _ _ (λ f h. says_of g.A.PathAlgebra.meaning c.args.batch.now.algebra c.in-Workers.solver.graph
-    c.args.batch.now.run.now.settings.now (g.T.Gate.may_answer c.args.batch.now.run.now.gate.now) f h) c.solve_next_by_workers.ensures.stops

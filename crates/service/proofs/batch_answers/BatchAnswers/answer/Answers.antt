@@ -2,6 +2,7 @@ use Rattle.std.proofs.Common.{Err}
 use Rattle.road_files.specs.Asked.{asked_of}
 use Rattle.batch_run.specs.Solvers.{graph_of, is_plain}
 use Rattle.batch_run.proofs.Prefixes.{all_or_prefix}
+use Rattle.batch_run.proofs.Stopped.{says_of_cause}
 use Rattle.service.proofs.AnswerLaws.{answered, fell, stopped}
 use Rattle.service.proofs.batch_answers.BatchAnswers.answer.Goals as goal
 
@@ -25,5 +26,7 @@ returns-in_default-clause-wrote g c =
     stopped (g.A.PathAlgebra.meaning c.args.self.now.algebra) (is_plain c.args.solver.now) c.args.self.now.run.now.settings.now
     (g.T.Gate.may_answer c.args.self.now.run.now.gate.now) (graph_of c.args.solver.now)
     (asked_of c.args.questions.now) (g.W.RoadWrite.seen c.args.out.now)
-    c.in-Err.cause (g.W.RoadWrite.seen c.answer_all.new.out) _ c.write_fault.result c.in-Err.ensures.answered.kind c.in_default.not-Write (c.in-Err.ensures.answered.whole c.in_default.not-Write)
+    c.in-Err.cause (g.W.RoadWrite.seen c.answer_all.new.out) _ c.write_fault.result
+    (says_of_cause g.A.PathAlgebra.meaning c.args.self.now.algebra (graph_of c.args.solver.now) c.args.self.now.run.now.settings.now
+    (g.T.Gate.may_answer c.args.self.now.run.now.gate.now) (is_plain c.args.solver.now) c.in-Err.cause c.in-Err.ensures.answered.kind) c.in_default.not-Write (c.in-Err.ensures.answered.whole c.in_default.not-Write)
     (c.in-Err.ensures.answered.unfailed c.in_default.not-Write) (rw c.number.ensures at c.write_fault.ensures)

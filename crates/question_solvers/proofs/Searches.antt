@@ -1,7 +1,6 @@
 -- What is found for one question, for the same one at another place, and for several side by side.
-use Rattle.std.proofs.Common.{arith, ◌≡◌, ℕ, ◌<◌, ◌-◌, ap, ◌∙◌, List, [], ◌∷◌, ◌++◌, length, get_or, map, All, HoldsAt, Vec, Global, subst, sym, inl, inr, ◌⊎◌}
-use Rattle.std.proofs.lemmas.List.Elements.{All-nil, All-cons, All-head, All-tail, All-push}
-use Rattle.std.proofs.lemmas.List.{get_or_push, length_push}
+use Rattle.std.proofs.Common.{arith, ◌≡◌, ℕ, ◌<◌, List, [], ◌∷◌, length, get_or, map, All, HoldsAt, Vec, Global, subst, sym, inl, inr, ◌⊎◌}
+use Rattle.std.proofs.lemmas.List.Elements.{All-nil, All-cons, All-head, All-tail}
 use Rattle.std.specs.List.{AllZip}
 use Rattle.std.specs.Prelude.{Result, Ok, Err, IfOk, IfSome, MatchResult, Contains, slice_get}
 use Rattle.road_files.proofs.QuestionLaws.{any_of}
@@ -92,3 +91,15 @@ pub held_answers : {V : Type 0} (A : Algebra V) (g : GraphData) (asked : Asked) 
 held_answers A g asked i k ss low h =
     let d = any_of ss k low in
     rw (slice_get-get_or ss k d low) (h d)
+
+-- what holds of each that is found for a list holds of all
+each_found : {S : Type 0} (P : S → Type 0) (places : List ℕ) (ss : List S) → AllZip (λ k s. P s) places ss → All P ss
+each_found P [] [] h = All-nil P
+each_found P [] (s ∷ ss) h = absurd h
+each_found P (k ∷ ks) [] h = absurd h
+each_found P (k ∷ ks) (s ∷ ss) h = All-cons P s ss h.0 (each_found P ks ss h.1)
+
+pub gathered_all : {S E : Type 0} (P : S → Type 0) (places : List ℕ) (rs : List (Result S E)) (v : Result (Vec S Global) E) → AllZip (λ k r. IfOk r P) places rs
+    → MatchResult v (λ c. (ss : List S) × (rs ≡ map Ok ss) × (c.items ≡ ss)) (λ e. Contains rs (Err e)) → IfOk v (λ c. All P c.items)
+gathered_all P places rs (Ok c) each were = each_found P places c.items (gathered (λ k s. P s) places rs (Ok c) each were)
+gathered_all P places rs (Err e) each were = tt

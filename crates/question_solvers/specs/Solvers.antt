@@ -26,9 +26,10 @@ pub record IsPlainReady {S V : Type 0} {G : Ghosts S V} (meaning : S → Algebra
   pub searcher : ForSome s.searcher (IsSearcherOf algebra s.graph)
   pub rows : asked.kind ≡ Pairs → IsSome s.by_head
 
--- the factors' solver: the plain one in it is ready, and factors have the rows of arcs by head and carry the algebra's values
+-- the factors' solver: the plain one in it is ready, what was asked ahead is right, and factors have the rows of arcs by head and carry the algebra's values
 pub record IsFactorReady {S V : Type 0} {G : Ghosts S V} (meaning : S → Algebra V) (algebra : S) (asked : Asked) (s : FactorSolver S V G) : Type 0 where
   pub plain : IsPlainReady meaning algebra asked s.plain
+  pub ahead : All (IsSearched (meaning algebra) s.plain.graph asked) s.ahead.items
   pub rows : IfSome s.factored (λ f. IsSome s.plain.by_head)
   pub carried : IfSome s.factored (λ f. IsCarried (meaning algebra) (cost_of f.factors.algebra.cost))
 

@@ -3,6 +3,7 @@ ghost use Rattle.std.specs.Prelude.{◌≡◌, ◌↔◌, IfOk, IfSome, IsSome, 
 ghost use Rattle.std.specs.Option.{ForSome, IsSomeAnd};
 
 use crate::plain_solver::PlainSolver;
+use crate::searched::Searched;
 use crate::solved::Solved;
 use factor_routes::{RoadFactors, RouteAsker, Unfactored};
 use path_algebra::{Cost, PathAlgebra};
@@ -57,7 +58,7 @@ pub enum Factoring {
     Refused(Refusal),
 }
 
-/// Solves a pair by asking the factors of the graph, and another question by two sweeps over them. The graph is factored when the
+/// Solves a pair by asking the factors of the graph, several side by side, and another question by two sweeps over them. The graph is factored when the
 /// first task begins. If it is too dense or too heavy, the plain solver in it answers.
 #[derive(Drop)]
 pub struct FactorSolver<A: PathAlgebra> {
@@ -66,6 +67,8 @@ pub struct FactorSolver<A: PathAlgebra> {
     pub(crate) factored: Option<Factored>,
     /// For which costs the graph is not factored, and why.
     pub(crate) refused: Option<(Cost, Refusal)>,
+    /// What was asked of the factors ahead of its turn, the next last.
+    pub(crate) ahead: Vec<Searched<A::Value>>,
     /// What the factors solved last.
     pub(crate) last: Option<Solved<A::Value>>,
     ghost of_graph: { ForSome factored (λ f. f.factors.roads ≡ plain.graph) },
@@ -83,6 +86,7 @@ impl<A: PathAlgebra> FactorSolver<A> {
             plain: PlainSolver::new(alloc, graph),
             factored: None,
             refused: None,
+            ahead: Vec::new(alloc),
             last: None,
         }
     }

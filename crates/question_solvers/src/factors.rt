@@ -1,73 +1,50 @@
 //! Solves questions by the factors of the graph.
-ghost use Rattle.std.specs.Prelude.{◌≡◌, ◌<◌, length, IfOk, OnOk, IfSome, IsSome};
-ghost use Rattle.road_graph.specs.GraphData.{HasVertex};
+ghost use Rattle.std.specs.Prelude.{◌≡◌, ◌<◌, length, All, IfOk, OnOk, IfSome, IsSome};
 ghost use Rattle.path_algebra.specs.Carried.{IsCarried};
 ghost use Rattle.path_algebra.specs.Counted.{cost_of};
 ghost use Rattle.road_files.specs.Asked.{AreQuestionsOf, asked_of};
-ghost use Rattle.question_solvers.specs.Solved.{IsAnswerBetween, IsSolvedFor};
+ghost use Rattle.question_solvers.specs.Solved.{IsSearched, IsSolvedFor};
 ghost use Rattle.question_solvers.specs.Solvers.{IsFactorReady, last_by_factors};
 
+use crate::askers::solve_pair;
 use crate::factor_solver::{FactorSolver, Factored};
-use crate::pair::{answer_by, code_of};
 use crate::plain::{make_rows, solve_next_plainly, start_plain};
+use crate::searched::Searched;
 use crate::solved::Solved;
 use crate::task::Task;
-use answer_text::Answer;
 use factor_routes::{RoadFactors, RouteAsker};
 use path_algebra::PathAlgebra;
 use road_files::Questions;
-use road_graph::{InGraph, Memory, Vertex};
+use road_graph::{InGraph, Memory};
 use std::alloc::Global;
 use std::thread::Threads;
 
-/// The answer to a pair, asked of the factors.
-fn answer_asked<A: PathAlgebra>(
-    alloc: Global,
-    algebra: A,
-    rows: &InGraph,
-    factors: &RoadFactors,
-    asker: &mut RouteAsker,
-    pair: (Vertex, Vertex),
-) -> Result<Answer, Memory>
-    requires rows { rows.now ≡ factors.now.roads }
-    requires carried { IsCarried (A.meaning algebra) (cost_of factors.now.algebra.cost) }
-    requires same { asker.old.factors ≡ factors.now }
-    requires source { HasVertex rows.now pair.0 }
-    requires target { HasVertex rows.now pair.1 }
-    ensures same { asker.new.factors ≡ asker.old.factors }
-    ensures answer { IfOk result (IsAnswerBetween (A.meaning algebra) rows.now pair.0 pair.1) }
-{
-    let (source, target) = pair;
-    factors.begin(asker, source);
-    let value = factors.best_value(algebra, asker, target)?;
-    let route = factors.route_from(alloc, algebra, rows, asker, (source, target))?;
-    Ok(answer_by(algebra, (source, target), code_of(algebra, value), route))
-}
-
 /// Solves the question at a place by the factors of its graph.
-fn solve_by_factors<A: PathAlgebra, R>(
+fn solve_by_factors<A: PathAlgebra, R: Threads + Sync>(
     task: &Task<'_, A, R>,
-    rows: &InGraph,
-    factors: &RoadFactors,
+    roads: (&InGraph, &RoadFactors),
     asker: &mut RouteAsker,
+    ahead: &mut Vec<Searched<A::Value>>,
     i: usize,
 ) -> Result<Solved<A::Value>, Memory>
     requires place { i < length (asked_of task.now.questions.now).questions }
-    requires within { AreQuestionsOf rows.now.vertices task.now.questions.now }
-    requires rows { rows.now ≡ factors.now.roads }
-    requires carried { IsCarried (A.meaning task.now.algebra) (cost_of factors.now.algebra.cost) }
-    requires same { asker.old.factors ≡ factors.now }
+    requires within { AreQuestionsOf roads.0.now.vertices task.now.questions.now }
+    requires rows { roads.0.now ≡ roads.1.now.roads }
+    requires carried { IsCarried (A.meaning task.now.algebra) (cost_of roads.1.now.algebra.cost) }
+    requires same { asker.old.factors ≡ roads.1.now }
+    requires ahead { All (IsSearched (A.meaning task.now.algebra) roads.0.now
+        (asked_of task.now.questions.now)) ahead.old.items }
     ensures same { asker.new.factors ≡ asker.old.factors }
-    ensures solved { IfOk result (IsSolvedFor (A.meaning task.now.algebra) rows.now
+    ensures ahead { All (IsSearched (A.meaning task.now.algebra) roads.entry.0.now
+        (asked_of task.now.questions.now)) ahead.new.items }
+    ensures solved { IfOk result (IsSolvedFor (A.meaning task.now.algebra) roads.entry.0.now
         (asked_of task.now.questions.now) i) }
 {
-    let (alloc, algebra) = (task.alloc, task.algebra);
     match task.questions {
-        Questions::Pairs(pairs) => {
-            let answer = answer_asked(alloc, algebra, rows, factors, asker, pairs[i])?;
-            Ok(Solved::Answer(answer))
-        }
+        Questions::Pairs(_) => solve_pair(task, roads, asker, ahead, i),
         _ => {
+            let (alloc, algebra) = (task.alloc, task.algebra);
+            let (rows, factors) = roads;
             let sources = task.questions.sources(i);
             let (labels, tree) = factors.solve_with_tree(alloc, algebra, rows, sources)?;
             Ok(Solved::Tree { labels, tree })
@@ -109,7 +86,9 @@ pub fn start_factors<A: PathAlgebra, R>(
 {
     solver.last = None;
     start_plain(task, &mut solver.plain)?;
-    factor(task.alloc, task.algebra, solver)
+    factor(task.alloc, task.algebra, solver)?;
+    solver.ahead.clear();
+    Ok(())
 }
 
 /// Solves the question at a place: by the factors, or plainly, if there are none.
@@ -138,7 +117,8 @@ pub fn solve_next_by_factors<A: PathAlgebra, R: Threads + Sync>(
         unreachable!()
     };
     let Factored { factors, mut asker } = factored;
-    let solved = solve_by_factors(task, rows, &factors, &mut asker, i);
+    let ahead = &mut solver.ahead;
+    let solved = solve_by_factors(task, (rows, &factors), &mut asker, ahead, i);
     solver.factored = Some(Factored { factors, asker });
     solver.last = Some(solved?);
     Ok(())

@@ -1,6 +1,8 @@
 //! Solves questions by searches and by the factors of their graph.
 #![tactic(auto)]
 
+mod ahead;
+mod askers;
 mod factor_solver;
 mod factors;
 mod pair;

@@ -1,4 +1,4 @@
-use Rattle.std.proofs.Common.{rules, [], ◌∷◌, ◌≡◌, subst, sym}
+use Rattle.std.proofs.Common.{[], ◌∷◌, ◌≡◌, subst, sym}
 use Rattle.path_algebra.specs.Walks.{IsBestLabel}
 use Rattle.route_tree.specs.Told.{IsPairRoute}
 use Rattle.question_solvers.specs.Solved.{IsAnswerBetween}

@@ -12,13 +12,38 @@ row_text row =
     ++ 10 ∷ codes "  example: " ++ row.example.now
     ++ 10 ∷ codes "  cause: " ++ row.cause.now ++ 10 ∷ []
 
--- the numbers of the faults, in order
-abbrev pub fault_numbers : List ℕ
-fault_numbers = 1 ∷ 2 ∷ 3 ∷ 10 ∷ 11 ∷ 12 ∷ 13 ∷ 14 ∷ 15 ∷ 16 ∷ 17 ∷ 18 ∷ 19 ∷ 30 ∷ 31 ∷ 32 ∷ 33 ∷ 34 ∷ 35 ∷ 36 ∷ 40 ∷ 41 ∷ 42 ∷ 43 ∷ []
+-- the faults by their numbers, in order, each with what it says
+abbrev pub meanings : List (ℕ × List ℕ)
+meanings =
+    (1, codes "an input could not be opened or read")
+    ∷ (2, codes "an input exceeds 4294967296 bytes, and no line within them has a fault")
+    ∷ (3, codes "memory, or the start of a worker, was refused")
+    ∷ (10, codes "no problem line before this line, or none at all")
+    ∷ (11, codes "a second problem line")
+    ∷ (12, codes "a problem line with wrong fields or words")
+    ∷ (13, codes "a line that this file does not have")
+    ∷ (14, codes "a wrong number of fields")
+    ∷ (15, codes "not a number")
+    ∷ (16, codes "a number that is too large")
+    ∷ (17, codes "no such vertex")
+    ∷ (18, codes "more lines than the problem line announces")
+    ∷ (19, codes "fewer lines than the problem line announces")
+    ∷ (30, codes "answers that do not begin with a header")
+    ∷ (31, codes "a header with wrong fields or words, or an algebra that is not here")
+    ∷ (32, codes "a line of answers where it does not belong")
+    ∷ (33, codes "a wrong number of fields in a line of answers")
+    ∷ (34, codes "not a number, in answers")
+    ∷ (35, codes "a number that is too large, in answers")
+    ∷ (36, codes "answers that end before the last one is complete")
+    ∷ (40, codes "a worker reached its limit of turns")
+    ∷ (41, codes "a gate stopped a worker")
+    ∷ (42, codes "the output could not be written")
+    ∷ (43, codes "options that do not go with the algebra: `--limit` or `--factors`")
+    ∷ []
 
--- a table with one row for each fault, in the order of their numbers
+-- a table with one row for each fault, in the order of their numbers, which says what the fault means
 abbrev pub IsFaultTable : List FaultRow → Type 0
-IsFaultTable table = map (λ row. row.number) table ≡ fault_numbers
+IsFaultTable table = map (λ row. (row.number, row.meaning.now)) table ≡ meanings
 
 -- a row of this table, with this number
 abbrev pub IsRowOf : List FaultRow → ℕ → FaultRow → Type 0

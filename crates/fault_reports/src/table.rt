@@ -9,19 +9,19 @@ const FAULTS: &[FaultRow] = &[
         number: 1,
         meaning: "an input could not be opened or read",
         example: "`diffuse solve nowhere.gr roads.ss`",
-        cause: "no such file, a directory, or no leave to read it",
+        cause: "no such file, a directory, or no permission to read it",
     },
     FaultRow {
         number: 2,
-        meaning: "an input is longer than 4294967296 bytes, and no line of it has a fault",
+        meaning: "an input exceeds 4294967296 bytes, and no line within them has a fault",
         example: "`diffuse bundle < /dev/zero`",
-        cause: "a stream without an end, or more questions than belong in one file",
+        cause: "an endless stream, or more questions than belong in one file",
     },
     FaultRow {
         number: 3,
         meaning: "memory, or the start of a worker, was refused",
         example: "`ulimit -v 100000; diffuse solve --workers 64 roads.gr roads.ss`",
-        cause: "too little memory; `--plain` and a lesser `--width` need the least",
+        cause: "too little memory; `--plain` and a small `--width` need the least",
     },
     FaultRow {
         number: 10,
@@ -93,15 +93,15 @@ const FAULTS: &[FaultRow] = &[
         number: 30,
         meaning: "answers that do not begin with a header",
         example: "answers that begin with `s 1`",
-        cause: "another file was given for the answers, or their first line was cut off",
+        cause: "another file was given for the answers, or their first line is missing",
     },
     FaultRow {
         number: 31,
         meaning: "a header with wrong fields or words, or an algebra that is not here",
         example: "`p ans ss 1 fastest`",
         cause: concat!(
-            "a name that is misspelled; or `own`, a caller's own algebra, without\n",
-            "    a line: it can be judged by the library alone"
+            "a misspelled name; or, without a line, `own`, a caller's own algebra,\n",
+            "    whose answers only the library can judge"
         ),
     },
     FaultRow {
@@ -126,13 +126,13 @@ const FAULTS: &[FaultRow] = &[
         number: 35,
         meaning: "a number that is too large, in answers",
         example: "`d 2 18446744073709551616 1 1`",
-        cause: "a great value for a vertex that is not reached: write `u V`",
+        cause: "a huge value for a vertex that is not reached: write `u V`",
     },
     FaultRow {
         number: 36,
-        meaning: "answers that end before the last one is whole",
+        meaning: "answers that end before the last one is complete",
         example: "`p ans ss 1 shortest` and nothing else",
-        cause: "the run that wrote them ended with a fault, or is not over",
+        cause: "the run that wrote them ended with a fault, or has not ended",
     },
     FaultRow {
         number: 40,
@@ -150,22 +150,22 @@ const FAULTS: &[FaultRow] = &[
         number: 42,
         meaning: "the output could not be written",
         example: "`diffuse solve roads.gr roads.ss > /dev/full`",
-        cause: "a full disk, or a reader that has gone, as `head` in `| head`",
+        cause: "a full disk, or a reader that has gone, such as `head` in `| head`",
     },
     FaultRow {
         number: 43,
         meaning: "options that do not go with the algebra: `--limit` or `--factors`",
         example: "`diffuse solve --algebra hops --limit 5 roads.gr roads.ss`",
         cause: concat!(
-            "`--limit` goes with `within`, and that not without it; for `check`, the\n",
-            "    answers name the algebra. Or the algebra has no factors: shortest,\n",
-            "    within and hops have. A setting out of its range is refused with the\n",
-            "    command line; the library calls that 43 too"
+            "`--limit` is required with `within`, and allowed only there; for\n",
+            "    `check`, the answers name the algebra. Or the algebra has no factors:\n",
+            "    only shortest, within and hops have. A setting out of its range is\n",
+            "    wrong usage of the program, and 43 in the library"
         ),
     },
 ];
 
-/// What is known of each fault, in the order of their numbers.
+/// What is known of each fault, in the order of their numbers: each with its own meaning.
 pub fn all_faults() -> &'static [FaultRow]
     ensures { IsFaultTable result.now }
 {

@@ -69,8 +69,7 @@ fn subcommand_said(alloc: Global, subcommand: &Subcommand<'_>) -> Result<String,
 /// What a command line says, in words: the subcommand, or whether it asks for help or is wrong.
 fn said(alloc: Global, words: &[String]) -> Result<String, AllocError> {
     match parse_args(alloc, words) {
-        Ok(Some(subcommand)) => subcommand_said(alloc, &subcommand),
-        Ok(None) => String::from_str(alloc, "nothing"),
+        Ok(subcommand) => subcommand_said(alloc, &subcommand),
         Err(error) => String::from_str(alloc, if error.use_stderr() { "wrong" } else { "help" }),
     }
 }
@@ -183,20 +182,24 @@ fn settings_said(alloc: Global, settings: &Settings) -> Result<String, AllocErro
     }
 }
 
-/// How a bundle is run, as a command line says, in words; or `wrong`.
-fn bundle_said(alloc: Global, words: &[String]) -> Result<String, AllocError> {
+/// How questions are run, as a command line says, in words; or `wrong`.
+fn run_said(alloc: Global, words: &[String]) -> Result<String, AllocError> {
     match parse_args(alloc, words) {
-        Ok(Some(Subcommand::Bundle(args))) => settings_said(alloc, &args.options.settings),
+        Ok(Subcommand::Solve(args)) => settings_said(alloc, &args.options.settings),
+        Ok(Subcommand::Bundle(args)) => settings_said(alloc, &args.options.settings),
+        Ok(Subcommand::Serve(args)) => settings_said(alloc, &args.options.settings),
         _ => String::from_str(alloc, "wrong"),
     }
 }
 
-/// Asserts how a bundle is run under these options, in words.
+/// Asserts how each command that answers runs questions under these options, in words.
 fn assert_settings(rt: &(impl Abort + AllocGlobal), options: &str, wanted: &str) {
-    let line = joined(rt, &["diffuse bundle ", options]);
-    let words = words_of(rt, line.as_str());
-    let found = bundle_said(rt.alloc(), words.as_slice()).expect(rt, "memory");
-    assert_eq!(rt; found.as_str(), wanted);
+    for command in ["diffuse bundle ", "diffuse solve g q ", "diffuse serve g "] {
+        let line = joined(rt, &[command, options]);
+        let words = words_of(rt, line.as_str());
+        let found = run_said(rt.alloc(), words.as_slice()).expect(rt, "memory");
+        assert_eq!(rt; found.as_str(), wanted);
+    }
 }
 
 #[test]
@@ -215,7 +218,10 @@ fn settings_of_a_command_line(rt: HostRuntime) {
             "4 4 1 1024 1000000000000 ahead 4294967295",
         ),
         ("--ahead 4294967296", "wrong"),
-        ("--factors --plain", "wrong"),
+        (
+            "--factors --plain",
+            "4 4 1 1024 1000000000000 plain factors",
+        ),
         ("--workers 64 --shards 1", "64 1 1 1024 1000000000000"),
         ("--shards=64 --width 64", "4 64 64 1024 1000000000000"),
         ("--budget 1 --turns 0", "4 4 1 1 0"),
@@ -394,6 +400,23 @@ const COMMANDS: &[(&str, &str, &str, u8)] = &[
     ("check - - none", "", STDIN_TWICE, 2),
     ("check - - -", "", STDIN_TWICE, 2),
     ("solve - - --limit 5", "", "diffuse: fault 43\n", 2),
+    ("solve g q --plain --factors", "", TWO_SOLVERS, 2),
+    ("serve g --plain --factors --limit 5", "", TWO_SOLVERS, 2),
+    ("bundle --factors --plain --accounts a", "", TWO_SOLVERS, 2),
+    ("solve g q --accounts g", "", FILE_TAKEN, 2),
+    ("solve g q --accounts q", "", FILE_TAKEN, 2),
+    ("solve g q --accounts /dev/fd/1", "", FILE_TAKEN, 2),
+    ("solve g q --accounts /dev/fd/2", "", FILE_TAKEN, 2),
+    (
+        "solve g none --accounts g",
+        "",
+        "diffuse: fault 1 questions\n",
+        3,
+    ),
+    ("solve g q --accounts -", "", NO_FILE, 2),
+    ("solve g - --accounts -", "", NO_FILE, 2),
+    ("bundle --accounts -", "", NO_FILE, 2),
+    ("bundle --accounts /dev/fd/1", "", FILE_TAKEN, 2),
     ("faults 13", THIRTEEN, "", 0),
     ("faults 42 13", FORTY_TWO_AND_THIRTEEN, "", 0),
     ("faults 13 14 4", "", NO_SUCH_FAULT, 2),
@@ -403,7 +426,17 @@ const COMMANDS: &[(&str, &str, &str, u8)] = &[
 ];
 
 /// What is said of standard input that is named twice.
-const STDIN_TWICE: &str = "error: `-` is standard input, and serves for one of the files\n";
+const STDIN_TWICE: &str = "error: only one of the files can be `-`, standard input\n";
+
+/// What is said of two solvers.
+const TWO_SOLVERS: &str = "error: `--plain` and `--factors` cannot be used together\n";
+
+/// What is said of a file of accounts that is named as standard input.
+const NO_FILE: &str = "error: `--accounts` needs a file; one that is named `-` is `./-`\n";
+
+/// What is said of one that the command reads, or that its other output goes to.
+const FILE_TAKEN: &str =
+    "error: `--accounts` would overwrite an input, or the output or error output\n";
 
 /// What is said of a number that is no fault's.
 const NO_SUCH_FAULT: &str = "error: no fault has this number; `diffuse faults` lists them\n";
@@ -417,7 +450,7 @@ const THIRTEEN: &str =
 
 /// What is said of faults 42 and 13, in this order.
 const FORTY_TWO_AND_THIRTEEN: &str =
-    "fault 42: the output could not be written\n  example: `diffuse solve roads.gr roads.ss > /dev/full`\n  cause: a full disk, or a reader that has gone, as `head` in `| head`\nfault 13: a line that this file does not have\n  example: `x 1 2 3` in a graph, `q 1 2` in a .ss file\n  cause: in line 1 of a graph, a compressed file: give `<(zcat FILE)`\n";
+    "fault 42: the output could not be written\n  example: `diffuse solve roads.gr roads.ss > /dev/full`\n  cause: a full disk, or a reader that has gone, such as `head` in `| head`\nfault 13: a line that this file does not have\n  example: `x 1 2 3` in a graph, `q 1 2` in a .ss file\n  cause: in line 1 of a graph, a compressed file: give `<(zcat FILE)`\n";
 
 /// Files and a standard input in memory.
 #[derive(Drop)]
@@ -446,6 +479,10 @@ impl<'a> FileSystem for Shelf<'a> {
             return Err(WriteFault);
         }
         Ok(Plain::new(io::sink()))
+    }
+
+    fn is_same_file(&self, path: &str, other: &str) -> bool {
+        path == other
     }
 
     fn stdin(&self) -> Plain<&'a [u8]> {
@@ -501,7 +538,7 @@ fn commands_and_statuses(rt: HostRuntime) {
 
 #[test]
 fn services_and_statuses(rt: HostRuntime) {
-    let taken = "error: standard input has the requests; give a graph by its file\n";
+    let taken = "error: the graph cannot be `-`: standard input has the requests\n";
     let twice = joined(&rt, &[FROM_ONE, FROM_ONE]);
     let answered = joined(&rt, &[SHORTEST, SHORTEST]);
     let cut = joined(&rt, &["s 1\n", FROM_ONE, "p aux sp p2p 2\nq 1 4\n"]);

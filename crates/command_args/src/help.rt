@@ -5,16 +5,16 @@ macro_rules! with_statuses {
     ($($before:literal)*) => {
         concat!(
             $($before,)*
-            "Exit statuses:\n",
-            "  0  answered, valid, or help was asked for\n",
+            "Exit status:\n",
+            "  0  answered, valid, or help was requested\n",
             "  1  invalid\n",
             "  2  wrong usage, or fault 43\n",
-            "  3  an input is not as it should be: faults 1, 2, and 10 to 36\n",
-            "  4  no memory: fault 3\n",
+            "  3  an input is missing or malformed: faults 1, 2, and 10 to 36\n",
+            "  4  out of memory: fault 3\n",
             "  5  the output could not be written: fault 42\n",
             "  6  stopped: faults 40 and 41\n",
             "A fault is one line on standard error: `diffuse: fault N FILE line L`.\n",
-            "`diffuse faults N` says what it means, and what it usually comes from."
+            "`diffuse faults N` explains it."
         )
     };
 }
@@ -24,38 +24,38 @@ pub const VERSION: &str = "1.1.0 (rattle-kit-13f)";
 
 /// What the program is for.
 pub const PURPOSE: &str = concat!(
-    "Answers questions over road graphs: shortest, widest, reach, hops, reliable and\n",
-    "within (shortest up to a limit). It is proved that what it answers is right",
+    "Answers path questions over road graphs: best values, hops and routes. If a\n",
+    "command ends with status 0, what it wrote is right; this is proved",
 );
 
-/// The names of the algebras.
+/// The algebras, and what each calls best.
 pub const ALGEBRA: &str = concat!(
-    "What is best:\n",
+    "Which value is best:\n",
     "  shortest  the least sum of weights\n",
     "  widest    the greatest least weight\n",
-    "  reach     any walk\n",
+    "  reach     any: whether there is a walk at all\n",
     "  hops      the fewest arcs\n",
-    "  reliable  the greatest product of chances: weights are in parts of\n",
-    "            10^6, values in parts of 10^12. A product below 10^-12 is\n",
-    "            0 (246 arcs of 0.9); then only hops decide\n",
+    "  reliable  the greatest product of chances (weights in millionths,\n",
+    "            values in units of 10^-12, rounded down: the product of\n",
+    "            246 arcs of 0.9 is 0, and then only hops decide)\n",
     "  within    the least sum of weights, up to `--limit`",
 );
 
 /// The names of the algebras, in short.
 pub const NAMES: &str = concat!(
-    "Names: shortest, widest, reach, hops, reliable, within (with --limit).\n",
-    "`--help` says what they mean, and lists the exit statuses.",
+    "Algebras: shortest, widest, reach, hops, reliable, within (with --limit).\n",
+    "`--help` explains them, and lists the exit statuses.",
 );
 
-/// What a graph's file is.
+/// What a graph's file contains.
 pub const GRAPH: &str = concat!(
     "A road graph, a .gr file of the 9th DIMACS Implementation Challenge:\n",
-    "`p sp VERTICES ARCS`, then a line `a FROM TO WEIGHT` for each arc.\n",
-    "`<(zcat FILE.gz)` serves. `-` is standard input, and serves for one of\n",
-    "the files; a file of that name is `./-`",
+    "`p sp VERTICES ARCS`, then one line `a FROM TO WEIGHT` per arc. One of\n",
+    "the files may be `-`, standard input; a file of that name is `./-`.\n",
+    "For a compressed graph, write `<(zcat FILE.gz)`",
 );
 
-/// What a file of questions is.
+/// What a file of questions contains.
 pub const QUESTIONS: &str = concat!(
     "The questions:\n",
     "  a .ss file, `s V`: from V to all vertices;\n",
@@ -63,125 +63,131 @@ pub const QUESTIONS: &str = concat!(
     "  a .ms file, `m V1 .. Vj`: from the nearest of several to all",
 );
 
-/// What a file of answers is.
+/// What a file of answers contains.
 pub const JUDGED: &str = concat!(
-    "The answers to judge, as `diffuse solve` writes them; their first line\n",
-    "names the algebra",
+    "The answers to judge, in the format of `diffuse solve`; their first\n",
+    "line names the algebra",
 );
 
-/// When a limit belongs.
+/// When a limit is given.
 pub const LIMIT: &str = concat!(
-    "The greatest sum of weights, 0 to 9223372036854775808. It goes\n",
-    "together with `--algebra within`: one without the other is fault 43",
+    "The greatest sum of weights, 0 to 9223372036854775808. Required with\n",
+    "`--algebra within`, and allowed only there; otherwise fault 43.",
 );
 
-/// When a limit belongs to answers.
+/// When a limit is given for answers.
 pub const LIMIT_OF_ANSWERS: &str = concat!(
-    "The limit under which the answers were made, 0 to 9223372036854775808.\n",
-    "It goes together with a first line that says `within`: one without the\n",
-    "other is fault 43",
+    "The limit of the answers, 0 to 9223372036854775808. Required if their\n",
+    "first line says `within`, and allowed only then; otherwise fault 43.",
 );
 
 /// The one-thread solver.
 pub const PLAIN: &str = concat!(
-    "The fast way for a few questions: a search for each. Leave it out, and\n",
-    "`--factors` too, to run the diffusing computation. With it\n",
+    "Answer each question by a search of its own, with a binary heap. Best\n",
+    "for a few questions. With it, or with `--factors`, the options\n",
     "`--workers`, `--shards`, `--budget`, `--turns`, `--best-first` and\n",
-    "`--ahead` have no effect, but must be in range",
+    "`--ahead` have no effect, but must be in range.",
 );
 
 /// The solver by factors of the graph.
 pub const FACTORS: &str = concat!(
-    "The fast way for many questions over one graph of roads: factor it\n",
-    "once, then answer each by substitution. For shortest, within and hops.\n",
-    "The options that have no effect with `--plain` have none here. A graph\n",
-    "that is too dense is answered as with `--plain`",
+    "Factor the graph once, then answer each question by substitution. Best\n",
+    "for many questions over one road graph, under shortest, within or\n",
+    "hops. Not with `--plain`. A graph that is too dense to factor, or\n",
+    "whose sums could exceed 2^63, is answered as with `--plain`.",
 );
 
 /// How many questions are run together.
 pub const WIDTH: &str = concat!(
-    "Questions under way together, 1 to 64; memory grows with it. With\n",
-    "`--plain` they are solved side by side, on all processors; with\n",
-    "`--factors` one after the other",
+    "Questions in progress at a time, 1 to 64. Memory grows with it. With\n",
+    "`--plain` they are solved in parallel, on all processors; with\n",
+    "`--factors`, one after the other.",
 );
 
 /// How many threads there are.
-pub const WORKERS: &str = "Threads that turn the shards of the questions, 1 to 64";
+pub const WORKERS: &str = "Threads that run the diffusing computation, 1 to 64.";
 
-/// How many parts a question is cut into.
-pub const SHARDS: &str = "Parts that the vertices are cut into, 1 to 64";
+/// How many parts the vertices are divided into.
+pub const SHARDS: &str = concat!(
+    "Shards that the vertices are divided into, 1 to 64. Worker k of n owns\n",
+    "every n-th shard, starting with the k-th.",
+);
 
 /// How much a shard does before the next has its turn.
-pub const BUDGET: &str = "Messages and signals of a shard in a turn, 1 to 65536";
+pub const BUDGET: &str = "Messages and signals that a shard handles per turn, 1 to 65536.";
 
 /// Which of the waiting messages a shard handles next.
 pub const BEST_FIRST: &str = concat!(
-    "Let a shard handle the best waiting message next, not the first that\n",
-    "came: far fewer messages on road graphs",
+    "Let each shard handle its best waiting message next, not the oldest.\n",
+    "On road graphs this sends far fewer messages.",
 );
 
 /// How far a shard may run ahead of the others.
 pub const AHEAD: &str = concat!(
-    "With `--best-first`: by what weight a shard may run ahead of the best\n",
-    "message that waits at another, 0 to 4294967295; worse ones are held\n",
-    "back. Without it the mean weight of the arcs",
+    "With `--best-first`: a message waits while it is worse than the best\n",
+    "one that waits at another shard, extended by an arc of weight W, 0 to\n",
+    "4294967295. Left out, W is the mean weight of the arcs.",
 );
 
 /// How long a worker goes on.
-pub const TURNS: &str = "Turns of a worker in a group, then fault 40";
+pub const TURNS: &str = concat!(
+    "Turns of a worker per group of questions, 0 to 1000000000000. When a\n",
+    "worker has used them up, the command stops with fault 40.",
+);
 
 /// Where the counts of a run go.
 pub const ACCOUNTS: &str = concat!(
     "Write what each diffusion sent, delivered, signalled and accepted to\n",
-    "FILE (/dev/stderr serves). Not with `--plain` or `--factors`, which\n",
-    "count nothing",
+    "FILE. It must not be an input, or a file that standard output or error\n",
+    "is redirected to. Not with `--plain` or `--factors`, which count\n",
+    "nothing.",
 );
 
 /// Whether a run says how far it is.
 pub const PROGRESS: &str = concat!(
-    "Say on standard error how many questions are answered, each time\n",
-    "another hundredth is",
+    "Report on standard error how many questions are answered, after each\n",
+    "hundredth of them.",
 );
 
 /// Whether a run says how long it took.
 pub const TIMES: &str = concat!(
-    "Say at last on standard error how many seconds were spent on reading,\n",
-    "solving and writing",
+    "Report on standard error, at the end, the seconds spent on reading,\n",
+    "solving and writing.",
 );
 
 /// What a bundle is.
 pub const BUNDLE: &str = concat!(
     "Answers a graph and its questions from standard input: the lines of a .gr\n",
-    "file, and then those of a .ss, .p2p or .ms file",
+    "file, followed by those of a .ss, .p2p or .ms file",
 );
 
 /// What a service is.
 pub const SERVE: &str = concat!(
-    "Replies to the requests of standard input over a graph, to each as soon as it\n",
-    "is whole. A request is what a .ss, .p2p or .ms file has, and its reply is what\n",
-    "`solve` writes for it; then the next may follow",
+    "Reads a graph once, and then answers requests from standard input, each as soon\n",
+    "as it is complete. A request is the text of a .ss, .p2p or .ms file, and its\n",
+    "reply is what `solve` writes for it",
 );
 
 /// What the graph of a service is.
 pub const SERVED_GRAPH: &str = concat!(
     "A road graph, a .gr file of the 9th DIMACS Implementation Challenge.\n",
-    "It is read once, before the first request; `-` does not serve for it",
+    "It is read once, before the first request, and cannot be `-`",
 );
 
 /// How replies are read, and what the exit statuses mean.
 pub const REPLIES: &str = with_statuses!(
-    "A reply is the text of the answers. A line `f NUMBER LINE` ends a reply that\n"
-    "has a fault: a request with a fault has no answer, and after 3 or 40 the\n"
-    "answers before this line are right. LINE counts all lines of standard input.\n"
-    "The service goes on with the next line `p`.\n"
+    "A reply to a request with a fault is the line `f NUMBER LINE`, where LINE counts\n"
+    "all lines of standard input. If the run stops at fault 3 or 40, that line\n"
+    "follows the first answers, which are right. After a fault the service continues\n"
+    "with the next `p` line.\n"
     "\n"
 );
 
 /// How answers are read, and what the exit statuses mean.
 pub const ANSWERS: &str = with_statuses!(
-    "Standard output has one line for each vertex V: `d V VALUE HOPS PARENT` where\n"
-    "V is reached, `u V` where it is not. For a pair it has `d VALUE HOPS` and\n"
-    "`r V1 .. Vk`, the route, or `u` where there is none.\n"
+    "An answer for all vertices has a line `d V VALUE HOPS PARENT` for each vertex V\n"
+    "that is reached, and `u V` for each that is not. An answer for a pair is\n"
+    "`d VALUE HOPS` and the route `r V1 .. Vk`, or `u` if there is none.\n"
     "\n"
 );
 
@@ -194,17 +200,17 @@ pub const VERDICT: &str = concat!(
 /// How a verdict is read, and what the exit statuses mean.
 pub const VERDICTS: &str = with_statuses!(
     "Prints `valid`, with exit status 0, or `invalid Q V R`, with exit status 1: the\n"
-    "first wrong place is in answer Q, at vertex V, for reason R. Reasons:\n"
-    "  1  another header, question or source, or another number of lines\n"
-    "  2  a better value can be had, or none\n"
-    "  3  the value is none, or no arc from the parent gives it\n"
-    "  4  other hops\n"
-    "  5  a lesser parent gives the same\n"
-    "  6  unreached, although a walk leads there\n"
+    "first wrong place is in answer Q, at vertex V, for reason R:\n"
+    "  1  wrong header, question, source or number of lines\n"
+    "  2  there is a better value, or none at all\n"
+    "  3  not a possible value, or no arc from the parent gives it\n"
+    "  4  wrong hops\n"
+    "  5  a lower-numbered parent gives the same value and hops\n"
+    "  6  marked unreached, but a walk leads there\n"
     "  7  another route\n"
-    "Q and V are 0 where the whole is meant. It asks for this program's choice among\n"
-    "equal routes, least hops and then least parent: the right values of another\n"
-    "program may be `invalid` by reason 4 or 5.\n"
+    "Q and V are 0 if no answer or vertex is meant. Of equal routes the right one has\n"
+    "the fewest hops and then the lowest-numbered parents, so right values from\n"
+    "another program may be `invalid` for reason 4 or 5.\n"
     "\n"
 );
 
@@ -212,10 +218,10 @@ pub const VERDICTS: &str = with_statuses!(
 pub const STATUSES: &str = with_statuses!();
 
 /// Which faults are explained.
-pub const NUMBERS: &str = "Numbers of faults, as `13` or `12 13`; without a number all of them";
+pub const NUMBERS: &str = "Fault numbers, such as `13` or `12 13`; all faults if none is given";
 
 /// Where the numbers of faults are met.
 pub const EXPLAINED: &str = concat!(
-    "A fault is one line on standard error, as `diffuse: fault 13 graph line 1`.\n",
+    "A fault is one line on standard error, as in `diffuse: fault 13 graph line 1`.\n",
     "A number that is no fault's is wrong usage, with exit status 2.",
 );

@@ -1,6 +1,7 @@
 //! The command line: its arguments, what help says of them, and what the words of one ask for.
 #![tactic(auto)]
 
+mod arguments;
 mod clap_command;
 mod help;
 mod parsed;

@@ -1,8 +1,20 @@
 //! What the words of a command line ask for.
+ghost use Rattle.std.specs.Prelude.{◌≡◌, List, map, IfOk, IfErr, IsTrue, ◌↔◌, ◌⊎◌, [], Some, None, unwrap_or, string_bytes};
+ghost use Rattle.std.specs.List.{AllZip};
+ghost use Rattle.clap.specs.Values.{kind_of};
+ghost use Rattle.clap.specs.Words.{found_of};
+ghost use Rattle.clap.specs.Simple.{subcommand_rows_of};
+ghost use Rattle.clap.specs.Walk.{all_of, one_of, rows_of};
+ghost use Rattle.command_args.specs.Asked.{AreOptions, AreSettings, AreWatched, AskForNone, AskFor, AskForTable, AreRefused, IsFaultNumber, IsNamed, IsParsedAs, IsSet, Reads, ReadsOr, text_of};
+
 use crate::clap_command::command;
 use batch_run::Settings;
+use clap::error::ErrorKind;
 use clap::{ArgMatches, Error};
 use std::alloc::{AllocError, Global};
+
+/// The names of the algebras that the program has.
+const ALGEBRAS: &[&str] = &["shortest", "widest", "reach", "hops", "reliable", "within"];
 
 /// What is best, and how it is found, as the command line has it.
 #[derive(Clone, Copy, Debug)]
@@ -73,102 +85,194 @@ pub enum Subcommand<'a> {
     Faults { numbers: Vec<u64> },
 }
 
-fn text_of<'a>(matches: &ArgMatches<'a>, name: &str) -> &'a str {
+/// The text of an argument.
+fn text_of<'a>(matches: &ArgMatches<'a>, name: &str) -> &'a str
+    ensures { result.now ≡ text_of name.now (rows_of (found_of matches.now)) }
+{
     matches.get_str(name).unwrap_or("")
 }
 
-fn number_of(matches: &ArgMatches<'_>, name: &str, default: u64) -> u64 {
-    matches.get_one::<u64>(name).unwrap_or(default)
+/// The number of an option, if it was given.
+fn number_of(matches: &ArgMatches<'_>, name: &str) -> Option<u64>
+    ensures { Reads 64 (one_of name.now (rows_of (found_of matches.now))) result }
+{
+    matches.get_one(name)
 }
 
-fn ahead_of(matches: &ArgMatches<'_>) -> Option<u32> {
-    u32::try_from(matches.get_one::<u64>("ahead")?).ok()
+/// The number of an option, or its usual one.
+fn number_or(matches: &ArgMatches<'_>, name: &str, usual: u64) -> u64
+    ensures { ReadsOr usual (one_of name.now (rows_of (found_of matches.now))) result }
+{
+    number_of(matches, name).unwrap_or(usual)
 }
 
-fn settings_of(matches: &ArgMatches<'_>) -> Settings {
+/// The weight of an option, if it was given.
+fn weight_of(matches: &ArgMatches<'_>, name: &str) -> Option<u32>
+    ensures { Reads 32 (one_of name.now (rows_of (found_of matches.now))) result }
+{
+    matches.get_one(name)
+}
+
+/// Whether a flag was given.
+fn flag_of(matches: &ArgMatches<'_>, name: &str) -> bool
+    ensures { IsSet (one_of name.now (rows_of (found_of matches.now))) result }
+{
+    matches.get_flag(name)
+}
+
+fn settings_of(matches: &ArgMatches<'_>) -> Settings
+    ensures { AreSettings (rows_of (found_of matches.now)) result }
+{
     let usual = Settings::default();
     Settings {
-        workers: number_of(matches, "workers", usual.workers),
-        shards: number_of(matches, "shards", usual.shards),
-        width: number_of(matches, "width", usual.width),
-        budget: number_of(matches, "budget", usual.budget),
-        turns: number_of(matches, "turns", usual.turns),
-        plain: matches.get_flag("plain"),
-        factors: matches.get_flag("factors"),
-        best_first: matches.get_flag("best-first"),
-        ahead: ahead_of(matches),
+        workers: number_or(matches, "workers", usual.workers),
+        shards: number_or(matches, "shards", usual.shards),
+        width: number_or(matches, "width", usual.width),
+        budget: number_or(matches, "budget", usual.budget),
+        turns: number_or(matches, "turns", usual.turns),
+        plain: flag_of(matches, "plain"),
+        factors: flag_of(matches, "factors"),
+        best_first: flag_of(matches, "best-first"),
+        ahead: weight_of(matches, "ahead"),
     }
 }
 
-fn options_of<'a>(matches: &ArgMatches<'a>) -> RunOptions<'a> {
+fn options_of<'a>(matches: &ArgMatches<'a>) -> RunOptions<'a>
+    ensures { AreOptions (rows_of (found_of matches.now)) result }
+{
     RunOptions {
         algebra: text_of(matches, "algebra"),
-        limit: matches.get_one::<u64>("limit"),
+        limit: number_of(matches, "limit"),
         settings: settings_of(matches),
     }
 }
 
-fn watching_of<'a>(matches: &ArgMatches<'a>) -> WatchOptions<'a> {
+fn watching_of<'a>(matches: &ArgMatches<'a>) -> WatchOptions<'a>
+    ensures { AreWatched (rows_of (found_of matches.now)) result }
+{
     WatchOptions {
         accounts: matches.get_str("accounts"),
-        progress: matches.get_flag("progress"),
-        times: matches.get_flag("times"),
+        progress: flag_of(matches, "progress"),
+        times: flag_of(matches, "times"),
     }
 }
 
-fn check_of<'a>(matches: &ArgMatches<'a>) -> CheckArgs<'a> {
-    CheckArgs {
-        graph: text_of(matches, "GRAPH"),
-        questions: text_of(matches, "QUESTIONS"),
-        answers: text_of(matches, "ANSWERS"),
-        limit: matches.get_one::<u64>("limit"),
-    }
+/// The number of a fault that a text spells. clap has tried that it spells one.
+fn fault_number(text: &str) -> u64
+    ensures { IsFaultNumber text.now result }
+{
+    text.parse::<u64>().unwrap_or(0)
 }
 
-fn numbers_of(alloc: Global, matches: &ArgMatches<'_>, name: &str) -> Result<Vec<u64>, AllocError> {
+/// The numbers that these texts spell.
+fn fault_numbers(alloc: Global, texts: &[&str]) -> Result<Vec<u64>, AllocError>
+    ensures { IfOk result (λ numbers. AllZip (λ text n. IsFaultNumber text.now n) texts.now
+        numbers.items) }
+{
     let mut numbers = Vec::new(alloc);
-    if let Some(found) = matches.get_many::<u64>(name) {
-        for number in found {
-            numbers.push(number.unwrap_or(0))?;
-        }
+    for text in texts {
+        numbers.push(fault_number(text))?;
     }
     Ok(numbers)
 }
 
+/// The numbers of faults that were given.
+fn numbers_of(alloc: Global, matches: &ArgMatches<'_>, name: &str) -> Result<Vec<u64>, AllocError>
+    ensures { IfOk result (λ numbers. AllZip IsFaultNumber
+        (unwrap_or (all_of name.now (rows_of (found_of matches.now))) []) numbers.items) }
+{
+    match matches.get_raw(name) {
+        Some(texts) => fault_numbers(alloc, texts),
+        None => Ok(Vec::new(alloc)),
+    }
+}
+
+/// The subcommand of a name, with its matches, if it is one of the program's.
+fn subcommand_named<'a>(
+    alloc: Global,
+    name: &str,
+    found: &ArgMatches<'a>,
+) -> Result<Option<Subcommand<'a>>, AllocError>
+    ensures { IfOk result (IsNamed (Some (name.now, rows_of (found_of found.now)))) }
+{
+    match name {
+        "solve" => Ok(Some(Subcommand::Solve(SolveArgs {
+            graph: text_of(found, "GRAPH"),
+            questions: text_of(found, "QUESTIONS"),
+            options: options_of(found),
+            watching: watching_of(found),
+        }))),
+        "bundle" => Ok(Some(Subcommand::Bundle(BundleArgs {
+            options: options_of(found),
+            watching: watching_of(found),
+        }))),
+        "serve" => Ok(Some(Subcommand::Serve(ServeArgs {
+            graph: text_of(found, "GRAPH"),
+            options: options_of(found),
+        }))),
+        "check" => Ok(Some(Subcommand::Check(CheckArgs {
+            graph: text_of(found, "GRAPH"),
+            questions: text_of(found, "QUESTIONS"),
+            answers: text_of(found, "ANSWERS"),
+            limit: number_of(found, "limit"),
+        }))),
+        "faults" => {
+            let numbers = numbers_of(alloc, found, "N")?;
+            Ok(Some(Subcommand::Faults { numbers }))
+        }
+        _ => Ok(None),
+    }
+}
+
+/// The subcommand that clap found, if it is one of the program's.
+fn subcommand_of<'a>(
+    alloc: Global,
+    matches: &ArgMatches<'a>,
+) -> Result<Option<Subcommand<'a>>, AllocError>
+    ensures { IfOk result (IsNamed (subcommand_rows_of matches.now)) }
+{
+    match matches.subcommand() {
+        Some((name, found)) => subcommand_named(alloc, name, found),
+        None => Ok(None),
+    }
+}
+
 /// Whether the words are `help faults`, which asks for the table itself.
-fn ask_for_all_faults(words: &[String]) -> bool {
+fn ask_for_table(words: &[String]) -> bool
+    ensures { IsTrue result ↔ AskForTable (map (λ word. string_bytes word) words.now) }
+{
     match words {
         [_, help, faults] => help.as_str() == "help" && faults.as_str() == "faults",
         _ => false,
     }
 }
 
-/// Reads the words of a command line, the program's own first. Errors are usage faults, help, or want of memory.
-pub fn parse_args<'a>(alloc: Global, words: &'a [String]) -> Result<Option<Subcommand<'a>>, Error> {
-    if ask_for_all_faults(words) {
-        let numbers = Vec::new(alloc);
-        return Ok(Some(Subcommand::Faults { numbers }));
+/// What clap makes of the words of a command line.
+fn parse_by_clap<'a>(alloc: Global, words: &'a [String]) -> Result<Subcommand<'a>, Error>
+    ensures asked { IfOk result (IsParsedAs (map (λ word. string_bytes word) words.entry.now)) }
+    ensures refused { IfErr result (λ e. (kind_of e ≡ ErrorKind.OutOfMemory)
+        ⊎ AreRefused (map (λ word. string_bytes word) words.entry.now) (kind_of e)) }
+{
+    let mut command = command(alloc, ALGEBRAS)?;
+    let matches = match command.try_get_matches_from_mut(words) {
+        Ok(matches) => matches,
+        Err(error) => return Err(error),
+    };
+    match subcommand_of(alloc, &matches)? {
+        Some(asked) => Ok(asked),
+        None => Err(command.error(ErrorKind::MissingSubcommand, "no such subcommand")?),
     }
-    let matches = command(alloc)?.try_get_matches_from(words)?;
-    Ok(match matches.subcommand() {
-        Some(("solve", found)) => Some(Subcommand::Solve(SolveArgs {
-            graph: text_of(found, "GRAPH"),
-            questions: text_of(found, "QUESTIONS"),
-            options: options_of(found),
-            watching: watching_of(found),
-        })),
-        Some(("bundle", found)) => Some(Subcommand::Bundle(BundleArgs {
-            options: options_of(found),
-            watching: watching_of(found),
-        })),
-        Some(("serve", found)) => Some(Subcommand::Serve(ServeArgs {
-            graph: text_of(found, "GRAPH"),
-            options: options_of(found),
-        })),
-        Some(("check", found)) => Some(Subcommand::Check(check_of(found))),
-        Some(("faults", found)) => Some(Subcommand::Faults {
-            numbers: numbers_of(alloc, found, "N")?,
-        }),
-        _ => None,
-    })
+}
+
+/// Reads the words of a command line, the program's own first. Errors are usage faults, help, or want of memory.
+pub fn parse_args<'a>(alloc: Global, words: &'a [String]) -> Result<Subcommand<'a>, Error>
+    ensures asked { IfOk result (AskFor (map (λ word. string_bytes word) words.entry.now)) }
+    ensures none { IfErr result (λ e.
+        AskForNone (map (λ word. string_bytes word) words.entry.now) (kind_of e)) }
+{
+    if ask_for_table(words) {
+        let numbers = Vec::new(alloc);
+        return Ok(Subcommand::Faults { numbers });
+    }
+    parse_by_clap(alloc, words)
 }

@@ -1,3 +1,5 @@
+mod Said
+mod Among
 mod Ungated
 mod AccountLines
 mod Adding

@@ -1,5 +1,5 @@
 -- What the commands do: what they try, in what order, and what they then read and write.
-use Rattle.std.specs.Prelude.{◌≡◌, ◌≢◌, ℕ, ◌⊎◌, ◌↔◌, [], ◌∷◌, Option, Result, IsSome, is_some, false}
+use Rattle.std.specs.Prelude.{◌≡◌, ◌≢◌, ℕ, ◌⊎◌, ◌↔◌, List, [], ◌∷◌, Option, Result, IsSome, is_some, false}
 use Rattle.answer_check.specs.declared.verdict.Verdict.{Verdict}
 use Rattle.path_algebra.specs.declared.choice.AlgebraChoice.{AlgebraChoice}
 use Rattle.path_algebra.specs.Choices.{Under}
@@ -22,7 +22,7 @@ use Rattle.program.specs.declared.refusal.Refusal.TheVariants.{Fault, StdinTaken
 use Rattle.program.specs.Inputs.{stdin_name}
 use Rattle.program.specs.Judgements.{EndsCheck, RanJudge}
 use Rattle.program.specs.Moments.{Moment}
-use Rattle.program.specs.Opening.{CannotChoose, CannotCreate, CannotOpen, CreatesIf, HasOpened, IsChosen, Tries, accounts_name, inputs_judged, inputs_solved, missing}
+use Rattle.program.specs.Opening.{CannotChoose, CannotCreate, CannotOpen, CreatesIf, HasOpened, IsChosen, Tells, Tries, accounts_name, inputs_judged, inputs_solved, missing, written_names}
 use Rattle.program.specs.Refusals.{Says}
 use Rattle.program.specs.Runs.{gate_is_open}
 use Rattle.program.specs.Times.{ShowsTimes}
@@ -35,22 +35,25 @@ pub record IsRefused {P W E : Type 0} (Why : P → Refusal → Type 0) (old new 
   pub unwritten : new.out ≡ old.out
   pub says : Says refusal old.errors new.errors result
 
--- the file of accounts was created, if they are wanted
-pub record Creates {S P : Type 0} (creates : Tries P) (watching : WatchOptions) (accounts : Option (Output S)) (files files_after : P) : Type 0 where
-  pub tried : CreatesIf creates (accounts_name watching) files files_after
+-- the file of accounts was created, if they are wanted; it is none of these others
+pub record Creates {S P : Type 0} (creates : Tries P) (tells : Tells P) (others : List (List ℕ)) (watching : WatchOptions) (accounts : Option (Output S)) (files files_after : P) : Type 0 where
+  pub tried : CreatesIf creates tells others (accounts_name watching) files files_after
   pub wanted : IsSome accounts ↔ IsSome watching.accounts
 
--- the file of accounts was to be created, and can't be
-abbrev pub Uncreated : {P : Type 0} → Tries P → WatchOptions → P → P → Refusal → Type 0
-Uncreated creates watching files files_after refusal =
-    CreatesIf creates (accounts_name watching) files files_after × CannotCreate watching refusal
+-- the files that `solve` reads, and those that its other output goes to: none of them is that of the accounts
+abbrev pub taken_solved : SolveArgs → List (List ℕ)
+taken_solved args = args.graph.now ∷ args.questions.now ∷ written_names
+
+-- so of `bundle`, which reads standard input
+abbrev pub taken_bundled : List (List ℕ)
+taken_bundled = stdin_name ∷ written_names
 
 -- both inputs were opened, and the file of accounts was created; then the questions were answered, and at last times were shown, if they are wanted
-pub record SolvesOpened (F I S : Type 0) {P W E : Type 0} (creates : Tries P) (chosen : AlgebraChoice) (args : SolveArgs) (first second : Input (OpenedInput F I)) (opened : P) (old new : Moment P W E) (result : ℕ) : Type 0 where
+pub record SolvesOpened (F I S : Type 0) {P W E : Type 0} (creates : Tries P) (tells : Tells P) (chosen : AlgebraChoice) (args : SolveArgs) (first second : Input (OpenedInput F I)) (opened : P) (old new : Moment P W E) (result : ℕ) : Type 0 where
   pub accounts : Option (Output S)
   pub accounts_after : Option (Output S)
   pub answered : Moment P W E
-  pub created : Creates creates args.watching accounts opened answered.files
+  pub created : Creates creates tells (taken_solved args) args.watching accounts opened answered.files
   pub first_after : Input (OpenedInput F I)
   pub second_after : Input (OpenedInput F I)
   pub ends : EndsWatched chosen args.options.settings args.watching.progress (IsPairOf first.left second.left) IsPairFile (HasReadPair first first_after second second_after)
@@ -58,42 +61,42 @@ pub record SolvesOpened (F I S : Type 0) {P W E : Type 0} (creates : Tries P) (c
   pub timed : ShowsTimes args.watching.times result answered new
 
 -- inputs were opened, or the first that can't be is reported; then the file of accounts was created, or that is reported; then the questions were answered
-pub record SolvesChosen (F I S : Type 0) {P W E : Type 0} (opens creates : Tries P) (chosen : AlgebraChoice) (args : SolveArgs) (old new : Moment P W E) (result : ℕ) : Type 0 where
+pub record SolvesChosen (F I S : Type 0) {P W E : Type 0} (opens creates : Tries P) (tells : Tells P) (chosen : AlgebraChoice) (args : SolveArgs) (old new : Moment P W E) (result : ℕ) : Type 0 where
   pub opened : P
   pub first : Input (OpenedInput F I)
   pub second : Input (OpenedInput F I)
   pub order : HasOpened opens (inputs_solved args) (first ∷ second ∷ []) old.files opened
-  pub ends : IsRefused (Uncreated creates args.watching opened) old new result
-      ⊎ SolvesOpened F I S creates chosen args first second opened old new result
+  pub ends : IsRefused (CannotCreate creates tells (taken_solved args) (accounts_name args.watching) opened) old new result
+      ⊎ SolvesOpened F I S creates tells chosen args first second opened old new result
 
 -- `solve` with these arguments, over files of this type, a standard input of that, and new files of a third
-abbrev pub DoesSolve : (F I S : Type 0) → {P W E : Type 0} → Tries P → Tries P → SolveArgs → Moment P W E → Moment P W E → ℕ → Type 0
-DoesSolve F I S opens creates args old new result =
+abbrev pub DoesSolve : (F I S : Type 0) → {P W E : Type 0} → Tries P → Tries P → Tells P → SolveArgs → Moment P W E → Moment P W E → ℕ → Type 0
+DoesSolve F I S opens creates tells args old new result =
     IsRefused (λ files refusal. (files ≡ old.files) × CannotChoose args.options (is_some args.watching.accounts) refusal) old new result
     ⊎ ((chosen : AlgebraChoice) × IsChosen args.options (is_some args.watching.accounts) chosen
     × (IsRefused (CannotOpen opens (inputs_solved args) old.files) old new result
-    ⊎ SolvesChosen F I S opens creates chosen args old new result))
+    ⊎ SolvesChosen F I S opens creates tells chosen args old new result))
 
 -- the file of accounts was created; then the questions of standard input were answered, which nothing was read of before, and at last times were shown, if they are wanted
-pub record BundlesStdin (I S : Type 0) {P W E : Type 0} (creates : Tries P) (chosen : AlgebraChoice) (args : BundleArgs) (old new : Moment P W E) (result : ℕ) : Type 0 where
+pub record BundlesStdin (I S : Type 0) {P W E : Type 0} (creates : Tries P) (tells : Tells P) (chosen : AlgebraChoice) (args : BundleArgs) (old new : Moment P W E) (result : ℕ) : Type 0 where
   pub text : Input I
   pub text_after : Input I
   pub unread : text.asked ≡ 0
   pub accounts : Option (Output S)
   pub accounts_after : Option (Output S)
   pub answered : Moment P W E
-  pub created : Creates creates args.watching accounts old.files answered.files
+  pub created : Creates creates tells taken_bundled args.watching accounts old.files answered.files
   pub ends : EndsWatched chosen args.options.settings args.watching.progress (IsBundleOf text.left) IsBundleFile (HasReadBundle text text_after)
       old.out answered.out accounts accounts_after old.errors answered.errors result
   pub timed : ShowsTimes args.watching.times result answered new
 
 -- `bundle` with these arguments
-abbrev pub DoesBundle : (I S : Type 0) → {P W E : Type 0} → Tries P → BundleArgs → Moment P W E → Moment P W E → ℕ → Type 0
-DoesBundle I S creates args old new result =
+abbrev pub DoesBundle : (I S : Type 0) → {P W E : Type 0} → Tries P → Tells P → BundleArgs → Moment P W E → Moment P W E → ℕ → Type 0
+DoesBundle I S creates tells args old new result =
     IsRefused (λ files refusal. (files ≡ old.files) × CannotChoose args.options (is_some args.watching.accounts) refusal) old new result
     ⊎ ((chosen : AlgebraChoice) × IsChosen args.options (is_some args.watching.accounts) chosen
-    × (IsRefused (Uncreated creates args.watching old.files) old new result
-    ⊎ BundlesStdin I S creates chosen args old new result))
+    × (IsRefused (CannotCreate creates tells taken_bundled (accounts_name args.watching) old.files) old new result
+    ⊎ BundlesStdin I S creates tells chosen args old new result))
 
 -- the graph's file was opened, and then the requests of standard input were replied to; nothing was read of either before
 pub record ServesOpened (F I : Type 0) {P W E : Type 0} (chosen : AlgebraChoice) (settings : Settings) (old new : Moment P W E) (result : ℕ) : Type 0 where

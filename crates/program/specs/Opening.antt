@@ -1,5 +1,5 @@
 -- What a command tries before it reads: its words, the inputs of their names in order, and the file of accounts.
-use Rattle.std.specs.Prelude.{◌≡◌, ◌≢◌, ℕ, ◌⊎◌, List, [], ◌∷◌, Bool, true, Option, Some, None, IsSome, map}
+use Rattle.std.specs.Prelude.{◌≡◌, ◌≢◌, ℕ, ◌⊎◌, List, [], ◌∷◌, Bool, true, false, Option, Some, None, IsSome, IfSome, All, Any, codes, map}
 use Rattle.std.specs.Option.{option_map}
 use Rattle.path_algebra.specs.Names.{name_of_text}
 use Rattle.path_algebra.specs.Choices.{CannotBe, limit_of, name_of}
@@ -17,23 +17,29 @@ use Rattle.fault_reports.specs.Reports.{run_fault}
 use Rattle.program.specs.Inputs.{NamesStdinOnce, IsNamed, stdin_name}
 use Rattle.program.specs.declared.opened_input.OpenedInput.{OpenedInput}
 use Rattle.program.specs.declared.refusal.Refusal.{Refusal}
-use Rattle.program.specs.declared.refusal.Refusal.TheVariants.{Uncounted, StdinTwice, Fault}
+use Rattle.program.specs.declared.refusal.Refusal.TheVariants.{TwoSolvers, Uncounted, StdinTwice, NoFile, FileTaken, Fault}
 
 -- accounts are wanted, and of a solver that counts nothing: the plain one, or the one by factors
 abbrev pub IsUncounted : Bool → Settings → Type 0
 IsUncounted accounts settings = (accounts ≡ true) × ((settings.plain ≡ true) ⊎ (settings.factors ≡ true))
 
+-- two solvers are asked for
+abbrev pub AreTwo : Settings → Type 0
+AreTwo settings = (settings.plain ≡ true) × (settings.factors ≡ true)
+
 -- this is the algebra that the options name, with their limit
 pub record IsChosen (options : RunOptions) (accounts : Bool) (chosen : AlgebraChoice) : Type 0 where
+  pub one_solver : AreTwo options.settings → ⊥
   pub counted : IsUncounted accounts options.settings → ⊥
   pub named : name_of_text options.algebra.now ≡ Some (name_of chosen)
   pub limited : limit_of chosen ≡ options.limit
 
--- accounts are wanted of a solver that counts nothing; or, if not, there is no algebra of that name with that limit, which is fault 43
+-- two solvers are asked for; or, if not, accounts are wanted of a solver that counts nothing; or, if not, there is no algebra of that name with that limit, which is fault 43
 abbrev pub CannotChoose : RunOptions → Bool → Refusal → Type 0
-CannotChoose options accounts Uncounted = IsUncounted accounts options.settings
+CannotChoose options accounts TwoSolvers = AreTwo options.settings
+CannotChoose options accounts Uncounted = (AreTwo options.settings → ⊥) × IsUncounted accounts options.settings
 CannotChoose options accounts (Fault f) =
-    (IsUncounted accounts options.settings → ⊥) × (f ≡ run_fault 43) × CannotBe (name_of_text options.algebra.now) options.limit
+    (AreTwo options.settings → ⊥) × (IsUncounted accounts options.settings → ⊥) × (f ≡ run_fault 43) × CannotBe (name_of_text options.algebra.now) options.limit
 CannotChoose options accounts _ = ⊥
 
 -- trying to open, or to create, the file of a name leads from one state of the files to another
@@ -84,15 +90,31 @@ CannotOpen opens named old new StdinTwice = (NamesStdinOnce (map (λ n. n.0) nam
 CannotOpen opens named old new (Fault f) = NamesStdinOnce (map (λ n. n.0) named) × IsMissing opens named old new f
 CannotOpen opens named old new _ = ⊥
 
--- the file of this name was tried, if one is wanted, and no other
-abbrev pub CreatesIf : {P : Type 0} → Tries P → Option (List ℕ) → P → P → Type 0
-CreatesIf creates None old new = new ≡ old
-CreatesIf creates (Some name) old new = creates old name new
+-- asking whether two names are those of one file on a disk is answered in one of two ways
+abbrev pub Tells : Type 0 → Type 1
+Tells P = P → List ℕ → List ℕ → Bool → Type 0
+
+-- a name is that of one of other files, or of none of them
+abbrev pub IsAmong : {P : Type 0} → Tells P → P → List ℕ → List (List ℕ) → Bool → Type 0
+IsAmong tells files name others true = Any (λ other. tells files name other true) others
+IsAmong tells files name others false = All (λ other. tells files name other false) others
+
+-- the file of this name was tried, if one is wanted, and no other; it is no standard input, and none of these others
+abbrev pub CreatesIf : {P : Type 0} → Tries P → Tells P → List (List ℕ) → Option (List ℕ) → P → P → Type 0
+CreatesIf creates tells others None old new = new ≡ old
+CreatesIf creates tells others (Some name) old new = (name ≢ stdin_name) × IsAmong tells old name others false × creates old name new
 
 -- the name of the file of accounts, if they are wanted
 abbrev pub accounts_name : WatchOptions → Option (List ℕ)
 accounts_name watching = option_map (λ name. name.now) watching.accounts
 
--- the file of accounts that is wanted can't be created, which is fault 42
-abbrev pub CannotCreate : WatchOptions → Refusal → Type 0
-CannotCreate watching refusal = (refusal ≡ Fault (run_fault 42)) × IsSome watching.accounts
+-- the file of accounts that is wanted is named as standard input, or is one of these others, and nothing was tried; or it can't be created, which is fault 42
+abbrev pub CannotCreate : {P : Type 0} → Tries P → Tells P → List (List ℕ) → Option (List ℕ) → P → P → Refusal → Type 0
+CannotCreate creates tells others wanted old new NoFile = (wanted ≡ Some stdin_name) × (new ≡ old)
+CannotCreate creates tells others wanted old new FileTaken = IfSome wanted (λ name. IsAmong tells old name others true) × IsSome wanted × (new ≡ old)
+CannotCreate creates tells others wanted old new (Fault f) = (f ≡ run_fault 42) × IsSome wanted × CreatesIf creates tells others wanted old new
+CannotCreate creates tells others wanted old new _ = ⊥
+
+-- the names of standard output and standard error
+abbrev pub written_names : List (List ℕ)
+written_names = codes "/dev/fd/1" ∷ codes "/dev/fd/2" ∷ []

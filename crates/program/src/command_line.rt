@@ -1,4 +1,5 @@
 //! The command line: does what its words ask for.
+ghost use Rattle.std.specs.Prelude.{map, string_bytes};
 ghost use Rattle.clap.specs.Values.{kind_of};
 ghost use Rattle.program.specs.CommandLine.{DoesCommandLine, IsSaid};
 ghost use Rattle.program.specs.Moments.{moment};
@@ -13,7 +14,7 @@ use batch_run::fault_of_run;
 use clap::Error;
 use clap::error::ErrorKind;
 use command_args::{Subcommand, parse_args};
-use fault_reports::{USAGE, all_faults, complain, end_with, explain, report, show};
+use fault_reports::{all_faults, complain, end_with, explain, report, show};
 use road_text::{Buffered, MEMORY, Plain, RoadWrite};
 use std::alloc::Global;
 use std::io::Write;
@@ -50,16 +51,17 @@ pub fn run_command_line<
     W: RoadWrite,
     E: RoadWrite,
 >(rt: &R, host: &mut Host<P, W, E>, words: &[String]) -> u8
-    ensures { DoesCommandLine P.File P.Stdin P.NewFile P.opens P.creates
+    ensures { DoesCommandLine P.File P.Stdin P.NewFile P.opens P.creates P.tells_same
+        (map (λ word. string_bytes word) words.now)
         (moment W.written W.held W.failures E.written E.held E.failures host.old)
         (moment W.written W.held W.failures E.written E.held E.failures host.new) result }
 {
     match parse_args(rt.alloc(), words) {
-        Ok(Some(Subcommand::Solve(args))) => solve(rt, host, &args),
-        Ok(Some(Subcommand::Bundle(args))) => bundle(rt, host, &args),
-        Ok(Some(Subcommand::Serve(args))) => serve(rt, host, &args),
-        Ok(Some(Subcommand::Check(args))) => check(rt, host, &args),
-        Ok(Some(Subcommand::Faults { numbers })) => {
+        Ok(Subcommand::Solve(args)) => solve(rt, host, &args),
+        Ok(Subcommand::Bundle(args)) => bundle(rt, host, &args),
+        Ok(Subcommand::Serve(args)) => serve(rt, host, &args),
+        Ok(Subcommand::Check(args)) => check(rt, host, &args),
+        Ok(Subcommand::Faults { numbers }) => {
             let numbers = numbers.as_slice();
             explain(
                 rt.alloc(),
@@ -69,7 +71,6 @@ pub fn run_command_line<
                 &mut host.errors,
             )
         }
-        Ok(None) => USAGE,
         Err(error) => say(rt.alloc(), host, &error),
     }
 }

@@ -7,7 +7,8 @@ use crate::files::FileSystem;
 use crate::host::Host;
 use crate::judging::{end_check, judge};
 use crate::opening::{
-    STDIN_NAME, choose, create_accounts, open_file, open_to_check, open_to_solve,
+    ERRORS_NAME, OUTPUT_NAME, STDIN_NAME, choose, create_accounts, open_file, open_to_check,
+    open_to_solve,
 };
 use crate::refusal::{Refusal, refuse};
 use crate::task::Task;
@@ -20,13 +21,13 @@ use std::sync::Wait;
 use std::thread::Threads;
 
 /// Answers the questions of one input over the graph of another. The inputs are opened in the order of their names, and the file of
-/// accounts is created, before one is read.
+/// accounts, which may be none of them, is created, before one is read.
 pub fn solve<'t, R: AllocGlobal + Threads + Wait + Sync, P: FileSystem, W: RoadWrite, E: RoadWrite>(
     rt: &'t R,
     host: &mut Host<P, W, E>,
     args: &'t SolveArgs<'_>,
 ) -> u8
-    ensures { DoesSolve P.File P.Stdin P.NewFile P.opens P.creates args.now
+    ensures { DoesSolve P.File P.Stdin P.NewFile P.opens P.creates P.tells_same args.now
         (moment W.written W.held W.failures E.written E.held E.failures host.old)
         (moment W.written W.held W.failures E.written E.held E.failures host.new) result }
 {
@@ -39,7 +40,8 @@ pub fn solve<'t, R: AllocGlobal + Threads + Wait + Sync, P: FileSystem, W: RoadW
         Ok(opened) => opened,
         Err(refusal) => return refuse(&mut host.errors, refusal),
     };
-    let mut watching = match create_accounts(&mut host.files, &args.watching) {
+    let taken = [args.graph, args.questions, OUTPUT_NAME, ERRORS_NAME];
+    let mut watching = match create_accounts(&mut host.files, &args.watching, &taken) {
         Ok(watching) => watching,
         Err(refusal) => return refuse(&mut host.errors, refusal),
     };
@@ -62,7 +64,7 @@ pub fn bundle<
     W: RoadWrite,
     E: RoadWrite,
 >(rt: &'t R, host: &mut Host<P, W, E>, args: &'t BundleArgs<'_>) -> u8
-    ensures { DoesBundle P.Stdin P.NewFile P.creates args.now
+    ensures { DoesBundle P.Stdin P.NewFile P.creates P.tells_same args.now
         (moment W.written W.held W.failures E.written E.held E.failures host.old)
         (moment W.written W.held W.failures E.written E.held E.failures host.new) result }
 {
@@ -72,7 +74,8 @@ pub fn bundle<
     };
     host.files.measure(args.watching.times);
     let mut text = host.files.stdin();
-    let mut watching = match create_accounts(&mut host.files, &args.watching) {
+    let taken = [STDIN_NAME, OUTPUT_NAME, ERRORS_NAME];
+    let mut watching = match create_accounts(&mut host.files, &args.watching, &taken) {
         Ok(watching) => watching,
         Err(refusal) => return refuse(&mut host.errors, refusal),
     };
@@ -135,14 +138,6 @@ pub fn check<R: AllocGlobal + Threads + Sync, P: FileSystem, W: RoadWrite, E: Ro
         Ok(opened) => opened,
         Err(refusal) => return refuse(&mut host.errors, refusal),
     };
-    let alloc = rt.alloc();
-    let judged = judge(
-        rt,
-        alloc,
-        &mut graph,
-        &mut questions,
-        &mut answers,
-        args.limit,
-    );
+    let judged = judge(rt, &mut graph, &mut questions, &mut answers, args.limit);
     end_check(&mut host.out, &mut host.errors, judged)
 }

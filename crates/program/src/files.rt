@@ -1,9 +1,12 @@
 //! The files and the standard input of a command, and its stopwatch.
-ghost use Rattle.std.specs.Prelude.{◌≡◌, ℕ, List, IfOk};
+ghost use Rattle.std.specs.Prelude.{◌≡◌, ℕ, List, Bool, IfOk};
 
+use crate::opening::STDIN_NAME;
 use crate::times::{Phase, Stopwatch, Times};
 use road_text::{Plain, ReadFailed, RoadRead, RoadWrite, WriteFault};
 use std::fs;
+use std::fs::Metadata;
+use std::os::unix::fs::MetadataExt;
 use std::rt::Files;
 use std::time::Clock;
 
@@ -24,6 +27,9 @@ pub trait FileSystem {
     // Trying to create the file of this name, once, leads from the first state to the second, if the type says so.
     ghost creates: { Self → List ℕ → Self → Type 0 } = { λ _ _ _. Unit {0} };
 
+    // Asking whether two names are those of one file on a disk is answered like this, if the type says so. `-` is standard input.
+    ghost tells_same: { Self → List ℕ → List ℕ → Bool → Type 0 } = { λ _ _ _ _. Unit {0} };
+
     /// Opens the file of a name. Nothing has been read of it.
     fn open(&mut self, path: &str) -> Result<Self::File, ReadFailed>
         ensures opens { opens self.old path.now self.new }
@@ -32,6 +38,10 @@ pub trait FileSystem {
     /// Creates the file of a name, or empties it.
     fn create(&mut self, path: &str) -> Result<Self::NewFile, WriteFault>
         ensures creates { creates self.old path.now self.new };
+
+    /// Whether both names lead to one file on a disk. `-` is standard input.
+    fn is_same_file(&self, path: &str, other: &str) -> bool
+        ensures tells { tells_same self.now path.now other.now result };
 
     /// Standard input. Nothing has been read of it.
     fn stdin(&self) -> Self::Stdin
@@ -56,6 +66,16 @@ pub struct HostFiles<'s, 'a, R> {
     pub stopwatch: &'s Stopwatch<'a, R>,
 }
 
+/// What the system knows of the file of a name, if there is one. `-` is standard input.
+fn metadata_of<R: Files>(rt: &R, path: &str) -> Option<Metadata> {
+    let path = if path == STDIN_NAME {
+        "/dev/fd/0"
+    } else {
+        path
+    };
+    fs::metadata(rt, path).ok()
+}
+
 impl<R: Files + Input + Clock> FileSystem for HostFiles<'_, '_, R> {
     type File = Plain<R::File>;
 
@@ -74,6 +94,15 @@ impl<R: Files + Input + Clock> FileSystem for HostFiles<'_, '_, R> {
         match fs::File::create(self.rt, path) {
             Ok(file) => Ok(Plain::new(file)),
             Err(_) => Err(WriteFault),
+        }
+    }
+
+    fn is_same_file(&self, path: &str, other: &str) -> bool {
+        match (metadata_of(self.rt, path), metadata_of(self.rt, other)) {
+            (Some(one), Some(two)) => {
+                one.is_file() && one.dev() == two.dev() && one.ino() == two.ino()
+            }
+            _ => false,
         }
     }
 

@@ -2,7 +2,7 @@
 ghost use Rattle.std.specs.Prelude.{◌≡◌, ◌≢◌, ◌↔◌, [], ◌∷◌, IfOk, IfErr, IsSome, IsTrue, map};
 ghost use Rattle.batch_run.specs.Runs.{input};
 ghost use Rattle.program.specs.Inputs.{NamesStdinOnce, IsNamed, of_input, stdin_name};
-ghost use Rattle.program.specs.Opening.{CannotChoose, CannotCreate, CannotOpen, CreatesIf, HasOpened, IsChosen, IsMissing, OpensInput, accounts_name, inputs_judged, inputs_solved, missing};
+ghost use Rattle.program.specs.Opening.{CannotChoose, CannotCreate, CannotOpen, CreatesIf, HasOpened, IsAmong, IsChosen, IsMissing, OpensInput, accounts_name, inputs_judged, inputs_solved, missing};
 
 use crate::files::FileSystem;
 use crate::opened_input::OpenedInput;
@@ -16,12 +16,21 @@ use road_text::READ_FAILED;
 /// The name of standard input.
 pub(crate) const STDIN_NAME: &str = "-";
 
-/// The algebra that options ask for. They are refused if accounts are wanted of a solver that counts nothing, and if the limit is
-/// missing or does not belong.
+/// Standard output, by the name that the system gives it.
+pub(crate) const OUTPUT_NAME: &str = "/dev/fd/1";
+
+/// Standard error, by the name that the system gives it.
+pub(crate) const ERRORS_NAME: &str = "/dev/fd/2";
+
+/// The algebra that options ask for. They are refused if they ask for two solvers, if accounts are wanted of a solver that counts
+/// nothing, and if the limit is missing or does not belong.
 pub fn choose(options: &RunOptions<'_>, accounts: bool) -> Result<AlgebraChoice, Refusal>
     ensures chosen { IfOk result (IsChosen options.now accounts) }
     ensures refused { IfErr result (CannotChoose options.now accounts) }
 {
+    if options.settings.plain && options.settings.factors {
+        return Err(Refusal::TwoSolvers);
+    }
     if accounts && (options.settings.plain || options.settings.factors) {
         return Err(Refusal::Uncounted);
     }
@@ -140,28 +149,50 @@ pub(crate) fn open_to_check<P: FileSystem>(
     Ok((graph, questions, answers))
 }
 
-/// Creates the file of accounts, if they are wanted.
+/// Whether a name is that of one of other files.
+#[tactic(auto, using(crate::proofs::Among::any_map, crate::proofs::Among::all_map))]
+fn is_among<P: FileSystem>(files: &P, path: &str, others: &[&str]) -> bool
+    ensures { IsAmong P.tells_same files.now path.now (map (λ name. name.now) others.now) result }
+{
+    for other in others {
+        if files.is_same_file(path, other) {
+            return true;
+        }
+    }
+    false
+}
+
+/// Creates the file of accounts, if they are wanted, unless it is one of other files.
 pub(crate) fn create_accounts<P: FileSystem>(
     files: &mut P,
     options: &WatchOptions<'_>,
+    others: &[&str],
 ) -> Result<Watching<P::NewFile>, Refusal>
-    ensures creates { CreatesIf P.creates (accounts_name options.now) files.old files.new }
+    ensures creates { IfOk result (λ w. CreatesIf P.creates P.tells_same
+        (map (λ name. name.now) others.now) (accounts_name options.now) files.old files.new) }
     ensures wanted { IfOk result (λ w. IsSome w.accounts ↔ IsSome options.now.accounts) }
     ensures progress { IfOk result (λ w. w.progress ≡ options.now.progress) }
-    ensures fault { IfErr result (CannotCreate options.now) }
+    ensures refused { IfErr result (CannotCreate P.creates P.tells_same
+        (map (λ name. name.now) others.now) (accounts_name options.now) files.old files.new) }
 {
     let progress = options.progress;
-    match options.accounts {
-        None => Ok(Watching {
+    let Some(name) = options.accounts else {
+        return Ok(Watching {
             accounts: None,
             progress,
+        });
+    };
+    if name == STDIN_NAME {
+        return Err(Refusal::NoFile);
+    }
+    if is_among(files, name, others) {
+        return Err(Refusal::FileTaken);
+    }
+    match files.create(name) {
+        Ok(file) => Ok(Watching {
+            accounts: Some(file),
+            progress,
         }),
-        Some(path) => match files.create(path) {
-            Ok(file) => Ok(Watching {
-                accounts: Some(file),
-                progress,
-            }),
-            Err(_) => Err(Refusal::Fault(fault_of_run(WRITE))),
-        },
+        Err(_) => Err(Refusal::Fault(fault_of_run(WRITE))),
     }
 }

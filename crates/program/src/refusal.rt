@@ -6,24 +6,37 @@ use batch_run::RunFault;
 use fault_reports::{complain, report};
 use road_text::RoadWrite;
 
+const TWO_SOLVERS: &[u8] = b"error: `--plain` and `--factors` cannot be used together\n";
+
 const UNCOUNTED: &[u8] =
     b"error: `--plain` and `--factors` count nothing: leave out `--accounts`\n";
 
-const STDIN_TWICE: &[u8] = b"error: `-` is standard input, and serves for one of the files\n";
+const STDIN_TWICE: &[u8] = b"error: only one of the files can be `-`, standard input\n";
 
-const STDIN_TAKEN: &[u8] = b"error: standard input has the requests; give a graph by its file\n";
+const STDIN_TAKEN: &[u8] = b"error: the graph cannot be `-`: standard input has the requests\n";
 
-const NO_TEXT: &[u8] = b"error: a word of the command line is no text\n";
+const NO_FILE: &[u8] = b"error: `--accounts` needs a file; one that is named `-` is `./-`\n";
+
+const FILE_TAKEN: &[u8] =
+    b"error: `--accounts` would overwrite an input, or the output or error output\n";
+
+const NO_TEXT: &[u8] = b"error: an argument is not valid UTF-8\n";
 
 /// What keeps a command from reading: words that do not go together, or a fault.
 #[derive(Clone, Copy, Debug, PartialEq, Eq)]
 pub enum Refusal {
+    /// Two solvers are asked for.
+    TwoSolvers,
     /// Accounts are wanted of a solver that counts nothing.
     Uncounted,
     /// Standard input is named more than once.
     StdinTwice,
     /// A service is to read its graph from standard input.
     StdinTaken,
+    /// The accounts are to go to `-`, which is no file.
+    NoFile,
+    /// The file of the accounts is one that the command reads, or that its other output goes to.
+    FileTaken,
     /// A word of the command line is no text.
     NoText,
     Fault(RunFault),
@@ -35,9 +48,12 @@ pub(crate) fn refuse<E: RoadWrite>(errors: &mut E, refusal: Refusal) -> u8
         (output E.written E.held E.failures errors.new) result }
 {
     match refusal {
+        Refusal::TwoSolvers => complain(errors, TWO_SOLVERS),
         Refusal::Uncounted => complain(errors, UNCOUNTED),
         Refusal::StdinTwice => complain(errors, STDIN_TWICE),
         Refusal::StdinTaken => complain(errors, STDIN_TAKEN),
+        Refusal::NoFile => complain(errors, NO_FILE),
+        Refusal::FileTaken => complain(errors, FILE_TAKEN),
         Refusal::NoText => complain(errors, NO_TEXT),
         Refusal::Fault(fault) => report(errors, fault),
     }

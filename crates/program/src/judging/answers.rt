@@ -118,9 +118,8 @@ fn read_inputs<G: RoadRead, Q: RoadRead, S: RoadRead>(
 /// Judges the answers of one input to the questions of another over the graph of a third, under the algebra that the
 /// answers name. The inputs are read first, in this order; then an algebra of a caller's own is fault 31 of the
 /// answers, and a limit that does not go with the algebra is fault 43.
-pub fn judge<R: Threads + Sync, G: RoadRead, Q: RoadRead, S: RoadRead>(
+pub fn judge<R: AllocGlobal + Threads + Sync, G: RoadRead, Q: RoadRead, S: RoadRead>(
     rt: &R,
-    alloc: Global,
     graph_in: &mut G,
     questions_in: &mut Q,
     answers_in: &mut S,
@@ -134,6 +133,7 @@ pub fn judge<R: Threads + Sync, G: RoadRead, Q: RoadRead, S: RoadRead>(
         (input S.left S.failures S.asked answers_in.old)
         (input S.left S.failures S.asked answers_in.new) result }
 {
+    let alloc = rt.alloc();
     let inputs = match read_inputs(alloc, graph_in, questions_in, answers_in) {
         Ok(inputs) => inputs,
         Err(fault) => return Err(fault),

@@ -22,7 +22,7 @@ returns-in-Err-create_accounts g c =
         order = c.in-Ok-open_to_solve.ensures.opened;
         ends = inl (record {
           refusal = c.in-Err-create_accounts.refusal;
-          why = (c.in-Err-create_accounts.ensures.creates, c.in-Err-create_accounts.ensures.fault);
+          why = c.in-Err-create_accounts.ensures.refused;
           unwritten = refl;
           says = c.refuse-in-Err-create_accounts.ensures;
         });

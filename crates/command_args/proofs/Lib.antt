@@ -1,0 +1,5 @@
+mod Globals
+mod Numbers
+mod Parsing
+mod Reading
+mod Table

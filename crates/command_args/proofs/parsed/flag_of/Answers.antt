@@ -1,0 +1,14 @@
+use Rattle.std.proofs.Common.{◌∙◌, inl, inr}
+use Rattle.clap.specs.Matches.{found_of}
+use Rattle.clap.proofs.WalkLemmas.{one_text-rows}
+use Rattle.command_args.proofs.parsed.flag_of.Goals as goal
+
+pub returns : goal.returns
+returns c =
+    let same = one_text-rows (found_of c.args.matches.now) c.args.name.now in (
+      λ e. c.get_flag.ensures.value (same ∙ e),
+      λ auto. elim auto [
+        | inl none ↦ c.get_flag.ensures.none (same ∙ none)
+        | inr off ↦ c.get_flag.ensures.other (same ∙ off)
+      ],
+    )

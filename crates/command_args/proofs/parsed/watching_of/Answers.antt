@@ -1,0 +1,11 @@
+use Rattle.std.proofs.Common.{◌∙◌, codes}
+use Rattle.clap.specs.Matches.{found_of}
+use Rattle.clap.proofs.WalkLemmas.{first_value-rows}
+use Rattle.command_args.proofs.parsed.watching_of.Goals as goal
+
+pub returns : goal.returns
+returns c = record {
+  accounts = c.get_str.ensures ∙ first_value-rows (found_of c.args.matches.now) (codes "accounts");
+  progress = c.flag_of.ensures;
+  times = c.flag_of-2.ensures;
+}

@@ -1,0 +1,11 @@
+use Rattle.std.proofs.Common.{subst}
+use Rattle.std.specs.Str.Parse.{ExplainsUnsignedError, HasUnsignedDigitsIfOk}
+use Rattle.clap.specs.Matches.{found_of}
+use Rattle.clap.proofs.WalkLemmas.{one_text-rows}
+use Rattle.command_args.specs.Asked.{Reads}
+use Rattle.command_args.proofs.Reading.{reads}
+use Rattle.command_args.proofs.parsed.weight_of.Goals as goal
+
+pub returns : goal.returns
+returns c = subst (λ text. Reads 32 text c.get_one.result) (one_text-rows (found_of c.args.matches.now) c.args.name.now)
+    (reads (ExplainsUnsignedError 10) HasUnsignedDigitsIfOk 32 _ _ c.get_one.ensures.none c.get_one.ensures.value)

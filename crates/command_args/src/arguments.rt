@@ -1,0 +1,116 @@
+//! The kinds of arguments that a command line has.
+ghost use Rattle.std.specs.Prelude.{◌≡◌, false};
+ghost use Rattle.clap.specs.Words.{rule_of};
+ghost use Rattle.command_args.specs.CommandLine.{algebra, fault_numbers, file, flag, limit, number, option, usual_number};
+
+use crate::help::{ALGEBRA, NUMBERS};
+use clap::builder::ValueParser;
+use clap::{Arg, ArgAction};
+use std::alloc::Global;
+
+/// The greatest limit of `within`.
+const MAX_LIMIT: u64 = 9_223_372_036_854_775_808;
+
+/// A flag.
+pub(crate) fn flag<'a>(alloc: Global, name: &'a str, help: &'a str) -> Arg<'a>
+    ensures global { result.global ≡ false }
+    ensures rule { rule_of result ≡ flag name.now }
+{
+    Arg::new(alloc, name)
+        .long(name)
+        .action(ArgAction::SetTrue)
+        .next_line_help(true)
+        .help(help)
+}
+
+/// An option, with what its value is called.
+pub(crate) fn option<'a>(alloc: Global, name: &'a str, value: &'a str, help: &'a str) -> Arg<'a>
+    ensures global { result.global ≡ false }
+    ensures rule { rule_of result ≡ option name.now }
+{
+    Arg::new(alloc, name)
+        .long(name)
+        .value_name(value)
+        .action(ArgAction::Set)
+        .next_line_help(true)
+        .help(help)
+}
+
+/// A whole number in a range, with the one that it is if it is left out.
+pub(crate) fn usual_number<'a>(
+    alloc: Global,
+    name: &'a str,
+    range: (u64, u64),
+    usual: &'a str,
+    help: &'a str,
+) -> Arg<'a>
+    ensures global { result.global ≡ false }
+    ensures rule { rule_of result ≡ usual_number name.now range.0 range.1 usual.now }
+{
+    let (least, greatest) = range;
+    option(alloc, name, "N", help)
+        .value_parser(ValueParser::unsigned(least, greatest))
+        .default_value(usual)
+}
+
+/// By what weight a shard may run ahead.
+pub(crate) fn weight<'a>(alloc: Global, name: &'a str, help: &'a str) -> Arg<'a>
+    ensures global { result.global ≡ false }
+    ensures rule { rule_of result ≡ number name.now 0 4294967295 }
+{
+    option(alloc, name, "W", help).value_parser(ValueParser::unsigned(0, u64::from(u32::MAX)))
+}
+
+/// The limit of `within`.
+pub(crate) fn limit<'a>(alloc: Global, long_help: &'a str) -> Arg<'a>
+    ensures global { result.global ≡ false }
+    ensures rule { rule_of result ≡ limit }
+{
+    let help = "The greatest sum of weights, for `within` alone";
+    option(alloc, "limit", "L", help)
+        .value_parser(ValueParser::unsigned(0, MAX_LIMIT))
+        .long_help(long_help)
+}
+
+/// What is best, by one of these names.
+pub(crate) fn algebra<'a>(alloc: Global, names: &'a [&'a str]) -> Arg<'a>
+    ensures global { result.global ≡ false }
+    ensures rule { rule_of result ≡ algebra names.entry }
+{
+    option(
+        alloc,
+        "algebra",
+        "NAME",
+        "What is best; the names are below",
+    )
+    .value_parser(names)
+    .default_value("shortest")
+    .hide_possible_values(true)
+    .long_help(ALGEBRA)
+}
+
+/// A file that has to be named.
+pub(crate) fn file<'a>(alloc: Global, name: &'a str, help: &'a str, long_help: &'a str) -> Arg<'a>
+    ensures global { result.global ≡ false }
+    ensures rule { rule_of result ≡ file name.now }
+{
+    Arg::new(alloc, name)
+        .required(true)
+        .action(ArgAction::Set)
+        .next_line_help(true)
+        .help(help)
+        .long_help(long_help)
+}
+
+/// Numbers of faults, as many as are given.
+pub(crate) fn fault_numbers<'a>(alloc: Global) -> Arg<'a>
+    ensures global { result.global ≡ false }
+    ensures rule { rule_of result ≡ fault_numbers }
+{
+    Arg::new(alloc, "N")
+        .num_args(0..)
+        .action(ArgAction::Append)
+        .value_parser(ValueParser::unsigned(0, u64::MAX))
+        .next_line_help(true)
+        .help(NUMBERS)
+}

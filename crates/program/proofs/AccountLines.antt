@@ -3,7 +3,8 @@ use Rattle.std.specs.Prelude.{if◌then◌else◌}
 use Rattle.std.proofs.Common.{◌≡◌, ℕ, List, [], ◌∷◌, ◌++◌, true, false, Option, Result, ap, subst, ◌∙◌, decimal, codes, arith}
 use Rattle.std.proofs.lemmas.Grind.{common_steps}
 use Rattle.road_text.specs.Texts.{spelled}
-use Rattle.road_text.specs.Written.{WrotePrefix, FailedAfterPrefix, Wrote}
+use Rattle.road_text.specs.Streams.{Output}
+use Rattle.road_text.specs.Written.{WrotePrefix, FailedAfterPrefix, WritesText}
 use Rattle.road_text.proofs.WriteLaws.{wrote_then, fell_first}
 use Rattle.shard_store.specs.declared.tally.Tally.{Tally}
 use Rattle.program.specs.Accounts.{account_text, counts_text, full_words, owner_text}
@@ -17,15 +18,15 @@ account_is question source t = elim t.full as (λ full. owner_text question sour
     [ true ↦ grind (arith, common_steps) | false ↦ grind (arith, common_steps) ]
 
 -- both parts were written, whole, or the second was cut short
-pub account_then : {R E : Type 0} (old mid new : Option (List ℕ)) (b m a question source : ℕ) (t : Tally) (first second : List ℕ) (r : Result R E) →
+pub account_then : {R E X : Type 0} (old mid new : Output X) (question source : ℕ) (t : Tally) (first second : List ℕ) (r : Result R E) →
     first ≡ owner_text question source → second ≡ counts_text t →
-    WrotePrefix old mid b m first [] → Wrote mid new m a second r → Wrote old new b a (account_text question source t) r
-account_then old mid new b m a question source t first second r e f was next =
-    subst (λ text. Wrote old new b a text r) (ap (λ x. x ++ second) e ∙ ap (λ y. owner_text question source ++ y) f ∙ account_is question source t)
-    (wrote_then old mid new b m a first second r was next)
+    WrotePrefix old mid first [] → WritesText mid new second r → WritesText old new (account_text question source t) r
+account_then old mid new question source t first second r e f was next =
+    subst (λ text. WritesText old new text r) (ap (λ x. x ++ second) e ∙ ap (λ y. owner_text question source ++ y) f ∙ account_is question source t)
+    (wrote_then old mid new first second r was next)
 
 -- the first part was cut short
-pub account_fell : (old new : Option (List ℕ)) (b a question source : ℕ) (t : Tally) (first : List ℕ) → first ≡ owner_text question source → FailedAfterPrefix old new b a first →
-    FailedAfterPrefix old new b a (account_text question source t)
-account_fell old new b a question source t first e was =
-    subst (FailedAfterPrefix old new b a) (account_is question source t) (fell_first old new b a (owner_text question source) (counts_text t) (subst (FailedAfterPrefix old new b a) e was))
+pub account_fell : {X : Type 0} (old new : Output X) (question source : ℕ) (t : Tally) (first : List ℕ) → first ≡ owner_text question source → FailedAfterPrefix old new first →
+    FailedAfterPrefix old new (account_text question source t)
+account_fell old new question source t first e was =
+    subst (FailedAfterPrefix old new) (account_is question source t) (fell_first old new (owner_text question source) (counts_text t) (subst (FailedAfterPrefix old new) e was))

@@ -8,7 +8,7 @@ use Rattle.path_algebra.specs.declared.choice.AlgebraChoice.{AlgebraChoice}
 use Rattle.batch_run.specs.declared.faults.File.{File}
 use Rattle.batch_run.specs.declared.faults.RunFault.{RunFault}
 use Rattle.batch_run.specs.declared.settings.Settings.{Settings}
-use Rattle.batch_run.specs.Runs.{Output, output}
+use Rattle.road_text.specs.Streams.{Output}
 use Rattle.program.specs.Progress.{progress_text}
 use Rattle.program.specs.Watching.{EndsWatched, IsAddedIf}
 
@@ -18,11 +18,11 @@ wanted_made f None W is = is
 wanted_made f (Some a) W is = is
 
 -- what was shown of an error output was shown of it at its moments
-pub shown_as : {E : Type 0} (shown : E → Option (List ℕ)) (held : E → List ℕ) (unshown : E → ℕ) (progress : Bool) (old new : E) (text : List ℕ) →
-    IsAddedIf shown unshown progress old new text →
-    IsAddedIf {E = Output E} (λ x. x.written) (λ x. x.failures) progress (output shown held unshown old) (output shown held unshown new) text
-shown_as shown held unshown true old new text h = h
-shown_as shown held unshown false old new text h = ap (output shown held unshown) h
+pub shown_as : {E : Type 0} (shown : E → Output E) (progress : Bool) (old new : E) (text : List ℕ) →
+    IsAddedIf shown progress old new text →
+    IsAddedIf {E = Output E} (λ x. x) progress (shown old) (shown new) text
+shown_as shown true old new text h = h
+shown_as shown false old new text h = ap shown h
 
 -- another promise of how the input was read, and the same wish for progress
 module _ {W A E : Type 0} (chosen : AlgebraChoice) (settings : Settings) (p q : Bool) (IsRead : GraphData → Asked → Type 0) (inputs : File → Type 0)
@@ -38,6 +38,6 @@ module _ {W A E : Type 0} (chosen : AlgebraChoice) (settings : Settings) (p q : 
     kept = ends.kept;
     accounted = ends.accounted;
     watched = ends.watched;
-    shown = subst (λ progress. IsAddedIf {E = Output E} (λ x. x.written) (λ x. x.failures) progress errors ends.watched (progress_text 0 ends.reports)) e ends.shown;
+    shown = subst (λ progress. IsAddedIf {E = Output E} (λ x. x) progress errors ends.watched (progress_text 0 ends.reports)) e ends.shown;
     ends = ends.ends;
   }

@@ -2,6 +2,7 @@
 use Rattle.std.specs.Prelude.{◌≡◌, ◌≢◌, ℕ, List, [], ◌∷◌, ◌++◌, Bool, true, false, Option, Result, Ok, Err, OnOk}
 use Rattle.std.proofs.Common.{inl, inr, refl, sym, subst, ◌∙◌}
 use Rattle.std.proofs.lemmas.Bool.Decides.{eqb_tells}
+use Rattle.road_text.specs.Streams.{Output}
 use Rattle.road_graph.specs.GraphData.{GraphData}
 use Rattle.road_files.specs.Asked.{Asked}
 use Rattle.path_algebra.specs.Algebra.{Algebra}
@@ -25,17 +26,17 @@ use Rattle.program.proofs.Adding.{added_none, added_then, has_none, has_then}
 abbrev pub WasTold : {S : Type 0} → (S → Report → S → Type 0) → S → S → Type 0
 WasTold may_become old new = (reports : List Report) × FollowsReports may_become old reports new
 
-module _ {V S : Type 0} (A : Algebra V) (plain : Bool) (IsRead : GraphData → Asked → Type 0) (may_become : S → Report → S → Type 0) (old new : S) where
+module _ {V S W : Type 0} (A : Algebra V) (plain : Bool) (IsRead : GraphData → Asked → Type 0) (may_become : S → Report → S → Type 0) (old new : S) (out out_after : Output W) where
   none_told : new ≡ old → WasTold may_become old new
   none_told e = ([], e)
 
-  some_told : (number : ℕ) → (number ≢ 43 → ReportedFirst A plain IsRead may_become old new) → (number ≡ 43 → new ≡ old) → WasTold may_become old new
+  some_told : (number : ℕ) → (number ≢ 43 → ReportedFirst A plain IsRead may_become old new out out_after) → (number ≡ 43 → new ≡ old) → WasTold may_become old new
   some_told number first untouched = elim (eqb_tells number 43) [
     | inl is ↦ none_told (untouched is.1)
-    | inr not ↦ let told = (first not.1).reported.reported in (told.reports, told.told)
+    | inr not ↦ let told = (first not.1).reported.reported.reported in (told.reports, told.told)
   ]
 
-  fault_told : (file : File) (number : ℕ) → (file ≡ NoFile → number ≢ 43 → ReportedFirst A plain IsRead may_become old new) → (file ≢ NoFile → new ≡ old) →
+  fault_told : (file : File) (number : ℕ) → (file ≡ NoFile → number ≢ 43 → ReportedFirst A plain IsRead may_become old new out out_after) → (file ≢ NoFile → new ≡ old) →
       (number ≡ 43 → new ≡ old) → WasTold may_become old new
   fault_told NoFile number first nothing untouched = some_told number (first refl) untouched
   fault_told Graph number first nothing untouched = none_told (nothing (λ e. cc))
@@ -44,59 +45,59 @@ module _ {V S : Type 0} (A : Algebra V) (plain : Bool) (IsRead : GraphData → A
   fault_told Answers number first nothing untouched = none_told (nothing (λ e. cc))
 
 -- a batch makes some reports to its watcher, which on success are its own
-pub watched_told : {V S : Type 0} (A : Algebra V) (how : Settings) (IsRead : GraphData → Asked → Type 0) (may_become : S → Report → S → Type 0) (old new : S) (outcome : Result (Unit {0}) RunFault) →
-    Watched A how IsRead may_become old new outcome → (told : WasTold may_become old new) × OnOk outcome (AreReportsOf A (without_diffusions how) IsRead told.0)
-watched_told A how IsRead may_become old new (Ok u) w =
+pub watched_told : {V S W : Type 0} (A : Algebra V) (how : Settings) (IsRead : GraphData → Asked → Type 0) (may_become : S → Report → S → Type 0) (old new : S) (out out_after : Output W) (outcome : Result (Unit {0}) RunFault) →
+    Watched A how IsRead may_become old new out out_after outcome → (told : WasTold may_become old new) × OnOk outcome (AreReportsOf A (without_diffusions how) IsRead told.0)
+watched_told A how IsRead may_become old new out out_after (Ok u) w =
     ((w.all.reported.reports, w.all.reported.told), record { graph = w.all.graph; asked = w.all.asked; read = w.all.read; are_due = w.all.reported.are_due })
-watched_told A how IsRead may_become old new (Err f) w = (fault_told A (without_diffusions how) IsRead may_become old new f.file f.number w.first w.nothing w.untouched, tt)
+watched_told A how IsRead may_become old new out out_after (Err f) w = (fault_told A (without_diffusions how) IsRead may_become old new out out_after f.file f.number w.first w.nothing w.untouched, tt)
 
 -- the same under the algebra that was chosen
-pub under_told : {S : Type 0} (c : AlgebraChoice) (how : Settings) (IsRead : GraphData → Asked → Type 0) (may_become : S → Report → S → Type 0) (old new : S) (outcome : Result (Unit {0}) RunFault) →
-    Under c (λ V A. Watched A how IsRead may_become old new outcome) →
+pub under_told : {S W : Type 0} (c : AlgebraChoice) (how : Settings) (IsRead : GraphData → Asked → Type 0) (may_become : S → Report → S → Type 0) (old new : S) (out out_after : Output W) (outcome : Result (Unit {0}) RunFault) →
+    Under c (λ V A. Watched A how IsRead may_become old new out out_after outcome) →
     (told : WasTold may_become old new) × Under c (λ V A. OnOk outcome (AreReportsOf A (without_diffusions how) IsRead told.0))
-under_told c how IsRead may_become old new outcome w =
-    under_some c (WasTold may_become old new) (λ V A. Watched A how IsRead may_become old new outcome) (λ told V A. OnOk outcome (AreReportsOf A (without_diffusions how) IsRead told.0))
-    (λ V A it. watched_told A how IsRead may_become old new outcome it) w
+under_told c how IsRead may_become old new out out_after outcome w =
+    under_some c (WasTold may_become old new) (λ V A. Watched A how IsRead may_become old new out out_after outcome) (λ told V A. OnOk outcome (AreReportsOf A (without_diffusions how) IsRead told.0))
+    (λ V A it. watched_told A how IsRead may_become old new out out_after outcome it) w
 
 -- what a watcher of a command leaves to which all these reports were made
-pub record Noted {A E M : Type 0} (written : A → Option (List ℕ)) (failures : A → ℕ) (shown : E → Option (List ℕ)) (unshown : E → ℕ) (old : Watch A E M)
+pub record Noted {A E M : Type 0} (seen : A → Output A) (shown : E → Output E) (old : Watch A E M)
     (reports : List Report) (new : Watch A E M) : Type 0 where
   pub same : (new.accounts.ghost_name ≡ old.accounts.ghost_name) × (new.errors.ghost_name ≡ old.errors.ghost_name)
-  pub accounts : HasAccounts written failures old.accounts.now new.accounts.now old.lost new.lost (accounts_text old.name reports)
-  pub errors : IsAddedIf shown unshown old.progress old.errors.now new.errors.now (progress_text old.all reports)
+  pub accounts : HasAccounts seen old.accounts.now new.accounts.now old.lost new.lost (accounts_text old.name reports)
+  pub errors : IsAddedIf shown old.progress old.errors.now new.errors.now (progress_text old.all reports)
 
-module _ {E : Type 0} (shown : E → Option (List ℕ)) (unshown : E → ℕ) where
-  shown_none : (progress : Bool) (errors : E) → IsAddedIf shown unshown progress errors errors []
-  shown_none true errors = added_none (shown errors) (unshown errors)
+module _ {E : Type 0} (shown : E → Output E) where
+  shown_none : (progress : Bool) (errors : E) → IsAddedIf shown progress errors errors []
+  shown_none true errors = added_none (shown errors)
   shown_none false errors = refl
 
-  shown_then : (progress : Bool) (old mid new : E) (x y : List ℕ) → IsAddedIf shown unshown progress old mid x → IsAddedIf shown unshown progress mid new y →
-      IsAddedIf shown unshown progress old new (x ++ y)
-  shown_then true old mid new x y p q = added_then _ _ _ _ _ _ x y p q
+  shown_then : (progress : Bool) (old mid new : E) (x y : List ℕ) → IsAddedIf shown progress old mid x → IsAddedIf shown progress mid new y →
+      IsAddedIf shown progress old new (x ++ y)
+  shown_then true old mid new x y p q = added_then _ _ _ x y p q
   shown_then false old mid new x y p q = q ∙ p
 
-module _ {A E M : Type 0} (written : A → Option (List ℕ)) (failures : A → ℕ) (shown : E → Option (List ℕ)) (unshown : E → ℕ) where
-  noted_none : (old new : Watch A E M) → new ≡ old → Noted written failures shown unshown old [] new
-  noted_none old new e = subst (Noted written failures shown unshown old []) (sym e) (record {
+module _ {A E M : Type 0} (seen : A → Output A) (shown : E → Output E) where
+  noted_none : (old new : Watch A E M) → new ≡ old → Noted seen shown old [] new
+  noted_none old new e = subst (Noted seen shown old []) (sym e) (record {
     same = (refl, refl);
-    accounts = has_none written failures old.accounts.now old.lost;
-    errors = shown_none shown unshown old.progress old.errors.now;
+    accounts = has_none seen old.accounts.now old.lost;
+    errors = shown_none shown old.progress old.errors.now;
   })
 
-  errors_then : (old next new : Watch A E M) (r : Report) (rs : List Report) → Notes written failures shown unshown old r next → Noted written failures shown unshown next rs new →
-      IsAddedIf shown unshown old.progress old.errors.now new.errors.now (progress_text old.all (r ∷ rs))
+  errors_then : (old next new : Watch A E M) (r : Report) (rs : List Report) → Notes seen shown old r next → Noted seen shown next rs new →
+      IsAddedIf shown old.progress old.errors.now new.errors.now (progress_text old.all (r ∷ rs))
   errors_then old next new r rs first more =
-      shown_then shown unshown old.progress old.errors.now next.errors.now new.errors.now (shown_at old.all r) (progress_text (all_after old.all r) rs) first.errors
-      (subst (λ p. IsAddedIf shown unshown p next.errors.now new.errors.now (progress_text (all_after old.all r) rs)) first.progress
-      (subst (λ n. IsAddedIf shown unshown next.progress next.errors.now new.errors.now (progress_text n rs)) first.all more.errors))
+      shown_then shown old.progress old.errors.now next.errors.now new.errors.now (shown_at old.all r) (progress_text (all_after old.all r) rs) first.errors
+      (subst (λ p. IsAddedIf shown p next.errors.now new.errors.now (progress_text (all_after old.all r) rs)) first.progress
+      (subst (λ n. IsAddedIf shown next.progress next.errors.now new.errors.now (progress_text n rs)) first.all more.errors))
 
   -- a watcher has noted all reports that were made to it
-  pub noted_all : (rs : List Report) (old new : Watch A E M) → FollowsReports (Notes written failures shown unshown) old rs new → Noted written failures shown unshown old rs new
+  pub noted_all : (rs : List Report) (old new : Watch A E M) → FollowsReports (Notes seen shown) old rs new → Noted seen shown old rs new
   noted_all [] old new e = noted_none old new e
   noted_all (r ∷ rs) old new (next, first, rest) =
       let more = noted_all rs next new rest in record {
         same = (more.same.0 ∙ first.same.0, more.same.1 ∙ first.same.1);
-        accounts = has_then written failures _ _ _ _ _ _ _ _ first.accounts (subst
-            (λ n. HasAccounts written failures next.accounts.now new.accounts.now next.lost new.lost (accounts_text n rs)) first.name more.accounts);
+        accounts = has_then seen _ _ _ _ _ _ _ _ first.accounts (subst
+            (λ n. HasAccounts seen next.accounts.now new.accounts.now next.lost new.lost (accounts_text n rs)) first.name more.accounts);
         errors = errors_then old next new r rs first more;
       }

@@ -1,5 +1,6 @@
 -- Inputs that were opened: which of them a name leads to.
 use Rattle.std.specs.Prelude.{◌≡◌, ◌≢◌, ℕ, ◌≤◌, List, codes, count_by, bytes_eq}
+use Rattle.road_text.specs.Streams.{Input}
 use Rattle.program.specs.declared.opened_input.OpenedInput.{OpenedInput}
 use Rattle.program.specs.declared.opened_input.OpenedInput.TheVariants as opened
 
@@ -16,6 +17,15 @@ IsNamed name (opened.Stdin stdin) = name ≡ stdin_name
 abbrev pub of_input : {F G X : Type 0} → (F → X) → (G → X) → OpenedInput F G → X
 of_input of_file of_stdin (opened.File file) = of_file file
 of_input of_file of_stdin (opened.Stdin stdin) = of_stdin stdin
+
+-- an input of a name at a moment, as its own reader shows it
+abbrev pub opened_input : {F G : Type 0} → (F → Input F) → (G → Input G) → OpenedInput F G → Input (OpenedInput F G)
+opened_input of_file of_stdin x = record {
+  state = x;
+  left = of_input (λ f. (of_file f).left) (λ g. (of_stdin g).left) x;
+  failures = of_input (λ f. (of_file f).failures) (λ g. (of_stdin g).failures) x;
+  asked = of_input (λ f. (of_file f).asked) (λ g. (of_stdin g).asked) x;
+}
 
 -- standard input is at most once among these names
 abbrev pub NamesStdinOnce : List (List ℕ) → Type 0

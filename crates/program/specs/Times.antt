@@ -17,4 +17,4 @@ abbrev pub ShowsTimes : {P W E : Type 0} → Bool → ℕ → Moment P W E → M
 ShowsTimes wanted status old new =
     (new ≡ old)
     ⊎ ((wanted ≡ true) × (status ≡ 0) × (new.files ≡ old.files) × (new.out ≡ old.out)
-    × ((times : Times) × IsAdded old.errors.written new.errors.written old.errors.failures new.errors.failures (times_text times)))
+    × ((times : Times) × IsAdded old.errors new.errors (times_text times)))

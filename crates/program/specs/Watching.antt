@@ -11,7 +11,7 @@ use Rattle.batch_run.specs.declared.settings.Settings.{Settings}
 use Rattle.batch_run.specs.declared.watcher.Report.{Report}
 use Rattle.batch_run.specs.Choice.{without_diffusions}
 use Rattle.batch_run.specs.Reports.{IsReportOf, batch_due}
-use Rattle.batch_run.specs.Runs.{Output}
+use Rattle.road_text.specs.Streams.{Output}
 use Rattle.path_algebra.specs.declared.choice.AlgebraChoice.{AlgebraChoice}
 use Rattle.path_algebra.specs.Choices.{Under, name_of}
 use Rattle.program.specs.declared.watch.watcher.Watch.{Watch}
@@ -21,34 +21,34 @@ use Rattle.fault_reports.specs.Reports.{EndsAs, Reaches, run_fault}
 use Rattle.program.specs.Runs.{RanUnder}
 
 -- the text was added, and no write failed; or a write failed
-abbrev pub IsAdded : Option (List ℕ) → Option (List ℕ) → ℕ → ℕ → List ℕ → Type 0
-IsAdded old new before after text = (Appends old new text × (after ≡ before)) ⊎ (before < after)
+abbrev pub IsAdded : {X : Type 0} → Output X → Output X → List ℕ → Type 0
+IsAdded old new text = (Appends old.written new.written text × (new.failures ≡ old.failures)) ⊎ (old.failures < new.failures)
 
 -- the text was added, if progress is shown, or a write failed; else nothing was done
-abbrev pub IsAddedIf : {E : Type 0} → (E → Option (List ℕ)) → (E → ℕ) → Bool → E → E → List ℕ → Type 0
-IsAddedIf shown unshown true old new text = IsAdded (shown old) (shown new) (unshown old) (unshown new) text
-IsAddedIf shown unshown false old new text = new ≡ old
+abbrev pub IsAddedIf : {E X : Type 0} → (E → Output X) → Bool → E → E → List ℕ → Type 0
+IsAddedIf shown true old new text = IsAdded (shown old) (shown new) text
+IsAddedIf shown false old new text = new ≡ old
 
 -- the text was added to accounts, if they are kept, and no write failed
-abbrev pub AreKept : {A : Type 0} → (A → Option (List ℕ)) → (A → ℕ) → Option A → Option A → List ℕ → Type 0
-AreKept written failures None new text = new ≡ None
-AreKept written failures (Some a) None text = ⊥
-AreKept written failures (Some a) (Some b) text = Appends (written a) (written b) text × (failures b ≡ failures a)
+abbrev pub AreKept : {A : Type 0} → (A → Output A) → Option A → Option A → List ℕ → Type 0
+AreKept seen None new text = new ≡ None
+AreKept seen (Some a) None text = ⊥
+AreKept seen (Some a) (Some b) text = Appends (seen a).written (seen b).written text × ((seen b).failures ≡ (seen a).failures)
 
 -- a write to the accounts failed
-abbrev pub AreLost : {A : Type 0} → (A → ℕ) → Option A → Option A → Type 0
-AreLost failures None new = ⊥
-AreLost failures (Some a) None = ⊥
-AreLost failures (Some a) (Some b) = failures a < failures b
+abbrev pub AreLost : {A : Type 0} → (A → Output A) → Option A → Option A → Type 0
+AreLost seen None new = ⊥
+AreLost seen (Some a) None = ⊥
+AreLost seen (Some a) (Some b) = (seen a).failures < (seen b).failures
 
 -- a text was to be added to accounts: they have it, or they are lost, since a write failed; lost accounts stay as they are
-pub record HasAccounts {A : Type 0} (written : A → Option (List ℕ)) (failures : A → ℕ) (old new : Option A) (lost lost_after : Bool) (text : List ℕ) : Type 0 where
-  pub kept : lost_after ≡ false → (lost ≡ false) × AreKept written failures old new text
-  pub fell : lost_after ≡ true → (lost ≡ true) ⊎ AreLost failures old new
+pub record HasAccounts {A : Type 0} (seen : A → Output A) (old new : Option A) (lost lost_after : Bool) (text : List ℕ) : Type 0 where
+  pub kept : lost_after ≡ false → (lost ≡ false) × AreKept seen old new text
+  pub fell : lost_after ≡ true → (lost ≡ true) ⊎ AreLost seen old new
   pub stays : lost ≡ true → (lost_after ≡ true) × (new ≡ old)
 
 -- what the watcher of a command does at a report
-pub record Notes {A E M : Type 0} (written : A → Option (List ℕ)) (failures : A → ℕ) (shown : E → Option (List ℕ)) (unshown : E → ℕ) (old : Watch A E M) (report : Report) (new : Watch A E M) : Type 0 where
+pub record Notes {A E M : Type 0} (seen : A → Output A) (shown : E → Output E) (old : Watch A E M) (report : Report) (new : Watch A E M) : Type 0 where
   -- it goes on to write to the same files
   pub same : (new.accounts.ghost_name ≡ old.accounts.ghost_name) × (new.errors.ghost_name ≡ old.errors.ghost_name)
   -- under the same name, and shows progress as before
@@ -57,9 +57,9 @@ pub record Notes {A E M : Type 0} (written : A → Option (List ℕ)) (failures 
   -- it knows how many questions there are
   pub all : new.all ≡ all_after old.all report
   -- the accounts have what the report adds to them
-  pub accounts : HasAccounts written failures old.accounts.now new.accounts.now old.lost new.lost (account_of old.name report)
+  pub accounts : HasAccounts seen old.accounts.now new.accounts.now old.lost new.lost (account_of old.name report)
   -- and so has the error output, if progress is shown
-  pub errors : IsAddedIf shown unshown old.progress old.errors.now new.errors.now (shown_at old.all report)
+  pub errors : IsAddedIf shown old.progress old.errors.now new.errors.now (shown_at old.all report)
 
 -- these are the reports of a batch over what was read: of each question in order, and each account is of a diffusion that has ended
 pub record AreReportsOf {V : Type 0} (A : Algebra V) (plain : Bool) (IsRead : GraphData → Asked → Type 0) (reports : List Report) : Type 0 where
@@ -75,11 +75,11 @@ Account text (Some a) None kept = ⊥
 Account text (Some a) (Some b) kept = Reaches text a b kept
 
 -- accounts, if they are wanted, are passed on, and have what they had; or a write failed, before or then, and that is fault 42
-abbrev pub EndsAccounts : {A : Type 0} → (A → Option (List ℕ)) → (A → List ℕ) → (A → ℕ) → Option A → Option A → Bool → Result (Unit {0}) RunFault → Type 0
-EndsAccounts written held failures None new lost result = (new ≡ None) × (result ≡ Ok tt)
-EndsAccounts written held failures (Some a) None lost result = ⊥
-EndsAccounts written held failures (Some a) (Some b) lost (Ok _) = (lost ≡ false) × Keeps (written a) (written b) × (held b ≡ []) × (failures b ≡ failures a)
-EndsAccounts written held failures (Some a) (Some b) lost (Err f) = (f ≡ run_fault 42) × (((lost ≡ true) × (b ≡ a)) ⊎ (failures a < failures b))
+abbrev pub EndsAccounts : {A : Type 0} → (A → Output A) → Option A → Option A → Bool → Result (Unit {0}) RunFault → Type 0
+EndsAccounts seen None new lost result = (new ≡ None) × (result ≡ Ok tt)
+EndsAccounts seen (Some a) None lost result = ⊥
+EndsAccounts seen (Some a) (Some b) lost (Ok _) = (lost ≡ false) × Keeps (seen a).written (seen b).written × ((seen b).held ≡ []) × ((seen b).failures ≡ (seen a).failures)
+EndsAccounts seen (Some a) (Some b) lost (Err f) = (f ≡ run_fault 42) × (((lost ≡ true) × (b ≡ a)) ⊎ ((seen a).failures < (seen b).failures))
 
 -- a fault of the batch is that of the command; else one of the accounts is
 abbrev pub outcome_of : Result (Unit {0}) RunFault → Result (Unit {0}) RunFault → Result (Unit {0}) RunFault
@@ -97,5 +97,5 @@ pub record EndsWatched {W A E : Type 0} (chosen : AlgebraChoice) (settings : Set
   pub kept : Result (Unit {0}) RunFault
   pub accounted : Account (accounts_text (name_of chosen) reports) accounts accounts_after kept
   pub watched : Output E
-  pub shown : IsAddedIf (λ e. e.written) (λ e. e.failures) progress errors watched (progress_text 0 reports)
+  pub shown : IsAddedIf (λ e. e) progress errors watched (progress_text 0 reports)
   pub ends : EndsAs (λ _. 0) watched errors_after (outcome_of outcome kept) result

@@ -5,7 +5,7 @@ ghost use Rattle.path_algebra.specs.Choices.{Under};
 ghost use Rattle.batch_run.specs.Inputs.{HasReadPair};
 ghost use Rattle.batch_run.specs.Ran.{IsPairFile, IsPairOf};
 ghost use Rattle.batch_run.specs.Reports.{Watched};
-ghost use Rattle.batch_run.specs.Runs.{Ran, input, output};
+ghost use Rattle.batch_run.specs.Runs.{Ran};
 ghost use Rattle.service.specs.Served.{RanService};
 ghost use Rattle.program.specs.Runs.{gate_is_open};
 ghost use Rattle.program.specs.Watching.{EndsAccounts, EndsWatched, outcome_of};
@@ -33,11 +33,11 @@ fn run_chosen<R: Threads + Wait + Sync, I: BatchInput, W: RoadWrite, O: Watcher>
     watcher: &mut O,
 ) -> Result<(), RunFault>
     ensures run { Under task.now.chosen (λ V A. Ran A task.now.settings.now gate_is_open
-        (I.is_read input.old) I.is_own (output W.written W.held W.failures out.old)
-        (output W.written W.held W.failures out.new) result) }
+        (I.is_read input.old) I.is_own (W.seen out.old) (W.seen out.new) result) }
     ensures read { I.has_read input.old input.new result }
     ensures watched { Under task.now.chosen (λ V A. Watched A task.now.settings.now
-        (I.is_read input.old) O.may_become watcher.old watcher.new result) }
+        (I.is_read input.old) O.may_become watcher.old watcher.new (W.seen out.old)
+        (W.seen out.new) result) }
 {
     let gate = OpenGate;
     let run = Run {
@@ -60,11 +60,8 @@ pub(crate) fn serve_chosen<R: Threads + Wait + Sync, G: RoadRead, Q: RoadRead, W
     out: &mut W,
 ) -> Result<(), RunFault>
     ensures { Under task.now.chosen (λ V A. RanService A task.now.settings.now gate_is_open
-        (input G.left G.failures G.asked graph.old) (input G.left G.failures G.asked graph.new)
-        (input Q.left Q.failures Q.asked requests.old)
-        (input Q.left Q.failures Q.asked requests.new)
-        (output W.written W.held W.failures out.old)
-        (output W.written W.held W.failures out.new) result) }
+        (G.seen graph.old) (G.seen graph.new) (Q.seen requests.old) (Q.seen requests.new)
+        (W.seen out.old) (W.seen out.new) result) }
 {
     let gate = OpenGate;
     let run = Run {
@@ -81,7 +78,7 @@ pub(crate) fn serve_chosen<R: Threads + Wait + Sync, G: RoadRead, Q: RoadRead, W
 
 /// The end of accounts: they are flushed, unless a write has failed.
 fn end_accounts<A: RoadWrite>(accounts: &mut Option<A>, lost: bool) -> Result<(), RunFault>
-    ensures { EndsAccounts A.written A.held A.failures accounts.old accounts.new lost result }
+    ensures { EndsAccounts A.seen accounts.old accounts.new lost result }
 {
     let Some(to) = accounts else {
         return Ok(());
@@ -119,13 +116,9 @@ pub(crate) fn answer_in_phases<
     errors: &mut E,
 ) -> u8
     ensures { EndsWatched measured.now.task.now.chosen measured.now.task.now.settings.now
-        watching.old.progress
-        (I.is_read input.old) I.is_own (I.has_read input.old input.new)
-        (output W.written W.held W.failures out.old) (output W.written W.held W.failures out.new)
-        (option_map (output A.written A.held A.failures) watching.old.accounts)
-        (option_map (output A.written A.held A.failures) watching.new.accounts)
-        (output E.written E.held E.failures errors.old)
-        (output E.written E.held E.failures errors.new) result }
+        watching.old.progress (I.is_read input.old) I.is_own (I.has_read input.old input.new)
+        (W.seen out.old) (W.seen out.new) (option_map A.seen watching.old.accounts)
+        (option_map A.seen watching.new.accounts) (E.seen errors.old) (E.seen errors.new) result }
 {
     let task = measured.task;
     let mut watch = Watch {
@@ -152,12 +145,9 @@ pub fn answer<R: Threads + Wait + Sync, I: BatchInput, W: RoadWrite, A: RoadWrit
     errors: &mut E,
 ) -> u8
     ensures { EndsWatched task.now.chosen task.now.settings.now watching.old.progress
-        (I.is_read input.old) I.is_own (I.has_read input.old input.new)
-        (output W.written W.held W.failures out.old) (output W.written W.held W.failures out.new)
-        (option_map (output A.written A.held A.failures) watching.old.accounts)
-        (option_map (output A.written A.held A.failures) watching.new.accounts)
-        (output E.written E.held E.failures errors.old)
-        (output E.written E.held E.failures errors.new) result }
+        (I.is_read input.old) I.is_own (I.has_read input.old input.new) (W.seen out.old)
+        (W.seen out.new) (option_map A.seen watching.old.accounts)
+        (option_map A.seen watching.new.accounts) (E.seen errors.old) (E.seen errors.new) result }
 {
     let phases = Unmeasured;
     let measured = MeasuredTask {
@@ -178,13 +168,10 @@ pub(crate) fn answer_measured<
 >(task: &Task<'_, R>, input: &mut I, host: &mut Host<P, W, E>, watching: &mut Watching<A>) -> u8
     ensures files { host.new.files ≡ host.old.files }
     ensures ends { EndsWatched task.now.chosen task.now.settings.now watching.old.progress
-        (I.is_read input.old) I.is_own (I.has_read input.old input.new)
-        (output W.written W.held W.failures host.old.out)
-        (output W.written W.held W.failures host.new.out)
-        (option_map (output A.written A.held A.failures) watching.old.accounts)
-        (option_map (output A.written A.held A.failures) watching.new.accounts)
-        (output E.written E.held E.failures host.old.errors)
-        (output E.written E.held E.failures host.new.errors) result }
+        (I.is_read input.old) I.is_own (I.has_read input.old input.new) (W.seen host.old.out)
+        (W.seen host.new.out) (option_map A.seen watching.old.accounts)
+        (option_map A.seen watching.new.accounts) (E.seen host.old.errors) (E.seen host.new.errors)
+        result }
 {
     let phases = FilePhases { files: &host.files };
     let measured = MeasuredTask {
@@ -211,16 +198,12 @@ pub(crate) fn answer_pair<
     watching: &mut Watching<A>,
 ) -> u8
     ensures files { host.new.files ≡ host.old.files }
-    ensures ends { EndsWatched task.now.chosen task.now.settings.now watching.old.progress
-        (IsPairOf (G.left graph.old) (Q.left questions.old)) IsPairFile
-        (HasReadPair (input G.left G.failures G.asked graph.old) (input G.left G.failures G.asked graph.new)
-        (input Q.left Q.failures Q.asked questions.old) (input Q.left Q.failures Q.asked questions.new))
-        (output W.written W.held W.failures host.old.out)
-        (output W.written W.held W.failures host.new.out)
-        (option_map (output A.written A.held A.failures) watching.old.accounts)
-        (option_map (output A.written A.held A.failures) watching.new.accounts)
-        (output E.written E.held E.failures host.old.errors)
-        (output E.written E.held E.failures host.new.errors) result }
+    ensures ends { EndsWatched task.now.chosen task.now.settings.now watching.old.progress (IsPairOf
+        (G.seen graph.old).left (Q.seen questions.old).left) IsPairFile (HasReadPair
+        (G.seen graph.old) (G.seen graph.new) (Q.seen questions.old) (Q.seen questions.new))
+        (W.seen host.old.out) (W.seen host.new.out) (option_map A.seen watching.old.accounts)
+        (option_map A.seen watching.new.accounts) (E.seen host.old.errors) (E.seen host.new.errors)
+        result }
 {
     let mut input = PairInput { graph, questions };
     answer_measured(task, &mut input, host, watching)

@@ -26,9 +26,8 @@ use std::{env, io};
 
 /// Writes what the command line's parser says: help on the output, a usage fault on the error output.
 fn say<P, W: RoadWrite, E: RoadWrite>(alloc: Global, host: &mut Host<P, W, E>, error: &Error) -> u8
-    ensures { IsSaid (kind_of error.now)
-        (moment W.written W.held W.failures E.written E.held E.failures host.old)
-        (moment W.written W.held W.failures E.written E.held E.failures host.new) result }
+    ensures { IsSaid (kind_of error.now) (moment W.seen E.seen host.old) (moment W.seen E.seen
+        host.new) result }
 {
     if error.kind() == ErrorKind::OutOfMemory {
         return report(&mut host.errors, fault_of_run(MEMORY));
@@ -51,10 +50,9 @@ pub fn run_command_line<
     W: RoadWrite,
     E: RoadWrite,
 >(rt: &R, host: &mut Host<P, W, E>, words: &[String]) -> u8
-    ensures { DoesCommandLine P.File P.Stdin P.NewFile P.opens P.creates P.tells_same
-        (map (λ word. string_bytes word) words.now)
-        (moment W.written W.held W.failures E.written E.held E.failures host.old)
-        (moment W.written W.held W.failures E.written E.held E.failures host.new) result }
+    ensures { DoesCommandLine P.File P.Stdin P.NewFile P.opens P.creates P.tells_same (map (λ word.
+        string_bytes word) words.now) (moment W.seen E.seen host.old) (moment W.seen E.seen
+        host.new) result }
 {
     match parse_args(rt.alloc(), words) {
         Ok(Subcommand::Solve(args)) => solve(rt, host, &args),

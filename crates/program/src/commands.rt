@@ -27,9 +27,8 @@ pub fn solve<'t, R: AllocGlobal + Threads + Wait + Sync, P: FileSystem, W: RoadW
     host: &mut Host<P, W, E>,
     args: &'t SolveArgs<'_>,
 ) -> u8
-    ensures { DoesSolve P.File P.Stdin P.NewFile P.opens P.creates P.tells_same args.now
-        (moment W.written W.held W.failures E.written E.held E.failures host.old)
-        (moment W.written W.held W.failures E.written E.held E.failures host.new) result }
+    ensures { DoesSolve P.File P.Stdin P.NewFile P.opens P.creates P.tells_same args.now (moment
+        W.seen E.seen host.old) (moment W.seen E.seen host.new) result }
 {
     let chosen = match choose(&args.options, args.watching.accounts.is_some()) {
         Ok(chosen) => chosen,
@@ -64,9 +63,8 @@ pub fn bundle<
     W: RoadWrite,
     E: RoadWrite,
 >(rt: &'t R, host: &mut Host<P, W, E>, args: &'t BundleArgs<'_>) -> u8
-    ensures { DoesBundle P.Stdin P.NewFile P.creates P.tells_same args.now
-        (moment W.written W.held W.failures E.written E.held E.failures host.old)
-        (moment W.written W.held W.failures E.written E.held E.failures host.new) result }
+    ensures { DoesBundle P.Stdin P.NewFile P.creates P.tells_same args.now (moment W.seen E.seen
+        host.old) (moment W.seen E.seen host.new) result }
 {
     let chosen = match choose(&args.options, args.watching.accounts.is_some()) {
         Ok(chosen) => chosen,
@@ -97,9 +95,8 @@ pub fn serve<'t, R: AllocGlobal + Threads + Wait + Sync, P: FileSystem, W: RoadW
     host: &mut Host<P, W, E>,
     args: &'t ServeArgs<'_>,
 ) -> u8
-    ensures { DoesServe P.File P.Stdin P.opens args.now
-        (moment W.written W.held W.failures E.written E.held E.failures host.old)
-        (moment W.written W.held W.failures E.written E.held E.failures host.new) result }
+    ensures { DoesServe P.File P.Stdin P.opens args.now (moment W.seen E.seen host.old) (moment
+        W.seen E.seen host.new) result }
 {
     let chosen = match choose(&args.options, false) {
         Ok(chosen) => chosen,
@@ -130,9 +127,8 @@ pub fn check<R: AllocGlobal + Threads + Sync, P: FileSystem, W: RoadWrite, E: Ro
     host: &mut Host<P, W, E>,
     args: &CheckArgs<'_>,
 ) -> u8
-    ensures { DoesCheck P.File P.Stdin P.opens args.now
-        (moment W.written W.held W.failures E.written E.held E.failures host.old)
-        (moment W.written W.held W.failures E.written E.held E.failures host.new) result }
+    ensures { DoesCheck P.File P.Stdin P.opens args.now (moment W.seen E.seen host.old) (moment
+        W.seen E.seen host.new) result }
 {
     let (mut graph, mut questions, mut answers) = match open_to_check(&mut host.files, args) {
         Ok(opened) => opened,

@@ -33,7 +33,7 @@ pub trait FileSystem {
     /// Opens the file of a name. Nothing has been read of it.
     fn open(&mut self, path: &str) -> Result<Self::File, ReadFailed>
         ensures opens { opens self.old path.now self.new }
-        ensures unread { IfOk result (λ file. Self.File.asked file ≡ 0) };
+        ensures unread { IfOk result (λ file. (Self.File.seen file).asked ≡ 0) };
 
     /// Creates the file of a name, or empties it.
     fn create(&mut self, path: &str) -> Result<Self::NewFile, WriteFault>
@@ -45,7 +45,7 @@ pub trait FileSystem {
 
     /// Standard input. Nothing has been read of it.
     fn stdin(&self) -> Self::Stdin
-        ensures unread { Self.Stdin.asked result ≡ 0 };
+        ensures unread { (Self.Stdin.seen result).asked ≡ 0 };
 
     /// Starts the stopwatch, if that is wanted.
     fn measure(&self, _wanted: bool) {}

@@ -1,5 +1,6 @@
 //! What the name of an input leads to.
-ghost use Rattle.program.specs.Inputs.{of_input};
+ghost use Rattle.std.specs.Prelude.{refl};
+ghost use Rattle.program.specs.Inputs.{opened_input};
 
 use road_text::{ReadFailed, RoadRead};
 
@@ -13,11 +14,7 @@ pub enum OpenedInput<F, G> {
 }
 
 impl<F: RoadRead, G: RoadRead> RoadRead for OpenedInput<F, G> {
-    ghost left = { of_input F.left G.left };
-
-    ghost failures = { of_input F.failures G.failures };
-
-    ghost asked = { of_input F.asked G.asked };
+    ghost seen = { opened_input F.seen G.seen };
 
     fn read(&mut self, buf: &mut [u8]) -> Result<usize, ReadFailed> {
         match self {
@@ -25,4 +22,6 @@ impl<F: RoadRead, G: RoadRead> RoadRead for OpenedInput<F, G> {
             OpenedInput::Stdin(stdin) => stdin.read(buf),
         }
     }
+
+    ghost itself = { λ _. refl };
 }

@@ -1,7 +1,6 @@
 //! What a command tries before it reads: its words, the inputs of their names in order, and the file of accounts.
 ghost use Rattle.std.specs.Prelude.{◌≡◌, ◌≢◌, ◌↔◌, [], ◌∷◌, IfOk, IfErr, IsSome, IsTrue, map};
-ghost use Rattle.batch_run.specs.Runs.{input};
-ghost use Rattle.program.specs.Inputs.{NamesStdinOnce, IsNamed, of_input, stdin_name};
+ghost use Rattle.program.specs.Inputs.{NamesStdinOnce, IsNamed, opened_input, stdin_name};
 ghost use Rattle.program.specs.Opening.{CannotChoose, CannotCreate, CannotOpen, CreatesIf, HasOpened, IsAmong, IsChosen, IsMissing, OpensInput, accounts_name, inputs_judged, inputs_solved, missing};
 
 use crate::files::FileSystem;
@@ -68,7 +67,7 @@ pub(crate) fn open_file<P: FileSystem>(
     file: File,
 ) -> Result<P::File, Refusal>
     ensures opens { P.opens files.old path.now files.new }
-    ensures unread { IfOk result (λ opened. P.File.asked opened ≡ 0) }
+    ensures unread { IfOk result (λ opened. (P.File.seen opened).asked ≡ 0) }
     ensures fault { IfErr result (λ r. r ≡ Refusal.Fault (missing file)) }
 {
     match files.open(path) {
@@ -85,7 +84,7 @@ fn open<P: FileSystem>(
 ) -> Result<OpenedInput<P::File, P::Stdin>, Refusal>
     ensures opens { OpensInput P.opens path.now files.old files.new }
     ensures named { IfOk result (IsNamed path.now) }
-    ensures unread { IfOk result (λ opened. of_input P.File.asked P.Stdin.asked opened ≡ 0) }
+    ensures unread { IfOk result (λ opened. (opened_input P.File.seen P.Stdin.seen opened).asked ≡ 0) }
     ensures fault { IfErr result (λ r. (r ≡ Refusal.Fault (missing file)) × (path.now ≢ stdin_name)) }
 {
     if path == STDIN_NAME {
@@ -106,8 +105,7 @@ pub(crate) fn open_to_solve<P: FileSystem>(
     ),
     Refusal,
 >
-    ensures opened { let seen = input (of_input P.File.left P.Stdin.left)
-        (of_input P.File.failures P.Stdin.failures) (of_input P.File.asked P.Stdin.asked) in
+    ensures opened { let seen = opened_input P.File.seen P.Stdin.seen in
         IfOk result (λ i. HasOpened P.opens (inputs_solved args.now) (seen i.0 ∷ seen i.1 ∷ [])
         files.old files.new) }
     ensures refused { IfErr result (CannotOpen P.opens (inputs_solved args.now) files.old
@@ -133,8 +131,7 @@ pub(crate) fn open_to_check<P: FileSystem>(
     ),
     Refusal,
 >
-    ensures opened { let seen = input (of_input P.File.left P.Stdin.left)
-        (of_input P.File.failures P.Stdin.failures) (of_input P.File.asked P.Stdin.asked) in
+    ensures opened { let seen = opened_input P.File.seen P.Stdin.seen in
         IfOk result (λ i. HasOpened P.opens (inputs_judged args.now)
         (seen i.0 ∷ seen i.1 ∷ seen i.2 ∷ []) files.old files.new) }
     ensures refused { IfErr result (CannotOpen P.opens (inputs_judged args.now) files.old

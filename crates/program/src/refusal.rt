@@ -1,6 +1,5 @@
 //! Why a command reads nothing.
 ghost use Rattle.program.specs.Refusals.{Says};
-ghost use Rattle.batch_run.specs.Runs.{output};
 
 use batch_run::RunFault;
 use fault_reports::{complain, report};
@@ -44,8 +43,7 @@ pub enum Refusal {
 
 /// Says on the error output why a command reads nothing, and gives the exit status.
 pub(crate) fn refuse<E: RoadWrite>(errors: &mut E, refusal: Refusal) -> u8
-    ensures { Says refusal (output E.written E.held E.failures errors.old)
-        (output E.written E.held E.failures errors.new) result }
+    ensures { Says refusal (E.seen errors.old) (E.seen errors.new) result }
 {
     match refusal {
         Refusal::TwoSolvers => complain(errors, TWO_SOLVERS),

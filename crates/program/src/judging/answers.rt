@@ -6,7 +6,6 @@ ghost use Rattle.answer_text.specs.AnswerData.{answer_list};
 ghost use Rattle.batch_run.specs.Inputs.{HasReadPair};
 ghost use Rattle.path_algebra.specs.Choices.{GoTogether, Under, limit_of, name_of};
 ghost use Rattle.answer_check.specs.Verdicts.{IsVerdict};
-ghost use Rattle.batch_run.specs.Runs.{input};
 ghost use Rattle.program.specs.Judgements.{RanJudge, outcome_of_pair};
 ghost use Rattle.program.specs.Verdicts.{AreInputs, IsAnswersFault, IsReadingFault};
 
@@ -77,25 +76,23 @@ fn read_inputs<G: RoadRead, Q: RoadRead, S: RoadRead>(
     questions_in: &mut Q,
     answers_in: &mut S,
 ) -> Result<Inputs, RunFault>
-    ensures read { IfOk result (λ i.
-        AreInputs (G.left graph_in.old) (Q.left questions_in.old) (S.left answers_in.old)
-        i.graph (asked_of i.questions) (answer_list i.answers)) }
+    ensures read { IfOk result (λ i. AreInputs (G.seen graph_in.old).left
+        (Q.seen questions_in.old).left (S.seen answers_in.old).left i.graph (asked_of i.questions)
+        (answer_list i.answers)) }
     ensures within { IfOk result (λ i. AskWithin i.graph.vertices i.questions) }
-    ensures pair { HasReadPair
-        (input G.left G.failures G.asked graph_in.old)
-        (input G.left G.failures G.asked graph_in.new)
-        (input Q.left Q.failures Q.asked questions_in.old)
-        (input Q.left Q.failures Q.asked questions_in.new) (outcome_of_pair result) }
-    ensures answers { IfErr result (λ f. f.file ≡ File.Answers →
-        IsAnswersFault (G.left graph_in.old) (Q.left questions_in.old) (S.left answers_in.old) f) }
-    ensures sound { OnOk result (S.failures answers_in.new ≡ S.failures answers_in.old) }
+    ensures pair { HasReadPair (G.seen graph_in.old) (G.seen graph_in.new) (Q.seen questions_in.old)
+        (Q.seen questions_in.new) (outcome_of_pair result) }
+    ensures answers { IfErr result (λ f. f.file ≡ File.Answers → IsAnswersFault
+        (G.seen graph_in.old).left (Q.seen questions_in.old).left (S.seen answers_in.old).left f) }
+    ensures sound { OnOk result ((S.seen answers_in.new).failures ≡
+        (S.seen answers_in.old).failures) }
     ensures read_answers { (result ≡ Err (record { number = 1; file = File.Answers; line = 0 }))
-        ↔ (S.failures answers_in.new ≢ S.failures answers_in.old) }
+        ↔ ((S.seen answers_in.new).failures ≢ (S.seen answers_in.old).failures) }
     ensures kinds { IfErr result IsReadingFault }
     ensures placed { IfErr result (λ f. f.number ≤ 3 → f.line ≡ 0) }
     ensures last { IfErr result (λ f.
         (f.file ≡ File.Graph) ⊎ (f.file ≡ File.Questions) → answers_in.new ≡ answers_in.old) }
-    ensures asked { S.asked answers_in.new ≤ S.asked answers_in.old + 4294967297 }
+    ensures asked { (S.seen answers_in.new).asked ≤ (S.seen answers_in.old).asked + 4294967297 }
 {
     let mut pair = PairInput {
         graph: graph_in,
@@ -125,13 +122,8 @@ pub fn judge<R: AllocGlobal + Threads + Sync, G: RoadRead, Q: RoadRead, S: RoadR
     answers_in: &mut S,
     limit: Option<u64>,
 ) -> Result<Verdict, RunFault>
-    ensures { RanJudge limit
-        (input G.left G.failures G.asked graph_in.old)
-        (input G.left G.failures G.asked graph_in.new)
-        (input Q.left Q.failures Q.asked questions_in.old)
-        (input Q.left Q.failures Q.asked questions_in.new)
-        (input S.left S.failures S.asked answers_in.old)
-        (input S.left S.failures S.asked answers_in.new) result }
+    ensures { RanJudge limit (G.seen graph_in.old) (G.seen graph_in.new) (Q.seen questions_in.old)
+        (Q.seen questions_in.new) (S.seen answers_in.old) (S.seen answers_in.new) result }
 {
     let alloc = rt.alloc();
     let inputs = match read_inputs(alloc, graph_in, questions_in, answers_in) {

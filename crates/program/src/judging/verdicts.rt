@@ -1,6 +1,5 @@
 //! How a verdict is written: its line on standard output, and the exit status.
 ghost use Rattle.std.specs.Prelude.{◌≡◌};
-ghost use Rattle.batch_run.specs.Runs.{output};
 ghost use Rattle.fault_reports.specs.Reports.{Reaches};
 ghost use Rattle.program.specs.Judgements.{EndsCheck};
 ghost use Rattle.program.specs.Verdicts.{verdict_text, verdict_status};
@@ -37,8 +36,7 @@ fn line_of_verdict(verdict: Verdict) -> Line
 
 /// Writes the line of a verdict, and flushes it.
 pub fn write_verdict<W: RoadWrite>(to: &mut W, verdict: Verdict) -> Result<(), RunFault>
-    ensures { Reaches (verdict_text verdict) (output W.written W.held W.failures to.old)
-        (output W.written W.held W.failures to.new) result }
+    ensures { Reaches (verdict_text verdict) (W.seen to.old) (W.seen to.new) result }
 {
     show(to, line_of_verdict(verdict).as_str().as_bytes())
 }
@@ -59,10 +57,8 @@ pub(crate) fn end_check<W: RoadWrite, E: RoadWrite>(
     errors: &mut E,
     judged: Result<Verdict, RunFault>,
 ) -> u8
-    ensures { EndsCheck judged
-        (output W.written W.held W.failures out.old) (output W.written W.held W.failures out.new)
-        (output E.written E.held E.failures errors.old)
-        (output E.written E.held E.failures errors.new) result }
+    ensures { EndsCheck judged (W.seen out.old) (W.seen out.new) (E.seen errors.old)
+        (E.seen errors.new) result }
 {
     let verdict = match judged {
         Ok(verdict) => verdict,

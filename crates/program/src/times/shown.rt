@@ -57,8 +57,7 @@ fn line_of_times(times: Times) -> Line
 
 /// Writes the line that says how long a command took.
 fn write_times<E: RoadWrite>(errors: &mut E, times: Times)
-    ensures { IsAdded (E.written errors.old) (E.written errors.new) (E.failures errors.old) (E.failures errors.new)
-        (times_text times) }
+    ensures { IsAdded (E.seen errors.old) (E.seen errors.new) (times_text times) }
 {
     let _ = write_bytes(errors, line_of_times(times).as_str().as_bytes());
 }
@@ -70,9 +69,8 @@ pub(crate) fn show_times<P: FileSystem, W: RoadWrite, E: RoadWrite>(
     wanted: bool,
     status: u8,
 )
-    ensures { ShowsTimes wanted status
-        (moment W.written W.held W.failures E.written E.held E.failures host.old)
-        (moment W.written W.held W.failures E.written E.held E.failures host.new) }
+    ensures { ShowsTimes wanted status (moment W.seen E.seen host.old) (moment W.seen E.seen
+        host.new) }
 {
     if !wanted || status != 0 {
         return;

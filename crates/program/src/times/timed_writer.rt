@@ -1,5 +1,5 @@
 //! The output of a command whose phases are measured.
-ghost use Rattle.std.specs.Prelude.{◌≡◌};
+ghost use Rattle.std.specs.Prelude.{◌≡◌, refl};
 
 use crate::times::phases::Phase;
 use crate::times::stopwatch::Stopwatch;
@@ -31,11 +31,12 @@ impl<'s, 'c, W: RoadWrite, C: Clock> TimedWriter<'s, 'c, W, C> {
 }
 
 impl<W: RoadWrite, C: Clock> RoadWrite for TimedWriter<'_, '_, W, C> {
-    ghost written = { λ t. W.written t.inner };
-
-    ghost held = { λ t. W.held t.inner };
-
-    ghost failures = { λ t. W.failures t.inner };
+    ghost seen = { λ t. record {
+      state = t;
+      written = (W.seen t.inner).written;
+      held = (W.seen t.inner).held;
+      failures = (W.seen t.inner).failures;
+    } };
 
     #[inline(always)]
     fn write(&mut self, buf: &[u8]) -> Result<usize, WriteFault> {
@@ -47,4 +48,6 @@ impl<W: RoadWrite, C: Clock> RoadWrite for TimedWriter<'_, '_, W, C> {
         self.writes();
         self.inner.flush()
     }
+
+    ghost itself = { λ _. refl };
 }

@@ -55,7 +55,7 @@ fn write_heading<W: RoadWrite>(
     diffusions: u64,
     name: AlgebraName,
 ) -> Result<(), WriteFault>
-    ensures { WritesText W.written W.failures to.old to.new (heading_text diffusions name) result }
+    ensures { WritesText (W.seen to.old) (W.seen to.new) (heading_text diffusions name) result }
 {
     write_bytes(to, line_of_heading(diffusions, name).as_str().as_bytes())
 }
@@ -67,7 +67,7 @@ fn write_account<W: RoadWrite>(
     source: u32,
     tally: Tally,
 ) -> Result<(), WriteFault>
-    ensures { WritesText W.written W.failures to.old to.new (account_text question source tally)
+    ensures { WritesText (W.seen to.old) (W.seen to.new) (account_text question source tally)
         result }
 {
     write_bytes(to, words_of_diffusion(question, source).as_str().as_bytes())?;
@@ -80,7 +80,7 @@ pub(crate) fn write_report<W: RoadWrite>(
     name: AlgebraName,
     report: &Report,
 ) -> Result<(), WriteFault>
-    ensures { WritesText W.written W.failures to.old to.new (account_of name report.now) result }
+    ensures { WritesText (W.seen to.old) (W.seen to.new) (account_of name report.now) result }
 {
     match report {
         Report::Begun { diffusions, .. } => write_heading(to, *diffusions, name),

@@ -38,8 +38,7 @@ fn line_of_progress(answered: u32, all: u32) -> Line
 
 /// Shows that so many questions are answered, if a line is due.
 fn show_progress<E: RoadWrite>(errors: &mut E, answered: u32, all: u32)
-    ensures { IsAdded (E.written errors.old) (E.written errors.new) (E.failures errors.old) (E.failures errors.new)
-        (due_line answered all) }
+    ensures { IsAdded (E.seen errors.old) (E.seen errors.new) (due_line answered all) }
 {
     if is_due(answered, all) {
         let _ = write_bytes(errors, line_of_progress(answered, all).as_str().as_bytes());
@@ -48,8 +47,7 @@ fn show_progress<E: RoadWrite>(errors: &mut E, answered: u32, all: u32)
 
 /// Shows what a report says of so many questions.
 pub(crate) fn show_report<E: RoadWrite>(errors: &mut E, all: u32, report: &Report)
-    ensures { IsAdded (E.written errors.old) (E.written errors.new) (E.failures errors.old) (E.failures errors.new)
-        (shown_at all report.now) }
+    ensures { IsAdded (E.seen errors.old) (E.seen errors.new) (shown_at all report.now) }
 {
     match report {
         Report::Begun { questions, .. } => show_progress(errors, 0, *questions),

@@ -37,7 +37,7 @@ fn note<A: RoadWrite>(
     name: AlgebraName,
     report: &Report,
 ) -> bool
-    ensures { HasAccounts A.written A.failures accounts.old accounts.new lost result
+    ensures { HasAccounts A.seen accounts.old accounts.new lost result
         (account_of name report.now) }
 {
     if lost {
@@ -61,8 +61,7 @@ fn all_after(all: u32, report: &Report) -> u32
 
 /// Shows what a report says of so many questions, if that is wanted.
 fn show<E: RoadWrite>(errors: &mut E, progress: bool, all: u32, report: &Report)
-    ensures { IsAddedIf E.written E.failures progress errors.old errors.new
-        (shown_at all report.now) }
+    ensures { IsAddedIf E.seen progress errors.old errors.new (shown_at all report.now) }
 {
     if progress {
         show_report(errors, all, report);
@@ -78,7 +77,7 @@ fn note_phase<M: Phases>(phases: &M, report: &Report) {
 }
 
 impl<A: RoadWrite, E: RoadWrite, M: Phases> Watcher for Watch<'_, '_, A, E, M> {
-    ghost may_become = { Notes A.written A.failures E.written E.failures };
+    ghost may_become = { Notes A.seen E.seen };
 
     fn report(&mut self, report: Report) {
         self.lost = note(self.accounts, self.lost, self.name, &report);

@@ -1,6 +1,5 @@
 use Rattle.std.proofs.Common.{◌≡◌, false, rules, subst, sym}
 use Rattle.std.proofs.Math.Path.{subst⁻¹}
-use Rattle.batch_run.specs.Runs.{output}
 use Rattle.path_algebra.specs.Choices.{name_of}
 use Rattle.program.specs.Accounts.{accounts_text}
 use Rattle.fault_reports.specs.Reports.{EndsAs}
@@ -14,17 +13,17 @@ use Rattle.program.proofs.answering.answer_in_phases.Goals as goal
 pub shape_of-watching : goal.shape_of-watching
 shape_of-watching g c =
     let told = under_told c.args.measured.now.task.now.chosen c.args.measured.now.task.now.settings.now (g.I.BatchInput.is_read c.args.input.now)
-    (Notes g.A.RoadWrite.written g.A.RoadWrite.failures g.E.RoadWrite.written g.E.RoadWrite.failures) _ _ c.run_chosen-batch.result
+    (Notes g.A.RoadWrite.seen g.E.RoadWrite.seen) _ _ _ _ c.run_chosen-batch.result
     c.run_chosen-batch.ensures.watched in
-    let noted = noted_all g.A.RoadWrite.written g.A.RoadWrite.failures g.E.RoadWrite.written g.E.RoadWrite.failures told.0.0 _ _ told.0.1 in
+    let noted = noted_all g.A.RoadWrite.seen g.E.RoadWrite.seen told.0.0 _ _ told.0.1 in
     sym noted.same.0
 
 pub returns : goal.returns
 returns g c =
     let told = under_told c.args.measured.now.task.now.chosen c.args.measured.now.task.now.settings.now (g.I.BatchInput.is_read c.args.input.now)
-    (Notes g.A.RoadWrite.written g.A.RoadWrite.failures g.E.RoadWrite.written g.E.RoadWrite.failures) _ _ c.run_chosen-batch.result
+    (Notes g.A.RoadWrite.seen g.E.RoadWrite.seen) _ _ _ _ c.run_chosen-batch.result
     c.run_chosen-batch.ensures.watched in
-    let noted = noted_all g.A.RoadWrite.written g.A.RoadWrite.failures g.E.RoadWrite.written g.E.RoadWrite.failures told.0.0 _ _ told.0.1 in
+    let noted = noted_all g.A.RoadWrite.seen g.E.RoadWrite.seen told.0.0 _ _ told.0.1 in
     let accounts_same = noted.same.0 in
     let errors_same = noted.same.1 in
     let errors_are : c.run_chosen-batch.new.watcher.errors.now ≡ c.errors-1.given.0 = search rules in
@@ -39,16 +38,16 @@ returns g c =
       reports = told.0.0;
       reported = told.1;
       kept = c.end_accounts-kept.result;
-      accounted = account g.A.RoadWrite.written g.A.RoadWrite.failures g.A.RoadWrite.held c.args.watching.now.accounts c.run_chosen-batch.new.watcher.accounts.now
+      accounted = account g.A.RoadWrite.seen c.args.watching.now.accounts c.run_chosen-batch.new.watcher.accounts.now
           c.end_accounts-kept.new.accounts c.run_chosen-batch.new.watcher.lost (accounts_text (name_of c.args.measured.now.task.now.chosen) told.0.0) c.end_accounts-kept.result
-          (subst (λ name. HasAccounts g.A.RoadWrite.written g.A.RoadWrite.failures c.args.watching.now.accounts c.run_chosen-batch.new.watcher.accounts.now false
+          (subst (λ name. HasAccounts g.A.RoadWrite.seen c.args.watching.now.accounts c.run_chosen-batch.new.watcher.accounts.now false
           c.run_chosen-batch.new.watcher.lost (accounts_text name told.0.0)) c.name.ensures noted.accounts)
           c.end_accounts-kept.ensures;
-      watched = output g.E.RoadWrite.written g.E.RoadWrite.held g.E.RoadWrite.failures c.run_chosen-batch.new.watcher.errors.now;
-      shown = shown_as g.E.RoadWrite.written g.E.RoadWrite.held g.E.RoadWrite.failures _ _ _ _ noted.errors;
-      ends = subst⁻¹ (λ errors. EndsAs (λ _. 0) (output g.E.RoadWrite.written g.E.RoadWrite.held g.E.RoadWrite.failures errors)
-          (output g.E.RoadWrite.written g.E.RoadWrite.held g.E.RoadWrite.failures c.end_with.new.errors)
+      watched = g.E.RoadWrite.seen c.run_chosen-batch.new.watcher.errors.now;
+      shown = shown_as g.E.RoadWrite.seen _ _ _ _ noted.errors;
+      ends = subst⁻¹ (λ errors. EndsAs (λ _. 0) (g.E.RoadWrite.seen errors)
+          (g.E.RoadWrite.seen c.end_with.new.errors)
           (outcome_of c.run_chosen-batch.result c.end_accounts-kept.result) c.end_with.result) errors_are
-          (subst (λ outcome. EndsAs (λ _. 0) (output g.E.RoadWrite.written g.E.RoadWrite.held g.E.RoadWrite.failures c.errors-1.given.0)
-          (output g.E.RoadWrite.written g.E.RoadWrite.held g.E.RoadWrite.failures c.end_with.new.errors) outcome c.end_with.result) c.outcome_of.ensures c.end_with.ensures);
+          (subst (λ outcome. EndsAs (λ _. 0) (g.E.RoadWrite.seen c.errors-1.given.0)
+          (g.E.RoadWrite.seen c.end_with.new.errors) outcome c.end_with.result) c.outcome_of.ensures c.end_with.ensures);
     }

@@ -1,7 +1,6 @@
 use Rattle.std.proofs.Common.{◌≡◌, inl, inr, refl, rules, subst}
 use Rattle.std.specs.Prelude.{is_some}
-use Rattle.batch_run.specs.Runs.{input}
-use Rattle.program.specs.Inputs.{of_input}
+use Rattle.program.specs.Inputs.{opened_input}
 use Rattle.program.specs.Moments.{moment}
 use Rattle.program.specs.Opening.{IsChosen}
 use Rattle.program.proofs.Ended.{ends_as, wanted_made}
@@ -15,10 +14,8 @@ returns-in-Err-create_accounts g c =
       subst (λ b. IsChosen c.args.args.now.options b c.in-Ok.chosen) wanted c.in-Ok.ensures.chosen,
       inr (record {
         opened = _;
-        first = input (of_input g.P.File.RoadRead.left g.P.Stdin.RoadRead.left) (of_input g.P.File.RoadRead.failures g.P.Stdin.RoadRead.failures)
-            (of_input g.P.File.RoadRead.asked g.P.Stdin.RoadRead.asked) c.in-Ok-open_to_solve.opened.0;
-        second = input (of_input g.P.File.RoadRead.left g.P.Stdin.RoadRead.left) (of_input g.P.File.RoadRead.failures g.P.Stdin.RoadRead.failures)
-            (of_input g.P.File.RoadRead.asked g.P.Stdin.RoadRead.asked) c.in-Ok-open_to_solve.opened.1;
+        first = opened_input g.P.File.RoadRead.seen g.P.Stdin.RoadRead.seen c.in-Ok-open_to_solve.opened.0;
+        second = opened_input g.P.File.RoadRead.seen g.P.Stdin.RoadRead.seen c.in-Ok-open_to_solve.opened.1;
         order = c.in-Ok-open_to_solve.ensures.opened;
         ends = inl (record {
           refusal = c.in-Err-create_accounts.refusal;
@@ -37,15 +34,13 @@ returns g c =
       subst (λ b. IsChosen c.args.args.now.options b c.in-Ok.chosen) wanted c.in-Ok.ensures.chosen,
       inr (record {
         opened = _;
-        first = input (of_input g.P.File.RoadRead.left g.P.Stdin.RoadRead.left) (of_input g.P.File.RoadRead.failures g.P.Stdin.RoadRead.failures)
-            (of_input g.P.File.RoadRead.asked g.P.Stdin.RoadRead.asked) c.in-Ok-open_to_solve.opened.0;
-        second = input (of_input g.P.File.RoadRead.left g.P.Stdin.RoadRead.left) (of_input g.P.File.RoadRead.failures g.P.Stdin.RoadRead.failures)
-            (of_input g.P.File.RoadRead.asked g.P.Stdin.RoadRead.asked) c.in-Ok-open_to_solve.opened.1;
+        first = opened_input g.P.File.RoadRead.seen g.P.Stdin.RoadRead.seen c.in-Ok-open_to_solve.opened.0;
+        second = opened_input g.P.File.RoadRead.seen g.P.Stdin.RoadRead.seen c.in-Ok-open_to_solve.opened.1;
         order = c.in-Ok-open_to_solve.ensures.opened;
         ends = inr (record {
           accounts = _;
           accounts_after = _;
-          answered = moment g.W.RoadWrite.written g.W.RoadWrite.held g.W.RoadWrite.failures g.E.RoadWrite.written g.E.RoadWrite.held g.E.RoadWrite.failures c.answer_pair-status.new.host;
+          answered = moment g.W.RoadWrite.seen g.E.RoadWrite.seen c.answer_pair-status.new.host;
           created = record {
             tried = rw (c.answer_pair-status.ensures.files) c.in-Ok-create_accounts.ensures.creates;
             wanted = wanted_made _ c.in-Ok-create_accounts.watching.accounts _ c.in-Ok-create_accounts.ensures.wanted;

@@ -12,16 +12,16 @@ pub returns-in-Ok-read_answers-clause-read : goal.returns-in-Ok-read_answers-cla
 returns-in-Ok-read_answers-clause-read g c = record {
   graph_is = c.in-Ok.ensures.read.graph_is;
   questions_are = c.in-Ok.ensures.read.questions_are;
-  answers_are = subst (λ n. IsReadAs (answer_rules n) (g.S.RoadRead.left c.args.answers_in.now) (answer_list c.in-Ok-read_answers.answers)) c.vertices.ensures.count
+  answers_are = subst (λ n. IsReadAs (answer_rules n) (g.S.RoadRead.seen c.args.answers_in.now).left (answer_list c.in-Ok-read_answers.answers)) c.vertices.ensures.count
       (record { told = c.in-Ok-read_answers.ensures.value; some_text = c.in-Ok-read_answers.ensures.some_text });
 }
 
 pub returns-in-Err-read_answers-clause-answers : goal.returns-in-Err-read_answers-clause-answers
-returns-in-Err-read_answers-clause-answers g c = λ _. subst⁻¹ (IsAnswersFault (g.G.RoadRead.left c.args.graph_in.now) (g.Q.RoadRead.left c.args.questions_in.now)
-    (g.S.RoadRead.left c.args.answers_in.now)) c.fault_in.ensures (record {
+returns-in-Err-read_answers-clause-answers g c = λ _. subst⁻¹ (IsAnswersFault (g.G.RoadRead.seen c.args.graph_in.now).left (g.Q.RoadRead.seen c.args.questions_in.now).left
+    (g.S.RoadRead.seen c.args.answers_in.now).left) c.fault_in.ensures (record {
       roads = c.in-Ok.read.0;
       asked = asked_of c.in-Ok.read.1;
       read = c.in-Ok.ensures.read;
-      fault = λ text. subst (λ n. IfSome (g.S.RoadRead.left c.args.answers_in.now) (λ b. text_read (answer_rules n) b ≡ Err c.in-Err-read_answers.fault)) c.vertices.ensures.count
+      fault = λ text. subst (λ n. IfSome (g.S.RoadRead.seen c.args.answers_in.now).left (λ b. text_read (answer_rules n) b ≡ Err c.in-Err-read_answers.fault)) c.vertices.ensures.count
           (c.in-Err-read_answers.ensures.fault text.0 text.1);
     })

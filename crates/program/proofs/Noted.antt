@@ -26,17 +26,17 @@ use Rattle.program.proofs.Adding.{added_none, added_then, has_none, has_then}
 abbrev pub WasTold : {S : Type 0} → (S → Report → S → Type 0) → S → S → Type 0
 WasTold may_become old new = (reports : List Report) × FollowsReports may_become old reports new
 
-module _ {V S W : Type 0} (A : Algebra V) (plain : Bool) (IsRead : GraphData → Asked → Type 0) (may_become : S → Report → S → Type 0) (old new : S) (out out_after : Output W) where
+module _ {V S W : Type 0} (A : Algebra V) (how : Settings) (plain : Bool) (IsRead : GraphData → Asked → Type 0) (may_become : S → Report → S → Type 0) (old new : S) (out out_after : Output W) where
   none_told : new ≡ old → WasTold may_become old new
   none_told e = ([], e)
 
-  some_told : (number : ℕ) → (number ≢ 43 → ReportedFirst A plain IsRead may_become old new out out_after) → (number ≡ 43 → new ≡ old) → WasTold may_become old new
+  some_told : (number : ℕ) → (number ≢ 43 → ReportedFirst A how plain IsRead may_become old new out out_after) → (number ≡ 43 → new ≡ old) → WasTold may_become old new
   some_told number first untouched = elim (eqb_tells number 43) [
     | inl is ↦ none_told (untouched is.1)
     | inr not ↦ let told = (first not.1).reported.reported.reported in (told.reports, told.told)
   ]
 
-  fault_told : (file : File) (number : ℕ) → (file ≡ NoFile → number ≢ 43 → ReportedFirst A plain IsRead may_become old new out out_after) → (file ≢ NoFile → new ≡ old) →
+  fault_told : (file : File) (number : ℕ) → (file ≡ NoFile → number ≢ 43 → ReportedFirst A how plain IsRead may_become old new out out_after) → (file ≢ NoFile → new ≡ old) →
       (number ≡ 43 → new ≡ old) → WasTold may_become old new
   fault_told NoFile number first nothing untouched = some_told number (first refl) untouched
   fault_told Graph number first nothing untouched = none_told (nothing (λ e. cc))
@@ -46,17 +46,17 @@ module _ {V S W : Type 0} (A : Algebra V) (plain : Bool) (IsRead : GraphData →
 
 -- a batch makes some reports to its watcher, which on success are its own
 pub watched_told : {V S W : Type 0} (A : Algebra V) (how : Settings) (IsRead : GraphData → Asked → Type 0) (may_become : S → Report → S → Type 0) (old new : S) (out out_after : Output W) (outcome : Result (Unit {0}) RunFault) →
-    Watched A how IsRead may_become old new out out_after outcome → (told : WasTold may_become old new) × OnOk outcome (AreReportsOf A (without_diffusions how) IsRead told.0)
+    Watched A how IsRead may_become old new out out_after outcome → (told : WasTold may_become old new) × OnOk outcome (AreReportsOf A how (without_diffusions how) IsRead told.0)
 watched_told A how IsRead may_become old new out out_after (Ok u) w =
     ((w.all.reported.reports, w.all.reported.told), record { graph = w.all.graph; asked = w.all.asked; read = w.all.read; are_due = w.all.reported.are_due })
-watched_told A how IsRead may_become old new out out_after (Err f) w = (fault_told A (without_diffusions how) IsRead may_become old new out out_after f.file f.number w.first w.nothing w.untouched, tt)
+watched_told A how IsRead may_become old new out out_after (Err f) w = (fault_told A how (without_diffusions how) IsRead may_become old new out out_after f.file f.number w.first w.nothing w.untouched, tt)
 
 -- the same under the algebra that was chosen
 pub under_told : {S W : Type 0} (c : AlgebraChoice) (how : Settings) (IsRead : GraphData → Asked → Type 0) (may_become : S → Report → S → Type 0) (old new : S) (out out_after : Output W) (outcome : Result (Unit {0}) RunFault) →
     Under c (λ V A. Watched A how IsRead may_become old new out out_after outcome) →
-    (told : WasTold may_become old new) × Under c (λ V A. OnOk outcome (AreReportsOf A (without_diffusions how) IsRead told.0))
+    (told : WasTold may_become old new) × Under c (λ V A. OnOk outcome (AreReportsOf A how (without_diffusions how) IsRead told.0))
 under_told c how IsRead may_become old new out out_after outcome w =
-    under_some c (WasTold may_become old new) (λ V A. Watched A how IsRead may_become old new out out_after outcome) (λ told V A. OnOk outcome (AreReportsOf A (without_diffusions how) IsRead told.0))
+    under_some c (WasTold may_become old new) (λ V A. Watched A how IsRead may_become old new out out_after outcome) (λ told V A. OnOk outcome (AreReportsOf A how (without_diffusions how) IsRead told.0))
     (λ V A it. watched_told A how IsRead may_become old new out out_after outcome it) w
 
 -- what a watcher of a command leaves to which all these reports were made

@@ -62,11 +62,11 @@ pub record Notes {A E M : Type 0} (seen : A → Output A) (shown : E → Output 
   pub errors : IsAddedIf shown old.progress old.errors.now new.errors.now (shown_at old.all report)
 
 -- these are the reports of a batch over what was read: of each question in order, and each account is of a diffusion that has ended
-pub record AreReportsOf {V : Type 0} (A : Algebra V) (plain : Bool) (IsRead : GraphData → Asked → Type 0) (reports : List Report) : Type 0 where
+pub record AreReportsOf {V : Type 0} (A : Algebra V) (how : Settings) (plain : Bool) (IsRead : GraphData → Asked → Type 0) (reports : List Report) : Type 0 where
   pub graph : GraphData
   pub asked : Asked
   pub read : IsRead graph asked
-  pub are_due : AllZip (IsReportOf A graph) (batch_due plain asked.questions) reports
+  pub are_due : AllZip (IsReportOf A how graph) (batch_due plain asked.questions) reports
 
 -- accounts, if they are wanted, have the text, and nothing is held back; or a write failed, and that is fault 42
 abbrev pub Account : {A : Type 0} → List ℕ → Option (Output A) → Option (Output A) → Result (Unit {0}) RunFault → Type 0
@@ -93,7 +93,7 @@ pub record EndsWatched {W A E : Type 0} (chosen : AlgebraChoice) (settings : Set
   pub outcome : Result (Unit {0}) RunFault
   pub ran : RanUnder chosen settings IsRead inputs HasRead out out_after outcome
   pub reports : List Report
-  pub reported : Under chosen (λ V A. OnOk outcome (AreReportsOf A (without_diffusions settings) IsRead reports))
+  pub reported : Under chosen (λ V A. OnOk outcome (AreReportsOf A settings (without_diffusions settings) IsRead reports))
   pub kept : Result (Unit {0}) RunFault
   pub accounted : Account (accounts_text (name_of chosen) reports) accounts accounts_after kept
   pub watched : Output E

@@ -64,9 +64,10 @@ fn read_batch<A: PathAlgebra, I: BatchInput, R, T>(
 /// fault of an input nothing has been written; after a later one (3, 40 to 42) a prefix of the answers' text has.
 ///
 /// Questions are run in groups of `width` diffusions, each over its own shards, by workers on threads: worker w turns the
-/// stations of the shards whose number is w modulo `workers`. With `plain` the one-thread solver answers each question, and
-/// one that was solved just before, or a pair that labels from its source serve, without a new search; `width` searches go side by
-/// side on all processors. With `factors` the graph is factored when the header is written, and its factors answer. With either no
+/// stations of the shards whose number is w modulo `workers`. With `plain` the one-thread solver answers each question, one that
+/// was solved just before without a new search, and a pair goes on with the search from its source; `width` searches go side by
+/// side on all processors. With `factors` the graph is factored when the header is written, and its factors answer: pairs in
+/// `width` runs side by side, other questions one after the other. With either no
 /// worker is started, the gate is not asked, and the graph is kept with its arcs by tail alone; for pairs and factors by head too.
 pub fn run_batch<
     A: PathAlgebra,

@@ -114,7 +114,10 @@ pub const SHARDS: &str = concat!(
 );
 
 /// How much a shard does before the next has its turn.
-pub const BUDGET: &str = "Messages and signals that a shard handles per turn, 1 to 65536.";
+pub const BUDGET: &str = concat!(
+    "Messages and signals that a shard handles per turn,\n",
+    "1 to 65536.",
+);
 
 /// Which of the waiting messages a shard handles next.
 pub const BEST_FIRST: &str = concat!(
@@ -132,7 +135,8 @@ pub const AHEAD: &str = concat!(
 /// How long a worker goes on.
 pub const TURNS: &str = concat!(
     "Turns of a worker per group of questions, 0 to 1000000000000. When a\n",
-    "worker has used them up, the command stops with fault 40.",
+    "worker has used them up, the command stops\n",
+    "with fault 40.",
 );
 
 /// Where the counts of a run go.

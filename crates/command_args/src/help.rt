@@ -100,8 +100,8 @@ pub const FACTORS: &str = concat!(
 /// How many questions are run together.
 pub const WIDTH: &str = concat!(
     "Questions in progress at a time, 1 to 64. Memory grows with it. With\n",
-    "`--plain` they are solved in parallel, on all processors; so are pairs\n",
-    "with `--factors`.",
+    "`--plain` they are solved in parallel, on all processors; so are\n",
+    "pairs with `--factors`.",
 );
 
 /// How many threads there are.

@@ -73,7 +73,7 @@ module _ {E : Type 0} (shown : E → Output E) where
 
   shown_then : (progress : Bool) (old mid new : E) (x y : List ℕ) → IsAddedIf shown progress old mid x → IsAddedIf shown progress mid new y →
       IsAddedIf shown progress old new (x ++ y)
-  shown_then true old mid new x y p q = added_then _ _ _ x y p q
+  shown_then true old mid new x y p q = added_then (shown old) (shown mid) (shown new) x y p q
   shown_then false old mid new x y p q = q ∙ p
 
 module _ {A E M : Type 0} (seen : A → Output A) (shown : E → Output E) where

@@ -97,7 +97,9 @@ pub fn run_service<
         Err(fault) => return Err(fault_in(File::Graph, fault)),
     };
     let answers = BatchAnswers { run, algebra };
-    match serve(&answers, &mut solver, requests_in, out) {
+    let served = serve(&answers, &mut solver, requests_in, out);
+    drop(solver);
+    match served {
         Ok(()) => Ok(()),
         Err(Stopped::Read) => Err(fault_of_requests(READ_FAILED)),
         Err(Stopped::TooLong) => Err(fault_of_requests(TOO_LONG)),

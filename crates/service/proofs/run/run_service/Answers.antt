@@ -33,45 +33,45 @@ returns-in-Err g c = record {
 
 pub returns-in-Err-Read : goal.returns-in-Err-Read
 returns-in-Err-Read g c =
-    let is : c.serve.result ≡ Err Read = c.in-Err-Read.is ∙ ap (λ (s : Stopped). Err s) c.in-Err-Read.field-0-is in
+    let is : c.serve-served.result ≡ Err Read = c.in-Err-Read.is ∙ ap (λ (s : Stopped). Err s) (rw c.in-Err-Read.is at c.in-Err-Read.field-0-is) in
     let read : IsReadAs gr_rules (g.G.RoadRead.seen c.args.graph_in.now).left (graph_of c.in-Ok.solver) = record { told = c.in-Ok.ensures.reads.value; some_text = c.in-Ok.ensures.reads.some_text } in
     record {
       ran = rw c.fault_of_requests.ensures (stopped (g.A.PathAlgebra.meaning c.args.algebra) c.args.run.now.settings.now (g.T.Gate.may_answer c.args.run.now.gate.now)
           (g.G.RoadRead.seen c.args.graph_in.now)
           (g.G.RoadRead.seen c.read_solver.new.graph_in)
           (g.Q.RoadRead.seen c.args.requests_in.now)
-          (g.Q.RoadRead.seen c.serve.new.input)
-          (g.W.RoadWrite.seen c.args.out.now) (g.W.RoadWrite.seen c.serve.new.out)
+          (g.Q.RoadRead.seen c.serve-served.new.input)
+          (g.W.RoadWrite.seen c.args.out.now) (g.W.RoadWrite.seen c.serve-served.new.out)
           (c.suit.ensures.in_range c.if-not-suit.false) (graph_of c.in-Ok.solver) read c.in-Ok.ensures.reads.sound c.in-Ok.ensures.reads.end c.read_solver.ensures.reads.asked
-          1 (inl refl) (λ one. (c.serve.ensures.read is).0) (λ two. absurd (omega (arith, two)))
-          (c.serve.ensures.passed_on (read_no_write c.serve.result is)) (λ one. λ same. omega (arith, same, (c.serve.ensures.read is).1), λ lost. refl));
+          1 (inl refl) (λ one. (c.serve-served.ensures.read is).0) (λ two. absurd (omega (arith, two)))
+          (c.serve-served.ensures.passed_on (read_no_write c.serve-served.result is)) (λ one. λ same. omega (arith, same, (c.serve-served.ensures.read is).1), λ lost. refl));
     }
 
 pub returns-in-Err-TooLong : goal.returns-in-Err-TooLong
 returns-in-Err-TooLong g c =
-    let is : c.serve.result ≡ Err TooLong = c.in-Err-TooLong.is ∙ ap (λ (s : Stopped). Err s) c.in-Err-TooLong.field-0-is in
+    let is : c.serve-served.result ≡ Err TooLong = c.in-Err-TooLong.is ∙ ap (λ (s : Stopped). Err s) (rw c.in-Err-TooLong.is at c.in-Err-TooLong.field-0-is) in
     let read : IsReadAs gr_rules (g.G.RoadRead.seen c.args.graph_in.now).left (graph_of c.in-Ok.solver) = record { told = c.in-Ok.ensures.reads.value; some_text = c.in-Ok.ensures.reads.some_text } in
     record {
       ran = rw c.fault_of_requests-in-Err-TooLong.ensures (stopped (g.A.PathAlgebra.meaning c.args.algebra) c.args.run.now.settings.now (g.T.Gate.may_answer c.args.run.now.gate.now)
           (g.G.RoadRead.seen c.args.graph_in.now)
           (g.G.RoadRead.seen c.read_solver.new.graph_in)
           (g.Q.RoadRead.seen c.args.requests_in.now)
-          (g.Q.RoadRead.seen c.serve.new.input)
-          (g.W.RoadWrite.seen c.args.out.now) (g.W.RoadWrite.seen c.serve.new.out)
+          (g.Q.RoadRead.seen c.serve-served.new.input)
+          (g.W.RoadWrite.seen c.args.out.now) (g.W.RoadWrite.seen c.serve-served.new.out)
           (c.suit.ensures.in_range c.if-not-suit.false) (graph_of c.in-Ok.solver) read c.in-Ok.ensures.reads.sound c.in-Ok.ensures.reads.end c.read_solver.ensures.reads.asked
-          2 (inr refl) (λ one. absurd (omega (arith, one))) (λ two. c.serve.ensures.long is)
-          (c.serve.ensures.passed_on (long_no_write c.serve.result is)) (λ one. absurd (omega (arith, one)), λ lost. absurd (lost (c.serve.ensures.sound (long_no_read c.serve.result is)))));
+          2 (inr refl) (λ one. absurd (omega (arith, one))) (λ two. c.serve-served.ensures.long is)
+          (c.serve-served.ensures.passed_on (long_no_write c.serve-served.result is)) (λ one. absurd (omega (arith, one)), λ lost. absurd (lost (c.serve-served.ensures.sound (long_no_read c.serve-served.result is)))));
     }
 
-pub returns : goal.returns
-returns g c =
-    let stopped : c.serve.result ≡ Err Write = c.in-Err-Write.is ∙ ap (λ (s : Stopped). Err s) c.in-Err-Write.field-0-is in
+pub returns-in-Err-Write : goal.returns-in-Err-Write
+returns-in-Err-Write g c =
+    let stopped : c.serve-served.result ≡ Err Write = c.in-Err-Write.is ∙ ap (λ (s : Stopped). Err s) (rw c.in-Err-Write.is at c.in-Err-Write.field-0-is) in
     let read : IsReadAs gr_rules (g.G.RoadRead.seen c.args.graph_in.now).left (graph_of c.in-Ok.solver) = record { told = c.in-Ok.ensures.reads.value; some_text = c.in-Ok.ensures.reads.some_text } in
     record {
       ran = rw c.fault_of_run-in-Err-Write.ensures (fell (g.A.PathAlgebra.meaning c.args.algebra) c.args.run.now.settings.now (g.T.Gate.may_answer c.args.run.now.gate.now)
           (g.G.RoadRead.seen c.args.graph_in.now) (g.G.RoadRead.seen c.read_solver.new.graph_in)
-          (g.Q.RoadRead.seen c.args.requests_in.now) (g.Q.RoadRead.seen c.serve.new.input)
-          (g.W.RoadWrite.seen c.args.out.now) (g.W.RoadWrite.seen c.serve.new.out)
+          (g.Q.RoadRead.seen c.args.requests_in.now) (g.Q.RoadRead.seen c.serve-served.new.input)
+          (g.W.RoadWrite.seen c.args.out.now) (g.W.RoadWrite.seen c.serve-served.new.out)
           (c.suit.ensures.in_range c.if-not-suit.false) (graph_of c.in-Ok.solver) read c.in-Ok.ensures.reads.sound c.in-Ok.ensures.reads.end c.read_solver.ensures.reads.asked
-          (c.serve.ensures.write stopped) (c.serve.ensures.sound (no_read c.serve.result stopped)));
+          (c.serve-served.ensures.write stopped) (c.serve-served.ensures.sound (no_read c.serve-served.result stopped)));
     }

@@ -1,5 +1,5 @@
 -- The first place that a pass over marked lines finds is the first where the answer is wrong; where it finds none, the answer is right.
-use Rattle.std.proofs.Common.{◌≡◌, ℕ, ◌+◌, inl, inr, List, ap, ◌∙◌, subst, arith, Option, Some, None, zero, suc, ◌-◌, ◌<◌, ◌≤◌, ◌^◌, ◌⊎◌, min, Bool, true, false, [], ◌∷◌, length, refl, sym}
+use Rattle.std.proofs.Common.{◌≡◌, ℕ, ◌+◌, inl, inr, List, ap, ◌∙◌, subst, arith, Option, Some, None, zero, suc, ◌-◌, ◌<◌, ◌≤◌, ◌^◌, min, Bool, true, false, [], ◌∷◌, length, refl, sym}
 use Rattle.std.specs.Prelude.{IsTrue, Contains, ◌↔◌, option_map}
 use Rattle.road_graph.specs.GraphData.{GraphData, IsGraph, HasVertex}
 use Rattle.road_graph.proofs.Lists.{same_some}
@@ -96,7 +96,7 @@ module _ (R : ℕ → Bool → Type 0) where
       let found : IsFirstFrom a (suc n) (Some (suc i)) = (omega (arith, low), shifted a i true rest.1, λ k lt. none_from a i k h rest.2 lt) in
       subst (λ (j : ℕ). IsFirstFrom a (suc n) (Some j)) next found
 
-  pub first_from : (a n : ℕ) (bs : List Bool) → n < 2 ^ 64 → AllZip R (range_with_len a n) bs → IsFirstNumber n (λ k. R (a + k)) (first_true bs)
+  first_from : (a n : ℕ) (bs : List Bool) → n < 2 ^ 64 → AllZip R (range_with_len a n) bs → IsFirstNumber n (λ k. R (a + k)) (first_true bs)
   first_from a zero [] short z = λ k lt. absurd (omega (arith, lt))
   first_from a zero (b ∷ bs) short z = absurd z
   first_from a (suc n) [] short z = absurd z
@@ -112,18 +112,6 @@ module _ (R : ℕ → Bool → Type 0) where
 
   pub first_number : (n : ℕ) (bs : List Bool) → n < 2 ^ 64 → AllZip R (range_with_len 0 n) bs → IsFirstNumber n R (first_true bs)
   first_number n bs short z = first_of n (first_true bs) (first_from 0 n bs short z)
-
-  before_or_from : (a k : ℕ) → (k < a) ⊎ (a ≤ k)
-  before_or_from a k = grind (arith)
-
-  -- none below a, and none of the n numbers from a on
-  pub none_further : (a n : ℕ) → ((k : ℕ) → k < a → R k false) → ((k : ℕ) → k < n → R (a + k) false) → (k : ℕ) → k < a + n → R k false
-  none_further a n low high k lt = elim (before_or_from a k) [
-    | inl less ↦ low k less
-    | inr from ↦
-        let back : a + (k - a) ≡ k = omega (arith, from) in
-        subst (λ (x : ℕ). R x false) back (high (k - a) (omega (arith, from, lt)))
-  ]
 
 module _ {V : Type 0} (A : Algebra V) (lawful : IsLawful A) (g : GraphData) (lines : List (Option Reached)) where
   pub marked_not_refused : (v : ℕ) (b : Bool) (r : Reason) → IsMarkedRight A g lines v b → IsMarkedRefused A g lines v b r → ⊥

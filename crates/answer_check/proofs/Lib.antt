@@ -6,3 +6,4 @@ mod Marks
 mod PairsJudged
 mod FirstWrong
 mod OneVerdict
+mod RunsAreRight

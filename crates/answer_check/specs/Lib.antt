@@ -5,3 +5,4 @@ pub mod Evidence
 pub mod Marked
 pub mod Places
 pub mod Pairs
+pub mod Runs

@@ -2,6 +2,7 @@
 
 ghost use Rattle.std.specs.Prelude.{◌≡◌, ℕ, ◌<◌, length, slice_get, All, IfOk};
 ghost use Rattle.road_graph.specs.GraphData.{HasVertex};
+ghost use Rattle.path_plain.specs.Searcher.{IsOfSameGraph};
 ghost use Rattle.road_files.specs.Asked.{AskWithin, AreSourcesOf, FromSource, BetweenPair, FromSources, Question, asked_of};
 ghost use Rattle.answer_text.specs.AnswerData.{answer_data};
 ghost use Rattle.answer_text.specs.IsAnswer.{IsAnswer};
@@ -16,6 +17,7 @@ use answer_text::Answer;
 use path_algebra::PathAlgebra;
 use road_files::{Questions, are_same};
 use road_graph::{Graph, Memory, Vertex};
+use route_tree::PairSearcher;
 use std::alloc::Global;
 use std::thread::Threads;
 
@@ -80,22 +82,23 @@ fn judge_sources<A: PathAlgebra, R: Threads + Sync>(
     judge_lines(rt, alloc, algebra, graph, sources, lines.as_slice())
 }
 
-/// Judges the answer to a question from one vertex to another.
+/// Judges the answer to a question from one vertex to another, which the searcher solves.
 pub(crate) fn judge_pair<A: PathAlgebra>(
-    alloc: Global,
-    algebra: A,
+    searcher: &mut PairSearcher<A>,
     graph: &Graph,
-    source: Vertex,
-    target: Vertex,
+    pair: (Vertex, Vertex),
     answer: &Answer,
 ) -> Result<Option<Place>, Memory>
-    requires source { HasVertex graph.now source }
-    requires target { HasVertex graph.now target }
-    ensures { IfOk result
-        (IsJudgedAt (IsAnswer (A.meaning algebra) graph.now (BetweenPair source target)
-        (answer_data answer.now)) (IsWrongIn (A.meaning algebra) graph.now
-        (BetweenPair source target) (answer_data answer.now))) }
+    requires graph { graph.now ≡ searcher.old.roads }
+    requires source { HasVertex graph.now pair.0 }
+    requires target { HasVertex graph.now pair.1 }
+    ensures place { IfOk result (IsJudgedAt (IsAnswer (A.meaning searcher.old.algebra) graph.now
+        (BetweenPair pair.0 pair.1) (answer_data answer.now))
+        (IsWrongIn (A.meaning searcher.old.algebra) graph.now (BetweenPair pair.0 pair.1)
+        (answer_data answer.now))) }
+    ensures same { IsOfSameGraph searcher.old searcher.new }
 {
+    let (source, target) = pair;
     let Answer::Pair {
         source: from,
         target: to,
@@ -107,11 +110,29 @@ pub(crate) fn judge_pair<A: PathAlgebra>(
     if from.0 != source.0 || to.0 != target.0 {
         return Ok(Some(MISMATCH));
     }
-    let reason = reason_of_pair(alloc, algebra, graph, source, target, found)?;
+    let reason = reason_of_pair(searcher, graph, pair, found)?;
     Ok(reason.map(|reason| Place {
         vertex: target.0,
         reason,
     }))
+}
+
+/// Judges the answer to a question from one vertex to another, by a searcher of its own.
+fn judge_alone<A: PathAlgebra>(
+    alloc: Global,
+    algebra: A,
+    graph: &Graph,
+    pair: (Vertex, Vertex),
+    answer: &Answer,
+) -> Result<Option<Place>, Memory>
+    requires source { HasVertex graph.now pair.0 }
+    requires target { HasVertex graph.now pair.1 }
+    ensures { IfOk result (IsJudgedAt (IsAnswer (A.meaning algebra) graph.now
+        (BetweenPair pair.0 pair.1) (answer_data answer.now)) (IsWrongIn (A.meaning algebra)
+        graph.now (BetweenPair pair.0 pair.1) (answer_data answer.now))) }
+{
+    let mut searcher = PairSearcher::new(alloc, algebra, graph.outgoing())?;
+    judge_pair(&mut searcher, graph, pair, answer)
 }
 
 /// The first place where the answer to question `i` is wrong.
@@ -132,9 +153,7 @@ pub(crate) fn judge<A: PathAlgebra, R: Threads + Sync>(
 {
     match questions {
         Questions::Sources(sources) => judge_source(rt, alloc, algebra, graph, sources[i], answer),
-        Questions::Pairs(pairs) => {
-            judge_pair(alloc, algebra, graph, pairs[i].0, pairs[i].1, answer)
-        }
+        Questions::Pairs(pairs) => judge_alone(alloc, algebra, graph, pairs[i], answer),
         Questions::Multi(lists) => {
             judge_sources(rt, alloc, algebra, graph, lists[i].as_slice(), answer)
         }

@@ -12,6 +12,7 @@ mod lines;
 mod pairs;
 mod pass;
 mod place;
+mod runs;
 mod suspects;
 mod verdict;
 mod vertices;

@@ -1,8 +1,8 @@
 //! The first reason against the answer to a pair, by comparison with the solver's.
 
-ghost use Rattle.std.specs.Prelude.{◌≡◌, [], ◌∷◌, IfOk, option_map};
+ghost use Rattle.std.specs.Prelude.{◌≡◌, IfOk, option_map};
 ghost use Rattle.road_graph.specs.GraphData.{HasVertex};
-ghost use Rattle.path_plain.specs.UpTo.{AreBestUpTo};
+ghost use Rattle.path_plain.specs.Searcher.{IsOfSameGraph};
 ghost use Rattle.answer_text.specs.AnswerData.{found_of};
 ghost use Rattle.answer_check.specs.Reasons.{IsPairRefused, IsFirstReason};
 ghost use Rattle.answer_text.specs.IsAnswer.{IsPairAnswer};
@@ -10,12 +10,10 @@ ghost use Rattle.answer_check.specs.Pairs.{IsOther};
 
 use crate::verdict::Reason;
 use answer_text::Found;
-use path_algebra::{Labels, PathAlgebra, laws_hold};
-use path_plain::solve_to;
+use path_algebra::{PathAlgebra, laws_hold};
 use road_files::are_same;
 use road_graph::{Graph, Memory, Vertex};
-use route_tree::{route_between_up_to, routes_follow_parents};
-use std::alloc::Global;
+use route_tree::{PairSearcher, routes_follow_parents};
 
 /// The first way in which an answer differs from the right code, hops and route.
 fn difference(code: u64, hops: u32, list: &[Vertex], found: &Found) -> Option<Reason>
@@ -36,53 +34,38 @@ fn difference(code: u64, hops: u32, list: &[Vertex], found: &Found) -> Option<Re
     }
 }
 
-/// Labels that are best up to the target of a pair.
-fn labels_to<A: PathAlgebra>(
-    alloc: Global,
-    algebra: A,
-    graph: &Graph,
-    source: Vertex,
-    target: Vertex,
-) -> Result<Labels<A::Value>, Memory>
-    requires source { HasVertex graph.now source }
-    requires target { HasVertex graph.now target }
-    ensures { IfOk result (λ labels. AreBestUpTo (A.meaning algebra) graph.now (source ∷ []) target
-        labels) }
-{
-    solve_to(alloc, algebra, graph.outgoing(), &[source], target)
-}
-
-/// The first reason against the answer to a pair.
+/// The first reason against the answer to a pair, which the searcher solves.
 pub(crate) fn reason_of_pair<A: PathAlgebra>(
-    alloc: Global,
-    algebra: A,
+    searcher: &mut PairSearcher<A>,
     graph: &Graph,
-    source: Vertex,
-    target: Vertex,
+    pair: (Vertex, Vertex),
     found: &Option<Found>,
 ) -> Result<Option<Reason>, Memory>
-    requires source { HasVertex graph.now source }
-    requires target { HasVertex graph.now target }
-    ensures { IfOk result (IsFirstReason (IsPairAnswer (A.meaning algebra) graph.now source target
-        (option_map found_of found.now)) (IsPairRefused (A.meaning algebra) graph.now source target
-        (option_map found_of found.now))) }
+    requires graph { graph.now ≡ searcher.old.roads }
+    requires source { HasVertex graph.now pair.0 }
+    requires target { HasVertex graph.now pair.1 }
+    ensures reason { IfOk result (IsFirstReason
+        (IsPairAnswer (A.meaning searcher.old.algebra) graph.now pair.0 pair.1
+        (option_map found_of found.now)) (IsPairRefused (A.meaning searcher.old.algebra) graph.now
+        pair.0 pair.1 (option_map found_of found.now))) }
+    ensures same { IsOfSameGraph searcher.old searcher.new }
 {
+    let algebra = searcher.algebra();
     laws_hold(algebra);
     routes_follow_parents(algebra);
     graph.holds();
-    let labels = labels_to(alloc, algebra, graph, source, target)?;
+    let (value, route) = searcher.solve_between(graph, pair)?;
     let Some(found) = found else {
-        let has_walk = labels.of(target).is_some();
-        return Ok(if has_walk {
+        return Ok(if value.is_some() {
             Some(Reason::HasWalk)
         } else {
             None
         });
     };
-    let Some(value) = labels.of(target) else {
+    let Some(value) = value else {
         return Ok(Some(Reason::NotBest));
     };
-    let Some(right) = route_between_up_to(alloc, algebra, graph, source, target, &labels)? else {
+    let Some(right) = route else {
         return Ok(Some(Reason::NotBest));
     };
     let list = right.vertices.as_slice();

@@ -1,4 +1,4 @@
-use Rattle.std.proofs.Common.{◌≡◌, ℕ, List, ap, sym, ◌∙◌}
+use Rattle.std.proofs.Common.{◌≡◌, ℕ, List, ap, ◌∙◌}
 use Rattle.road_files.specs.Asked.{FromSource, BetweenPair, FromSources, of_source, of_pair, of_list}
 use Rattle.answer_check.proofs.FirstWrong.{mapped_is}
 use Rattle.answer_check.proofs.answers.judge.Goals as goal
@@ -12,12 +12,8 @@ returns-in-Sources g c = λ q e.
 pub returns-in-Pairs : goal.returns-in-Pairs
 returns-in-Pairs g c = λ q e.
     let at = rw c.in-Pairs.is at e in
-    let first = mapped_is of_pair c.in-Pairs.pairs.items c.args.i c.index-in-Pairs.result.now q c.index-in-Pairs.ensures at in
-    let second = mapped_is of_pair c.in-Pairs.pairs.items c.args.i c.index-in-Pairs-2.result.now q c.index-in-Pairs-2.ensures at in
-    let both : BetweenPair c.index-in-Pairs.result.now.0 c.index-in-Pairs.result.now.1 ≡ BetweenPair c.index-in-Pairs-2.result.now.0 c.index-in-Pairs-2.result.now.1 = first ∙ sym second in
-    let target : c.index-in-Pairs-2.result.now.1 ≡ c.index-in-Pairs.result.now.1 = cc in
-    let same : BetweenPair c.index-in-Pairs.result.now.0 c.index-in-Pairs-2.result.now.1 ≡ q = ap (λ (t : ℕ). BetweenPair c.index-in-Pairs.result.now.0 t) target ∙ first in
-    rw (← same) c.judge_pair.ensures
+    let same : BetweenPair c.index-in-Pairs.result.now.0 c.index-in-Pairs.result.now.1 ≡ q = mapped_is of_pair c.in-Pairs.pairs.items c.args.i c.index-in-Pairs.result.now q c.index-in-Pairs.ensures at in
+    rw (← same) c.judge_alone.ensures
 
 pub returns-in-Multi : goal.returns-in-Multi
 returns-in-Multi g c = λ q e.

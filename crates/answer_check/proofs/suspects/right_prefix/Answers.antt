@@ -1,9 +1,10 @@
-use Rattle.std.proofs.Common.{rules, ℕ, ◌+◌, ◌-◌, Bool, arith, Some, None}
+use Rattle.std.proofs.Common.{rules, ℕ, ◌+◌, ◌<◌, ◌≡◌, ◌∙◌, Bool, false, arith, Option, ap, subst, sym}
 use Rattle.road_files.specs.Asked.{asked_of}
 use Rattle.answer_text.specs.AnswerData.{answer_list}
-use Rattle.answer_check.specs.Pairs.{TellsSuspect}
+use Rattle.answer_check.specs.Pairs.{TellsSuspect, TellsSuspectIn}
 use Rattle.answer_check.specs.Places.{IsFirstNumber}
-use Rattle.answer_check.proofs.FirstPlaces.{none_further}
+use Rattle.answer_check.specs.Runs.{run_start}
+use Rattle.answer_check.proofs.RunsAreRight.{before_and_from, right_up_to}
 use Rattle.answer_check.proofs.suspects.right_prefix.Goals as goal
 
 pub loop-right-init : goal.loop-right-init
@@ -11,19 +12,32 @@ loop-right-init g c = record { within = search rules; prefix = λ k lt. absurd (
 
 pub returns-in-Some : goal.returns-in-Some
 returns-in-Some g c =
-    let tells = λ (i : ℕ) (b : Bool). TellsSuspect (g.A.PathAlgebra.meaning c.args.algebra) c.args.graph.now (asked_of c.args.questions.now) (answer_list c.args.answers.now) i b in
-    let right = c.loop-right.right in
-    let found : IsFirstNumber ((right + c.min.result) - right) (λ k. tells (right + k)) (Some c.in-Some.i) = search rules in
-    none_further tells right c.in-Some.i c.loop-right.invariant.prefix found.2
+    let A = g.A.PathAlgebra.meaning c.args.algebra in
+    let asked = asked_of c.args.questions.now in
+    let told = answer_list c.args.answers.now in
+    let R = λ (i : ℕ). TellsSuspect A c.args.graph.now asked told i false in
+    let runs = c.next-runs.result in
+    let k = c.in-Some.k in
+    let tells = λ (j : ℕ) (b : Bool). TellsSuspectIn A c.args.graph.now asked told (run_start runs j) (run_start runs (j + 1)) b in
+    let found = subst (λ (o : Option ℕ). IsFirstNumber runs.count tells o) c.in-Some.is c.first_suspect_run.ensures in
+    let low = subst (λ (s : ℕ). (i : ℕ) → i < s → R i) (sym c.next-runs.ensures.start) c.loop-right.invariant.prefix in
+    let before : (i : ℕ) → i < run_start runs k → R i = right_up_to R runs k low found.2 in
+    before_and_from R (run_start runs k) c.first_suspect.result before (rw c.run.ensures.start at c.first_suspect.ensures)
 
 pub loop-right-preserved : goal.loop-right-preserved
 loop-right-preserved g c =
-    let tells = λ (i : ℕ) (b : Bool). TellsSuspect (g.A.PathAlgebra.meaning c.args.algebra) c.args.graph.now (asked_of c.args.questions.now) (answer_list c.args.answers.now) i b in
-    let right = c.loop-right.right in
-    let found : IsFirstNumber ((right + c.min.result) - right) (λ k. tells (right + k)) None = search rules in
+    let A = g.A.PathAlgebra.meaning c.args.algebra in
+    let asked = asked_of c.args.questions.now in
+    let told = answer_list c.args.answers.now in
+    let R = λ (i : ℕ). TellsSuspect A c.args.graph.now asked told i false in
+    let runs = c.next-runs.result in
+    let tells = λ (j : ℕ) (b : Bool). TellsSuspectIn A c.args.graph.now asked told (run_start runs j) (run_start runs (j + 1)) b in
+    let found = subst (λ (o : Option ℕ). IsFirstNumber runs.count tells o) c.in-None.is c.first_suspect_run.ensures in
+    let low = subst (λ (s : ℕ). (i : ℕ) → i < s → R i) (sym c.next-runs.ensures.start) c.loop-right.invariant.prefix in
+    let end : run_start runs runs.count ≡ runs.end = ap (run_start runs) c.next-runs.ensures.count ∙ c.next-runs.ensures.whole in
     record {
       within = search rules;
-      prefix = none_further tells right c.min.result c.loop-right.invariant.prefix (λ k lt. found k (omega (arith, lt)));
+      prefix = subst (λ (e : ℕ). (i : ℕ) → i < e → R i) end (right_up_to R runs runs.count low found);
     }
 
 pub returns : goal.returns

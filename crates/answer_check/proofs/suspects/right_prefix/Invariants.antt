@@ -4,12 +4,12 @@ use Rattle.answer_text.specs.AnswerData.{answer_list}
 use Rattle.answer_check.specs.Pairs.{TellsSuspect}
 use Rattle.answer_check.proofs.suspects.right_prefix.Given as goal
 
--- the answers before the next group are right
+-- the answers before the next runs are right
 abbrev pub invariant-loop-right : goal.invariant-loop-right
 invariant-loop-right g l = record {
-  within : l.right ≤ l.count;
+  within : l.right ≤ l.total;
   prefix : (k : ℕ) → k < l.right → TellsSuspect (g.A.PathAlgebra.meaning l.algebra) l.graph (asked_of l.questions) (answer_list l.answers) k false;
 }
 
 abbrev pub decreases-loop-right : goal.decreases-loop-right
-decreases-loop-right g l = l.count - l.right
+decreases-loop-right g l = l.total - l.right

@@ -1,0 +1,44 @@
+-- Answers are right up to a place if they are before the first run, and in each run up to there.
+use Rattle.std.proofs.Common.{◌≡◌, ℕ, ◌+◌, ◌<◌, ◌≤◌, ◌⊎◌, inl, inr, Bool, true, false, nat_lt, arith, subst, zero, suc}
+use Rattle.std.proofs.lemmas.Bool.{ltb-false}
+use Rattle.road_graph.specs.GraphData.{GraphData}
+use Rattle.road_files.specs.Asked.{Asked}
+use Rattle.path_algebra.specs.Algebra.{Algebra}
+use Rattle.answer_text.specs.AnswerData.{AnswerList}
+use Rattle.answer_check.specs.Pairs.{TellsSuspect, TellsSuspectIn}
+use Rattle.answer_check.specs.declared.runs.Runs.{Runs}
+use Rattle.answer_check.specs.Runs.{run_start}
+
+before_or_from : (a k : ℕ) → (k < a) ⊎ (a ≤ k)
+before_or_from a k = grind (arith)
+
+module _ (R : ℕ → Type 0) where
+  -- what holds before a place and from there on
+  pub before_and_from : (a e : ℕ) → ((i : ℕ) → i < a → R i) → ((i : ℕ) → a ≤ i → i < e → R i) → (i : ℕ) → i < e → R i
+  before_and_from a e before rest i lt = elim (before_or_from a i) [
+    | inl less ↦ before i less
+    | inr from ↦ rest i from lt
+  ]
+
+  -- what holds before the runs and in the first n of them
+  pub right_up_to : (r : Runs) (n : ℕ) → ((i : ℕ) → i < r.start → R i) → ((k : ℕ) → k < n → (i : ℕ) → run_start r k ≤ i → i < run_start r (k + 1) → R i) →
+      (i : ℕ) → i < run_start r n → R i
+  right_up_to r zero before runs = λ i lt. before i (omega (arith, lt))
+  right_up_to r (suc n) before runs =
+      let next : n + 1 ≡ suc n = omega arith in
+      let last : (i : ℕ) → run_start r n ≤ i → i < run_start r (suc n) → R i =
+      subst (λ (m : ℕ). (i : ℕ) → run_start r n ≤ i → i < run_start r m → R i) next (runs n (omega arith)) in
+      before_and_from (run_start r n) (run_start r (suc n)) (right_up_to r n before (λ k lt. runs k (omega (arith, lt)))) last
+
+module _ {V : Type 0} (A : Algebra V) (g : GraphData) (asked : Asked) (told : AnswerList) (start : ℕ) where
+  -- a run whose first suspect is not before its end is right
+  pub told_before : (first end : ℕ) → TellsSuspectIn A g asked told start first false → (b : Bool) → nat_lt first end ≡ b → TellsSuspectIn A g asked told start end b
+  told_before first end right true e = tt
+  told_before first end right false e = let after = ltb-false first end e in λ i low lt. right i low (omega (arith, lt, after))
+
+  -- one right answer more
+  pub told_more : (i : ℕ) → TellsSuspectIn A g asked told start i false → TellsSuspect A g asked told i false → TellsSuspectIn A g asked told start (i + 1) false
+  told_more i right here k low lt = elim (before_or_from i k) [
+    | inl less ↦ right k low less
+    | inr from ↦ let same : i ≡ k = omega (arith, from, lt) in subst (λ (j : ℕ). TellsSuspect A g asked told j false) same here
+  ]

@@ -1,0 +1,19 @@
+use Rattle.std.proofs.Common.{ℕ, ◌+◌, nat_lt, refl, subst}
+use Rattle.road_files.specs.Asked.{asked_of}
+use Rattle.answer_text.specs.AnswerData.{answer_list}
+use Rattle.answer_check.specs.Pairs.{TellsSuspectIn}
+use Rattle.answer_check.specs.Runs.{run_start}
+use Rattle.answer_check.proofs.RunsAreRight.{told_before}
+use Rattle.answer_check.proofs.suspects.has_suspect.Goals as goal
+
+pub returns : goal.returns
+returns g c =
+    let A = g.A.PathAlgebra.meaning c.args.algebra in
+    let roads = c.args.graph.now in
+    let asked = asked_of c.args.questions.now in
+    let told = answer_list c.args.answers.now in
+    let run = c.run-run.result in
+    let first = c.first_suspect.result in
+    let judged = told_before A roads asked told run.0 first run.1 c.first_suspect.ensures (nat_lt first run.1) refl in
+    subst (λ (m : ℕ). TellsSuspectIn A roads asked told m (run_start c.args.runs (c.args.k + 1)) (nat_lt first run.1)) c.run-run.ensures.start
+    (subst (λ (n : ℕ). TellsSuspectIn A roads asked told run.0 n (nat_lt first run.1)) c.run-run.ensures.end judged)

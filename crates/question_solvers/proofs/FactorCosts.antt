@@ -1,6 +1,7 @@
--- What an algebra says of its cost.
-use Rattle.std.proofs.Common.{◌≡◌, Option, Some, None, true}
+-- What an algebra says of its cost, and what is recorded of a cost.
+use Rattle.std.proofs.Common.{◌≡◌, Option, Some, None, true, ap, subst}
 use Rattle.std.specs.Prelude.{IfSome, is_some}
+use Rattle.std.specs.Option.{ForSome}
 use Rattle.path_algebra.specs.Algebra.{Algebra}
 use Rattle.path_algebra.specs.Carried.{IsCarried}
 use Rattle.path_algebra.specs.Counted.{cost_of}
@@ -14,3 +15,11 @@ carried_by A (Some cost) carried some = (cost, carried)
 -- numbers of the same cost do
 pub carried_for : {V : Type 0} (A : Algebra V) (cost other : Cost) → other ≡ cost → IsCarried A (cost_of cost) → IsCarried A (cost_of other)
 carried_for A cost other same carried = rw same carried
+
+abbrev held : {X : Type 0} → X → Option X → X
+held x None = x
+held x (Some y) = y
+
+-- what holds of what is recorded
+pub recorded : {X : Type 0} (P : X → Type 0) (x : X) → P x → ForSome (Some x) P
+recorded P x holds y e = subst P (ap (held x) e) holds

@@ -1,6 +1,6 @@
 -- What is found for one question, for the same one at another place, and for several side by side.
-use Rattle.std.proofs.Common.{arith, ◌≡◌, ℕ, ◌<◌, List, [], ◌∷◌, length, get_or, map, All, HoldsAt, Vec, Global, subst, sym, inl, inr, ◌⊎◌}
-use Rattle.std.proofs.lemmas.List.Elements.{All-nil, All-cons, All-head, All-tail}
+use Rattle.std.proofs.Common.{arith, ◌≡◌, ℕ, ◌<◌, List, [], ◌∷◌, length, get_or, map, All, HoldsAt, Vec, Global, drop, subst, sym}
+use Rattle.std.proofs.lemmas.List.Elements.{All-nil, All-cons, All-drop, All-head, All-same, All-tail}
 use Rattle.std.specs.List.{AllZip}
 use Rattle.std.specs.Prelude.{Result, Ok, Err, IfOk, IfSome, MatchResult, Contains, slice_get}
 use Rattle.road_files.proofs.QuestionLaws.{any_of}
@@ -56,21 +56,18 @@ module _ {V : Type 0} (A : Algebra V) (g : GraphData) (asked : Asked) (i : ℕ) 
       for_other A g asked i s.place s.solved (all k x (subst (λ l. k < length l) e low)).solved
       (subst (λ l. HoldsAt (λ (t : Searched V). (d : Question) → get_or asked.questions t.place d ≡ get_or asked.questions i d) l k) e same x)
 
-module _ {V : Type 0} (A : Algebra V) (g : GraphData) (asked : Asked) (i : ℕ) (s : Searched V) (old new : List (Searched V)) (low : i < length asked.questions) (found : IsSearchedAt A g asked i s) where
-  -- what is found is put among the rest
-  pub all_put : All (IsSearched A g asked) old →
-      ((j : ℕ) (d : Searched V) → j < length new → (get_or new j d ≡ s) ⊎ ((j < length old) × (get_or new j d ≡ get_or old j d))) → All (IsSearched A g asked) new
-  all_put all others j d inside = elim (others j d inside) as (λ _. IsSearched A g asked (get_or new j d)) [
-    | inl new_one ↦ rw new_one (at_own A g asked i s low found)
-    | inr (was, same) ↦ rw same (all j d was)
-  ]
+-- what is found is put in place of what was found first
+module _ {V : Type 0} (A : Algebra V) (g : GraphData) (asked : Asked) (i : ℕ) (s : Searched V) (old new : List (Searched V)) (low : i < length asked.questions) (found : IsSearchedAt A g asked i s) (put : new ≡ s ∷ drop 1 old) where
+  pub all_put : All (IsSearched A g asked) old → All (IsSearched A g asked) new
+  all_put all =
+      let P = IsSearched A g asked in
+      All-same P new (s ∷ drop 1 old) put (All-cons P s (drop 1 old) (at_own A g asked i s low found) (All-drop P 1 old all))
 
-  pub put_answers : (k : ℕ) → ((d : Searched V) → get_or new k d ≡ s) → HoldsAt (λ t. IsSolvedFor A g asked i t.solved) new k
-  put_answers k there x = subst (λ (t : Searched V). IsSolvedFor A g asked i t.solved) (sym (there x)) found.solved
+  pub put_answers : HoldsAt (λ t. IsSolvedFor A g asked i t.solved) new 0
+  put_answers = subst (λ (l : List (Searched V)). HoldsAt (λ t. IsSolvedFor A g asked i t.solved) l 0) (sym put) (λ d. found.solved)
 
-  pub put_answers_if_ok : {E : Type 0} (r : Result ℕ E) → IfOk r (λ j. (d : Searched V) → get_or new j d ≡ s) → IfOk r (HoldsAt (λ t. IsSolvedFor A g asked i t.solved) new)
-  put_answers_if_ok (Ok k) there = put_answers k there
-  put_answers_if_ok (Err e) there = tt
+  pub put_inside : 0 < length new
+  put_inside = subst (λ (l : List (Searched V)). 0 < length l) (sym put) (omega arith)
 
 -- what each of a list came to, where none failed
 all_ok : {S : Type 0} (E : Type 0) (Holds : ℕ → S → Type 0) (places : List ℕ) (ss : List S) → AllZip (λ k (r : Result S E). IfOk r (Holds k)) places (map Ok ss) → AllZip Holds places ss

@@ -1,6 +1,8 @@
 //! What the solver by factors keeps between two questions.
-ghost use Rattle.std.specs.Prelude.{◌≡◌, ◌↔◌, IfOk, IfSome, IsSome, IsTrue, OnOk, Some};
+ghost use Rattle.std.specs.Prelude.{◌≡◌, ◌↔◌, ℕ, IfErr, IfOk, IfSome, IsNone, IsSome, IsTrue, OnOk, Some};
 ghost use Rattle.std.specs.Option.{ForSome, IsSomeAnd};
+ghost use Rattle.path_algebra.specs.Counted.{cost_of, CountsFit};
+ghost use Rattle.question_solvers.specs.declared.factor_solver.Refusal.TheVariants.{Heavy};
 
 use crate::plain_solver::PlainSolver;
 use crate::searched::Searched;
@@ -29,6 +31,8 @@ impl Factored {
         requires { rows.now ≡ graph.now }
         ensures roads { IfOk result (λ f. f.factors.roads ≡ graph.now) }
         ensures cost { IfOk result (λ f. f.factors.algebra.cost ≡ cost) }
+        ensures heavy { IfErr result (λ e. e ≡ Unfactored.Heavy → (k : ℕ) →
+            CountsFit graph.now (cost_of cost) k → ⊥) }
     {
         let factors = RoadFactors::of(alloc, cost, graph, rows)?;
         match factors.asker(alloc) {
@@ -72,6 +76,7 @@ pub struct FactorSolver<A: PathAlgebra> {
     /// What the factors solved last.
     pub(crate) last: Option<Solved<A::Value>>,
     ghost of_graph: { ForSome factored (λ f. f.factors.roads ≡ plain.graph) },
+    ghost heavy: { ForSome refused (λ r. r.1 ≡ Heavy → (k : ℕ) → CountsFit plain.graph (cost_of r.0) k → ⊥) },
 }
 
 impl<A: PathAlgebra> FactorSolver<A> {
@@ -113,6 +118,8 @@ impl<A: PathAlgebra> FactorSolver<A> {
     /// What became of factoring the graph.
     pub fn factoring(&self) -> Factoring
         ensures made { (result ≡ Factoring.Made) ↔ IsSome self.now.factored }
+        ensures refused { (why : Refusal) → (result ≡ Factoring.Refused why) ↔
+            (IsNone self.now.factored × IsSomeAnd self.now.refused (λ r. r.1 ≡ why)) }
     {
         match (&self.factored, self.refused) {
             (Some(_), _) => Factoring::Made,
@@ -139,6 +146,8 @@ impl<A: PathAlgebra> FactorSolver<A> {
         ensures searched { self.new.plain.searched ≡ self.old.plain.searched }
         ensures searcher { self.new.plain.searcher ≡ self.old.plain.searcher }
         ensures cost { OnOk result (IfSome self.new.factored (λ f. f.factors.algebra.cost ≡ cost)) }
+        ensures refused { OnOk result (IsNone self.new.factored →
+            IsSomeAnd self.new.refused (λ r. r.0 ≡ cost)) }
     {
         if let Some(factored) = &self.factored {
             if factored.factors.cost() == cost {

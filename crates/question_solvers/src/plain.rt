@@ -9,11 +9,11 @@ ghost use Rattle.question_solvers.specs.Solvers.{IsPlainReady, IsSearcherOf};
 use crate::pair_search::search_on;
 use crate::pairs::search_pairs;
 use crate::plain_solver::PlainSolver;
-use crate::searched::{Searched, find_same, put};
-use crate::side_by_side::search_trees;
+use crate::searched::{Searched, find_same, put_first};
+use crate::side_by_side::{follows, search_trees};
 use crate::task::{Task, TaskOver};
 use path_algebra::PathAlgebra;
-use road_files::{Kind, Questions, are_same};
+use road_files::Kind;
 use road_graph::{InGraph, Memory, OutGraph};
 use route_tree::PairSearcher;
 use std::alloc::Global;
@@ -43,13 +43,6 @@ fn solve_from_sources<A: PathAlgebra, R: Threads + Sync>(
     Ok(0)
 }
 
-/// Whether the question at a place has the sources of the one before it.
-fn follows(questions: &Questions, i: usize) -> bool
-    requires { i < length (asked_of questions.now).questions }
-{
-    i > 0 && are_same(questions.sources(i - 1), questions.sources(i))
-}
-
 /// The same of a pair. If it is solved alone, or follows one of its source, the searcher solves it that is kept.
 fn solve_pair<A: PathAlgebra, R: Threads + Sync>(
     over: &TaskOver<'_, A, R>,
@@ -76,7 +69,8 @@ fn solve_pair<A: PathAlgebra, R: Threads + Sync>(
     }
     if over.width == 1 || follows(over.questions, i) {
         let next = search_on(over, rows, i, kept)?;
-        return put(searched, 0, next);
+        put_first(searched, next)?;
+        return Ok(0);
     }
     searched.clear();
     *searched = search_pairs(over, rows, i)?;

@@ -1,5 +1,5 @@
 //! What was found ahead of its turn, and which of several solves a question.
-ghost use Rattle.std.specs.Prelude.{◌≡◌, ◌⊎◌, ℕ, ◌<◌, [], ◌∷◌, ◌++◌, length, get_or, slice_index_or, All, HoldsAt, IfOk, IfSome, IsTrue, OnErr, OnOk};
+ghost use Rattle.std.specs.Prelude.{◌≡◌, ◌<◌, [], ◌∷◌, ◌++◌, drop, length, slice_index_or, All, HoldsAt, IfSome, IsTrue, OnErr, OnOk};
 ghost use Rattle.road_files.specs.Asked.{Question, asked_of};
 
 use crate::solved::Solved;
@@ -24,24 +24,19 @@ pub(crate) fn add<V: Copy>(searched: &mut Vec<Searched<V>>, next: Searched<V>) -
     }
 }
 
-/// Puts what was found in place of what was found there before, or after the rest, if there is nothing. Where it is.
-pub(crate) fn put<V: Copy>(
+/// Puts what was found in place of what was found first, if there is any.
+pub(crate) fn put_first<V: Copy>(
     searched: &mut Vec<Searched<V>>,
-    k: usize,
     next: Searched<V>,
-) -> Result<usize, Memory>
-    ensures inside { IfOk result (λ j. j < length searched.new.items) }
-    ensures there { IfOk result (λ j. (d : _) → get_or searched.new.items j d ≡ next) }
-    ensures others { (j : ℕ) (d : _) → j < length searched.new.items →
-        (get_or searched.new.items j d ≡ next) ⊎ ((j < length searched.old.items) ×
-        (get_or searched.new.items j d ≡ get_or searched.old.items j d)) }
+) -> Result<(), Memory>
+    ensures first { OnOk result (searched.new.items ≡ next ∷ drop 1 searched.old.items) }
+    ensures kept { OnErr result (searched.new.items ≡ searched.old.items) }
 {
-    if k < searched.len() {
-        searched[k] = next;
-        return Ok(k);
+    if searched.is_empty() {
+        return add(searched, next);
     }
-    add(searched, next)?;
-    Ok(searched.len() - 1)
+    searched[0] = next;
+    Ok(())
 }
 
 /// Whether two questions are the same.

@@ -1,7 +1,7 @@
 //! Searches of the plain solver, several side by side.
-ghost use Rattle.std.specs.Prelude.{◌≡◌, ◌≢◌, ◌≤◌, ◌<◌, ◌∷◌, List, ℕ, length, All, IfOk};
+ghost use Rattle.std.specs.Prelude.{◌≡◌, ◌≢◌, ◌↔◌, ◌-◌, ◌≤◌, ◌<◌, ◌∷◌, List, ℕ, length, slice_index_or, All, IfOk, IsTrue};
 ghost use Rattle.std.specs.List.{AllZip};
-ghost use Rattle.road_files.specs.Asked.{AreQuestionsOf, asked_of};
+ghost use Rattle.road_files.specs.Asked.{AreQuestionsOf, Question, asked_of, sources_of};
 ghost use Rattle.road_files.specs.declared.questions.Kind.TheVariants.{Pairs};
 ghost use Rattle.question_solvers.specs.Solved.{AreFoundFrom, IsSearchedAt};
 
@@ -38,6 +38,16 @@ fn search<A: PathAlgebra>(
     })
 }
 
+/// Whether the question at a place has the sources of the one before it.
+pub(crate) fn follows(questions: &Questions, i: usize) -> bool
+    requires { i < length (asked_of questions.now).questions }
+    ensures { (default : Question) → IsTrue result ↔ ((1 ≤ i) ×
+        (sources_of (slice_index_or (asked_of questions.now).questions (i - 1) default) ≡
+        sources_of (slice_index_or (asked_of questions.now).questions i default))) }
+{
+    i > 0 && are_same(questions.sources(i - 1), questions.sources(i))
+}
+
 /// The place of a question, and of those that follow it with other sources than the one before them, as many as `most` in all.
 pub(crate) fn places_from(
     alloc: Global,
@@ -58,7 +68,7 @@ pub(crate) fn places_from(
         if places.len() == most {
             break;
         }
-        if !are_same(questions.sources(place - 1), questions.sources(place)) {
+        if !follows(questions, place) {
             places.push(place)?;
         }
     }

@@ -160,7 +160,9 @@ enum diffuse_status diffuse_graph_arcs_from(struct diffuse_graph *graph, uint32_
 
 /* The best value from a source to a target, as a code, the least hops of a walk of tight arcs (each gives its head's best
    value from its tail's), and the route along least parents: hops + 1 vertices, from the source on. The room after them is
-   left as it is. If the room is shorter, code and hops are written all the same.
+   left as it is. If the room is shorter, code and hops are written all the same. A search needs lists of all vertices, which
+   the handle keeps for later routes by the same algebra, until it searches by another one or is closed; a later search
+   puts back only what the one before touched, and goes on with it if the source is the same.
    CLOSED, NO_VERTEX, NO_ALGEBRA, MEMORY, NO_ROUTE, NO_ROOM or DONE. */
 DIFFUSE_CHECKED((1, 6, 7))
 enum diffuse_status diffuse_graph_route(struct diffuse_graph *graph, enum diffuse_algebra algebra, uint64_t limit,

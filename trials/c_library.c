@@ -35,17 +35,36 @@ struct places {
 
 static const uint32_t SOURCE = 1, SOURCES[] = {1, 5}, TARGETS[] = {4, 1};
 
-/* From BY_FACTORS on the calls are made after the graph was factored. */
-enum call { OPEN, READ, SHARE, ROUTE, TREE, CHECK, TABLE, FACTOR, BY_FACTORS, SHARE_FACTORS = BY_FACTORS, ROUTE_BY, TREE_BY, TABLE_BY, CALLS };
-static const char *const NAMES[] = {"open", "read", "share", "route", "tree", "check", "table", "factor", "share of factors",
-                                    "route by factors", "tree by factors", "table by factors"};
+/* A ROUTE_AFTER is asked of a handle that keeps the searcher of another algebra, and a ROUTE_ON of one that keeps a searcher
+   by its own, from another source. From BY_FACTORS on the calls are made after the graph was factored. */
+enum call { OPEN, READ, SHARE, ROUTE, ROUTE_AFTER, ROUTE_ON, TREE, CHECK, TABLE, FACTOR, BY_FACTORS,
+            SHARE_FACTORS = BY_FACTORS, ROUTE_BY, TREE_BY, TABLE_BY, CALLS };
+static const char *const NAMES[] = {"open", "read", "share", "route", "route after another algebra", "route from another source",
+                                    "tree", "check", "table", "factor", "share of factors", "route by factors", "tree by factors",
+                                    "table by factors"};
+
+/* A route before that of a call, to places of its own. */
+static int32_t route_before(enum diffuse_algebra algebra, uint32_t source, struct places *p) {
+    uint64_t code;
+    uint32_t hops, room[5];
+    return diffuse_graph_route(&p->graph, algebra, 0, source, 4, &code, &hops, room, 5);
+}
+
+static int is_route(enum call call) { return call == ROUTE || call == ROUTE_AFTER || call == ROUTE_ON || call == ROUTE_BY; }
+
+/* Whether a route that was asked is that from 1 to 4. */
+static int is_right(enum call call, const struct places *p) {
+    static const uint32_t WANTED[] = {1, 3, 2, 4};
+    return !is_route(call) || (p->code == 8 && p->length == 3 && memcmp(p->route, WANTED, sizeof WANTED) == 0);
+}
 
 static int32_t make(enum call call, struct places *p) {
     switch (call) {
     case OPEN: return diffuse_graph_open(5, ARCS, 7, &p->graph);
     case READ: return diffuse_graph_read((const uint8_t *)TEXT, sizeof TEXT - 1, &p->graph, &p->line);
     case SHARE: case SHARE_FACTORS: return diffuse_graph_share(&p->graph, &p->second);
-    case ROUTE: case ROUTE_BY: return diffuse_graph_route(&p->graph, DIFFUSE_ALGEBRA_SHORTEST, 0, 1, 4, &p->code, &p->length, p->route, 5);
+    case ROUTE: case ROUTE_AFTER: case ROUTE_ON: case ROUTE_BY:
+        return diffuse_graph_route(&p->graph, DIFFUSE_ALGEBRA_SHORTEST, 0, 1, 4, &p->code, &p->length, p->route, 5);
     case TREE: case TREE_BY: return diffuse_graph_tree(&p->graph, DIFFUSE_ALGEBRA_SHORTEST, 0, &SOURCE, 1, p->codes, 5, p->hops, 5,
                                          p->parents, 5);
     case TABLE: case TABLE_BY: return diffuse_graph_table(&p->graph, DIFFUSE_ALGEBRA_SHORTEST, 0, SOURCES, 2, TARGETS, 2, p->table, 4);
@@ -60,6 +79,8 @@ static int32_t make(enum call call, struct places *p) {
 static int begin(enum call call, struct places *p) {
     *p = (struct places){.graph = DIFFUSE_CLOSED, .second = DIFFUSE_CLOSED, .line = 7, .code = 7, .length = 7, .vertex = 7};
     if (call > READ && make(OPEN, p) != DIFFUSE_STATUS_DONE) return 0;
+    if (call == ROUTE_AFTER && route_before(DIFFUSE_ALGEBRA_WIDEST, 1, p) != DIFFUSE_STATUS_DONE) return 0;
+    if (call == ROUTE_ON && route_before(DIFFUSE_ALGEBRA_SHORTEST, 5, p) != DIFFUSE_STATUS_DONE) return 0;
     if (call >= BY_FACTORS && make(FACTOR, p) != DIFFUSE_STATUS_DONE) return 0;
     return call != CHECK || make(TREE, p) == DIFFUSE_STATUS_DONE;
 }
@@ -77,7 +98,7 @@ static int is_same(const struct places *p, const struct places *before) {
 }
 
 /* Refuses the first growth of memory of a call, then the second and so on, until a call meets no refusal. A refused call must
-   leave all as it was, and the same call must succeed afterwards. The result is how many growths there are, or -1. */
+   leave all as it was, and the same call must succeed afterwards, a route be right. The result is how many growths there are, or -1. */
 static long refuse(enum call call) {
     for (long n = 0;; n++) {
         struct places p, before;
@@ -91,7 +112,7 @@ static long refuse(enum call call) {
             if (!was_refused || !is_same(&p, &before)) return -1;
             status = make(call, &p);
         }
-        if (status != DIFFUSE_STATUS_DONE) return -1;
+        if (status != DIFFUSE_STATUS_DONE || !is_right(call, &p)) return -1;
         end(&p);
         if (!was_refused) return n;
     }
@@ -148,7 +169,8 @@ static int opens(long count) {
         if (!begin(i % 2 ? READ : CHECK, &p)) return 1;
         if (i % 2 && make(READ, &p) != DIFFUSE_STATUS_DONE) return 1;
         if (i % 3 == 0 && make(FACTOR, &p) != DIFFUSE_STATUS_DONE) return 1;
-        if (make(SHARE, &p) != DIFFUSE_STATUS_DONE || make(ROUTE, &p) != DIFFUSE_STATUS_DONE) return 1;
+        if (make(SHARE, &p) != DIFFUSE_STATUS_DONE || route_before(DIFFUSE_ALGEBRA_WIDEST, 1, &p) != DIFFUSE_STATUS_DONE) return 1;
+        if (make(ROUTE, &p) != DIFFUSE_STATUS_DONE || !is_right(ROUTE, &p)) return 1;
         end(&p);
         in_use = mallinfo2().uordblks;
         if (i == 99) first = in_use;

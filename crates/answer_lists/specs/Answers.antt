@@ -1,9 +1,10 @@
 -- What a status means, and what is written with it.
-use Rattle.std.specs.Prelude.{◌≡◌, ℕ, ◌+◌, ◌⊎◌, [], ◌∷◌, List, ℤ, pos, length, take}
+use Rattle.std.specs.Prelude.{◌≡◌, ℕ, ◌+◌, ◌⊎◌, [], ◌∷◌, List, ℤ, pos, length, take, Option, MatchOption}
 use Rattle.road_graph.specs.GraphData.{GraphData, HasVertex}
 use Rattle.path_algebra.specs.Algebra.{Algebra}
 use Rattle.path_algebra.specs.Walks.{IsBestCode, AreHops, IsUnreached}
 use Rattle.route_tree.specs.Told.{IsParentRoute}
+use Rattle.route_tree.specs.declared.routes.PairRoute.{PairRoute}
 
 -- the status is one of these
 abbrev pub IsOneOf : List ℕ → ℤ → Type 0
@@ -36,6 +37,11 @@ pub record IsRouteFound {V : Type 0} (A : Algebra V) (g : GraphData) (source tar
   pub near : AreHops A g (source ∷ []) target hops
   pub parents : IsParentRoute A g (source ∷ []) target route
   pub count : length route ≡ hops + 1
+
+-- what was found of a pair: the best code and the route, or that there is none
+abbrev pub IsPairFound : {V : Type 0} → Algebra V → GraphData → ℕ → ℕ → Option (ℕ × PairRoute) → Type 0
+IsPairFound A g source target found = MatchOption found (IsNoRoute A g source target)
+    (λ r. IsRouteFound A g source target r.0 r.1.hops r.1.vertices.items)
 
 -- what the status of a route means, and what the places of the caller contain
 pub record ReportsRoute {V : Type 0} (A : Algebra V) (g : GraphData) (source target : ℕ) (status : ℤ) (code hops : ℕ) (room : List ℕ) : Type 0 where

@@ -1,5 +1,6 @@
 pub mod Answers
 pub mod Factoring
+pub mod Kept
 pub mod Shown
 pub mod Table
 pub mod Tree

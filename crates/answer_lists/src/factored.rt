@@ -1,13 +1,13 @@
 //! A factored graph, and what asks it.
 
-ghost use Rattle.std.specs.Prelude.{◌≡◌, ◌∷◌, [], IfOk, MatchOption};
+ghost use Rattle.std.specs.Prelude.{◌≡◌, ◌∷◌, [], IfOk};
 ghost use Rattle.std.specs.List.{All};
 ghost use Rattle.road_graph.specs.GraphData.{HasVertex};
 ghost use Rattle.path_algebra.specs.Carried.{IsCarried};
 ghost use Rattle.path_algebra.specs.Counted.{cost_of};
 ghost use Rattle.path_algebra.specs.Walks.{AreBest};
 ghost use Rattle.route_tree.specs.Tree.{IsTree};
-ghost use Rattle.answer_lists.specs.Answers.{IsNoRoute, IsRouteFound};
+ghost use Rattle.answer_lists.specs.Answers.{IsPairFound};
 ghost use Rattle.answer_lists.specs.Table.{AreRowCodes};
 ghost use Rattle.answer_lists.specs.Tree.{HasLowCodes};
 
@@ -147,8 +147,7 @@ impl Factored {
         requires source { HasVertex self.now.roads ends.0 }
         requires target { HasVertex self.now.roads ends.1 }
         ensures same { asker.new.factors ≡ self.now }
-        ensures found { IfOk result (λ o. MatchOption o (IsNoRoute (A.meaning algebra) self.now.roads ends.0 ends.1)
-            (λ r. IsRouteFound (A.meaning algebra) self.now.roads ends.0 ends.1 r.0 r.1.hops r.1.vertices.items)) }
+        ensures found { IfOk result (IsPairFound (A.meaning algebra) self.now.roads ends.0 ends.1) }
     {
         self.factors.begin(asker, ends.0);
         let Some(value) = self.factors.best_value(algebra, asker, ends.1)? else {
@@ -173,8 +172,7 @@ impl Factored {
         requires source { HasVertex self.old.roads ends.0 }
         requires target { HasVertex self.old.roads ends.1 }
         ensures kept { self.new ≡ self.old }
-        ensures found { IfOk result (λ o. MatchOption o (IsNoRoute (A.meaning algebra) self.old.roads ends.0 ends.1)
-            (λ r. IsRouteFound (A.meaning algebra) self.old.roads ends.0 ends.1 r.0 r.1.hops r.1.vertices.items)) }
+        ensures found { IfOk result (IsPairFound (A.meaning algebra) self.old.roads ends.0 ends.1) }
     {
         let mut asker = self.take_asker(alloc)?;
         let found = self.ask_route(alloc, algebra, rows, &mut asker, ends);

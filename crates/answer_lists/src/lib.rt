@@ -6,6 +6,7 @@ mod evidence;
 mod factored;
 mod factoring;
 mod judging;
+mod kept_searcher;
 mod lines;
 mod route;
 mod shared_graph;

@@ -1,49 +1,52 @@
 //! A route, written to memory that the caller lends.
 
-ghost use Rattle.std.specs.Prelude.{◌≡◌, ◌≤◌, ◌<◌, ◌+◌, ◌↔◌, ◌∷◌, [], length, take, drop, pos, IfOk, MatchOption};
+ghost use Rattle.std.specs.Prelude.{◌≡◌, ◌≤◌, ◌<◌, ◌+◌, ◌↔◌, ◌∷◌, [], length, take, drop, pos, IfOk, IfSome};
 ghost use Rattle.road_graph.specs.GraphData.{HasVertex};
+ghost use Rattle.path_algebra.specs.Carried.{IsCarried};
 ghost use Rattle.path_algebra.specs.Choices.{IsAlgebra, OfAlgebra, Under};
-ghost use Rattle.answer_lists.specs.Answers.{IsAnswered, IsFound, IsOneOf, IsNoRoute, IsRouteFound, ReportsRoute, HasBoth};
+ghost use Rattle.path_algebra.specs.Counted.{cost_of};
+ghost use Rattle.answer_lists.specs.Answers.{IsAnswered, IsFound, IsOneOf, IsPairFound, ReportsRoute, HasBoth};
 
+use crate::factored::Factored;
 use crate::shared_graph::SharedGraph;
 use crate::status::{DONE, MEMORY, NO_ALGEBRA, NO_ROOM, NO_ROUTE, NO_VERTEX};
-use path_algebra::{AlgebraChoice, PathAlgebra, with_algebra};
-use path_plain::solve_to;
-use road_graph::{InGraph, Memory, OutGraph, Vertex};
-use route_tree::{PairRoute, route_outgoing_up_to};
+use path_algebra::{AlgebraChoice, with_algebra};
+use road_graph::{InGraph, Memory, Vertex};
+use route_tree::PairRoute;
 use std::alloc::Global;
 
-/// The best code and the route, by a search; none if no walk to the target has a value.
-fn search<A: PathAlgebra>(
-    alloc: Global,
-    algebra: A,
-    graph: &OutGraph,
-    rows: &InGraph,
-    source: Vertex,
-    target: Vertex,
-) -> Result<Option<(u64, PairRoute)>, Memory>
-    requires source { HasVertex graph.now source }
-    requires target { HasVertex graph.now target }
-    requires rows { rows.now ≡ graph.now }
-    ensures { IfOk result (λ o. MatchOption o (IsNoRoute (A.meaning algebra) graph.now source target)
-        (λ r. IsRouteFound (A.meaning algebra) graph.now source target r.0 r.1.hops r.1.vertices.items)) }
+/// Takes the factors out for an algebra, if there are any.
+fn take_factored(chosen: AlgebraChoice, shared: &mut SharedGraph) -> Option<Factored>
+    ensures kept { shared.new ≡ shared.old }
+    ensures roads { IfSome result (λ f. f.roads ≡ shared.old) }
+    ensures carried { Under chosen (λ V A. IfSome result (λ f. IsCarried A (cost_of f.algebra.cost))) }
 {
-    graph.holds();
-    let labels = solve_to(alloc, algebra, graph, &[source], target)?;
-    let Some(route) = route_outgoing_up_to(alloc, algebra, graph, rows, source, target, &labels)?
-    else {
-        return Ok(None);
-    };
-    match labels.of(target) {
-        Some(value) => Ok(Some((algebra.code(value), route))),
-        None => Ok(None),
-    }
+    with_algebra!(chosen, |algebra| shared.take_factored(algebra))
+}
+
+/// The best code and the route by factors; none if no walk to the target has a value.
+fn ask(
+    alloc: Global,
+    chosen: AlgebraChoice,
+    factored: &mut Factored,
+    rows: &InGraph,
+    ends: (Vertex, Vertex),
+) -> Result<Option<(u64, PairRoute)>, Memory>
+    requires carried { Under chosen (λ V A. IsCarried A (cost_of factored.old.algebra.cost)) }
+    requires rows { rows.now ≡ factored.old.roads }
+    requires source { HasVertex factored.old.roads ends.0 }
+    requires target { HasVertex factored.old.roads ends.1 }
+    ensures kept { factored.new ≡ factored.old }
+    ensures found { Under chosen (λ V A. IfOk result
+        (IsPairFound A factored.old.roads ends.0 ends.1)) }
+{
+    with_algebra!(chosen, |algebra| factored.route(alloc, algebra, rows, ends))
 }
 
 /// The best code and the route; none if no walk to the target has a value.
-fn find<A: PathAlgebra>(
+fn find(
     alloc: Global,
-    algebra: A,
+    chosen: AlgebraChoice,
     shared: &mut SharedGraph,
     source: Vertex,
     target: Vertex,
@@ -51,14 +54,13 @@ fn find<A: PathAlgebra>(
     requires source { HasVertex shared.old source }
     requires target { HasVertex shared.old target }
     ensures graph { shared.new ≡ shared.old }
-    ensures found { IfOk result (λ o. MatchOption o (IsNoRoute (A.meaning algebra) shared.old source target)
-        (λ r. IsRouteFound (A.meaning algebra) shared.old source target r.0 r.1.hops r.1.vertices.items)) }
+    ensures found { Under chosen (λ V A. IfOk result (IsPairFound A shared.old source target)) }
 {
     let rows = shared.rows(alloc)?;
-    let Some(mut factored) = shared.take_factored(algebra) else {
-        return search(alloc, algebra, shared.graph(), &rows, source, target);
+    let Some(mut factored) = take_factored(chosen, shared) else {
+        return shared.search(alloc, chosen, &rows, (source, target));
     };
-    let found = factored.route(alloc, algebra, &rows, (source, target));
+    let found = ask(alloc, chosen, &mut factored, &rows, (source, target));
     shared.put_factored(factored);
     found
 }
@@ -93,41 +95,8 @@ fn write_route(route: &PairRoute, room: &mut [u32]) -> i32
     DONE
 }
 
-/// Finds a route and writes it.
-fn answer<A: PathAlgebra>(
-    alloc: Global,
-    algebra: A,
-    shared: &mut SharedGraph,
-    source: Vertex,
-    target: Vertex,
-    code: &mut u64,
-    hops: &mut u32,
-    room: &mut [u32],
-) -> i32
-    requires { HasBoth shared.old source target }
-    ensures graph { shared.new ≡ shared.old }
-    ensures tells { ReportsRoute (A.meaning algebra) shared.old source target result code.new hops.new
-        room.new }
-    ensures short { result ≡ pos 2 → length room.old < hops.new + 1 }
-    ensures long { result ≡ pos 0 → hops.new + 1 ≤ length room.old }
-    ensures room { (result ≡ pos 0 → ⊥) → room.new ≡ room.old }
-    ensures rest { result ≡ pos 0 → drop (hops.new + 1) room.new ≡ drop (hops.new + 1) room.old }
-    ensures places { (IsFound result → ⊥) → (code.new ≡ code.old) × (hops.new ≡ hops.old) }
-    ensures status { IsOneOf (0 ∷ 1 ∷ 2 ∷ 3 ∷ []) result }
-{
-    match find(alloc, algebra, shared, source, target) {
-        Ok(Some((value, route))) => {
-            *code = value;
-            *hops = route.hops;
-            write_route(&route, room)
-        }
-        Ok(None) => NO_ROUTE,
-        Err(Memory) => MEMORY,
-    }
-}
-
 /// Finds a route by the chosen algebra and writes it.
-fn answer_chosen(
+fn answer(
     alloc: Global,
     chosen: AlgebraChoice,
     shared: &mut SharedGraph,
@@ -148,10 +117,16 @@ fn answer_chosen(
     ensures places { (IsFound result → ⊥) → (code.new ≡ code.old) × (hops.new ≡ hops.old) }
     ensures status { IsOneOf (0 ∷ 1 ∷ 2 ∷ 3 ∷ []) result }
 {
-    with_algebra!(
-        chosen,
-        |algebra| answer(alloc, algebra, shared, source, target, code, hops, room)
-    )
+    let Ok(found) = find(alloc, chosen, shared, source, target) else {
+        return MEMORY;
+    };
+    let Some(pair) = found else {
+        return NO_ROUTE;
+    };
+    let (value, route) = pair;
+    *code = value;
+    *hops = route.hops;
+    write_route(&route, room)
 }
 
 /// Finds a route by the algebra of a number and writes it, if there is such an algebra and both are vertices.
@@ -187,5 +162,5 @@ pub fn answer_route(
     let Some(chosen) = AlgebraChoice::numbered(number, limit) else {
         return NO_ALGEBRA;
     };
-    answer_chosen(alloc, chosen, shared, source, target, code, hops, room)
+    answer(alloc, chosen, shared, source, target, code, hops, room)
 }

@@ -3,24 +3,32 @@
 ghost use Rattle.std.specs.Prelude.{◌≡◌, ℕ, IfOk, IfErr, IfSome};
 ghost use Rattle.std.specs.Arc.{arc_value};
 ghost use Rattle.path_algebra.specs.Carried.{IsCarried};
+ghost use Rattle.path_algebra.specs.Choices.{Under};
 ghost use Rattle.path_algebra.specs.Counted.{cost_of, CountsFit};
+ghost use Rattle.road_graph.specs.GraphData.{HasVertex};
+ghost use Rattle.answer_lists.specs.Answers.{IsPairFound};
+ghost use Rattle.answer_lists.specs.Kept.{IsKeptFor};
 ghost use Rattle.factor_routes.specs.declared.road_factors.Unfactored.TheVariants.{Heavy};
 
 use crate::factored::Factored;
+use crate::kept_searcher::KeptSearcher;
 use factor_routes::{RoadFactors, Unfactored};
-use path_algebra::{Cost, PathAlgebra};
-use road_graph::{InGraph, Memory, OutGraph};
+use path_algebra::{AlgebraChoice, Cost, PathAlgebra};
+use road_graph::{InGraph, Memory, OutGraph, Vertex};
+use route_tree::PairRoute;
 use std::alloc::{AllocError, Global};
 use std::marker::Model;
 use std::sync::Arc;
 
-/// An owner of a graph, of its rows by head if they were made, and of its factors by weights and by arcs if it was factored.
+/// An owner of a graph, of its rows by head if they were made, and of its factors by weights and by arcs if it was factored;
+/// and the searcher of its last route, which no other owner has.
 #[derive(Drop)]
 pub struct SharedGraph {
     graph: Arc<OutGraph>,
     rows: Option<Arc<InGraph>>,
     by_weights: Option<Factored>,
     by_arcs: Option<Factored>,
+    searcher: Option<Box<KeptSearcher>>,
 }
 
 impl Model for SharedGraph {
@@ -29,6 +37,7 @@ impl Model for SharedGraph {
     ghost use Rattle.road_graph.specs.GraphData.{GraphData};
     ghost use Rattle.path_algebra.specs.declared.counted_sums.Cost.TheVariants.{Weight, One};
     ghost use Rattle.answer_lists.specs.Factoring.{IsFactorOf};
+    ghost use Rattle.answer_lists.specs.Kept.{graph_of};
 
     ghost Value = { GraphData };
 
@@ -36,7 +45,8 @@ impl Model for SharedGraph {
 
     ghost invariant = { λ s. IfSome s.rows (λ r. arc_value r ≡ arc_value s.graph)
         × IfSome s.by_weights (IsFactorOf (arc_value s.graph) Weight)
-        × IfSome s.by_arcs (IsFactorOf (arc_value s.graph) One) };
+        × IfSome s.by_arcs (IsFactorOf (arc_value s.graph) One)
+        × IfSome s.searcher (λ k. graph_of k.value ≡ arc_value s.graph) };
 }
 
 /// One more owner of what is there.
@@ -60,10 +70,11 @@ impl SharedGraph {
             rows: None,
             by_weights: None,
             by_arcs: None,
+            searcher: None,
         })
     }
 
-    /// One more owner of the same graph, and of what was made of it.
+    /// One more owner of the same graph, and of what was made of it. It makes its own searcher.
     pub fn another(&self) -> Result<SharedGraph, AllocError>
         ensures { IfOk result (λ s. s ≡ self.now) }
     {
@@ -79,6 +90,7 @@ impl SharedGraph {
             rows,
             by_weights,
             by_arcs,
+            searcher: None,
         })
     }
 
@@ -144,6 +156,44 @@ impl SharedGraph {
             Cost::Weight => self.by_weights = Some(factored),
             Cost::One => self.by_arcs = Some(factored),
         }
+    }
+
+    /// Takes the searcher out if it serves this algebra. Else it is freed, and another is made.
+    fn take_searcher(
+        &mut self,
+        alloc: Global,
+        chosen: AlgebraChoice,
+    ) -> Result<Box<KeptSearcher>, Memory>
+        ensures kept { self.new ≡ self.old }
+        ensures searcher { IfOk result (λ k. IsKeptFor chosen self.old k.value) }
+    {
+        if let Some(mut searcher) = self.searcher.take() {
+            if searcher.turn_to(chosen) {
+                return Ok(searcher);
+            }
+        }
+        let searcher = KeptSearcher::new(alloc, chosen, &self.graph)?;
+        Ok(Box::new(alloc, searcher).map_err(AllocError::from)?)
+    }
+
+    /// Searches for the best code and the route; none if no walk to the target has a value. The searcher is kept.
+    pub(crate) fn search(
+        &mut self,
+        alloc: Global,
+        chosen: AlgebraChoice,
+        rows: &InGraph,
+        ends: (Vertex, Vertex),
+    ) -> Result<Option<(u64, PairRoute)>, Memory>
+        requires rows { rows.now ≡ self.old }
+        requires source { HasVertex self.old ends.0 }
+        requires target { HasVertex self.old ends.1 }
+        ensures kept { self.new ≡ self.old }
+        ensures found { Under chosen (λ V A. IfOk result (IsPairFound A self.old ends.0 ends.1)) }
+    {
+        let mut searcher = self.take_searcher(alloc, chosen)?;
+        let found = searcher.route(&self.graph, rows, ends);
+        self.searcher = Some(searcher);
+        found
     }
 
     /// Factors the graph for arcs that cost this, unless that is done.

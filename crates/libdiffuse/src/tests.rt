@@ -93,6 +93,43 @@ fn assert_routes(rt: &impl Abort, alloc: Global, handle: &mut DiffuseGraph) {
     }
 }
 
+/// A pair has this status, code and hops: whatever was asked before it.
+fn assert_pair(
+    rt: &impl Abort,
+    alloc: Global,
+    handle: &mut DiffuseGraph,
+    asked: (u32, u64, u32, u32),
+    wanted: (i32, u64, u32),
+) {
+    let (number, limit, source, target) = asked;
+    let (mut code, mut hops, mut room) = (0, 0, [0; 5]);
+    let status = diffuse_graph_route(
+        alloc, handle, number, limit, source, target, &mut code, &mut hops, &mut room,
+    );
+    assert_eq!(rt; (status, code, hops), wanted);
+}
+
+/// Pairs of one source in a row, by another algebra, within another limit and from another source, there and back.
+fn assert_pairs(rt: &impl Abort, alloc: Global, handle: &mut DiffuseGraph) {
+    let pairs = [
+        ((0, 0, 1, 3), (0, 1, 1)),
+        ((0, 0, 1, 2), (0, 3, 2)),
+        ((0, 0, 1, 5), (1, 0, 0)),
+        ((0, 0, 5, 4), (0, 11, 4)),
+        ((1, 0, 5, 4), (0, 3, 3)),
+        ((5, 7, 1, 4), (1, 0, 0)),
+        ((5, 8, 1, 4), (0, 8, 3)),
+        ((5, 8, 1, 1), (0, 0, 0)),
+    ];
+    for i in 0..pairs.len() {
+        assert_pair(rt, alloc, handle, pairs[i].0, pairs[i].1);
+    }
+    for i in 0..pairs.len() {
+        let (asked, wanted) = pairs[pairs.len() - 1 - i];
+        assert_pair(rt, alloc, handle, asked, wanted);
+    }
+}
+
 fn assert_tree(rt: &impl Abort, alloc: Global, handle: &mut DiffuseGraph) {
     let (mut codes, mut hops, mut parents) = ([0; 5], [0; 5], [0; 5]);
     let status = diffuse_graph_tree(
@@ -220,10 +257,13 @@ fn a_handle_is_opened_shared_asked_and_closed(rt: HostRuntime) {
     let (mut first, mut second) = (closed(), closed());
     assert_opened(&rt, alloc, &mut first, &mut second);
     assert_routes(&rt, alloc, &mut first);
+    assert_pairs(&rt, alloc, &mut first);
     assert_sizes(&rt, alloc, &mut first);
     assert_arcs_from(&rt, alloc, &mut first);
     assert_send(&first);
+    assert_pairs(&rt, alloc, &mut second);
     close(alloc, first);
+    assert_pairs(&rt, alloc, &mut second);
     assert_tree(&rt, alloc, &mut second);
     assert_parts_of_a_tree(&rt, alloc, &mut second);
     assert_checks(&rt, alloc, &mut second);

@@ -10,6 +10,7 @@ use denote.RawPtr.{Ptr, block_ptr, null_ptr, lies_at}
 use denote.Param.Send.{IsSend, owning_send, part_keyless, sendable}
 use Rattle.std.proofs.Crossing.{crosses, frees}
 use Rattle.road_graph.specs.GraphData.{GraphData}
+use Rattle.answer_lists.specs.contracts.kept_searcher.KeptSearcher as kept
 use Rattle.libdiffuse.specs.Holding.{held_at, shared_row, the_heap}
 use Rattle.libdiffuse.specs.contracts.held.Held.{the_row, the_type}
 
@@ -17,8 +18,11 @@ lies : (R : RattleType) → IsSend R → (p : Ptr) (x : R.Denot) → Keyless (li
 lies R s (block_ptr b o) x = part_keyless R s full_share x b o
 lies R s null_ptr x = tt
 
+searching : IsSend kept.the_row
+searching = search (sendable, crosses) depth 60 fits 100000
+
 inside : IsSend shared_row
-inside = search (sendable, crosses) depth 60 fits 100000
+inside = search (sendable, crosses, searching) depth 60 fits 100000
 
 keyless : (p : Ptr) (x : Option (GraphData)) → Keyless (held_at p x)
 keyless p None = tt

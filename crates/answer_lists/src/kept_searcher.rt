@@ -1,0 +1,133 @@
+//! A searcher that is kept from one route to the next.
+
+ghost use Rattle.std.specs.Prelude.{◌≡◌, IfOk, IsTrue};
+ghost use Rattle.road_graph.specs.GraphData.{HasVertex};
+ghost use Rattle.path_algebra.specs.Choices.{Under};
+ghost use Rattle.path_plain.specs.Searcher.{IsOfSameGraph};
+ghost use Rattle.answer_lists.specs.Answers.{IsPairFound};
+ghost use Rattle.answer_lists.specs.Kept.{IsKeptFor, algebra_of, graph_of};
+
+use path_algebra::{AlgebraChoice, Hops, PathAlgebra, Reach, Reliable, Shortest, Widest, Within};
+use road_graph::{InGraph, Memory, OutGraph, Vertex};
+use route_tree::{PairRoute, PairSearcher};
+use std::alloc::Global;
+
+/// A searcher for the pairs of a graph, by one of the given algebras.
+#[derive(Drop)]
+pub(crate) enum KeptSearcher {
+    Shortest(PairSearcher<Shortest>),
+    Widest(PairSearcher<Widest>),
+    Reach(PairSearcher<Reach>),
+    Hops(PairSearcher<Hops>),
+    Reliable(PairSearcher<Reliable>),
+    Within(PairSearcher<Within>),
+}
+
+/// The best code and the route; none if no walk to the target has a value.
+fn find<A: PathAlgebra>(
+    searcher: &mut PairSearcher<A>,
+    graph: &OutGraph,
+    rows: &InGraph,
+    ends: (Vertex, Vertex),
+) -> Result<Option<(u64, PairRoute)>, Memory>
+    requires graph { graph.now ≡ searcher.old.roads }
+    requires rows { rows.now ≡ graph.now }
+    requires source { HasVertex graph.now ends.0 }
+    requires target { HasVertex graph.now ends.1 }
+    ensures found { IfOk result (IsPairFound (A.meaning searcher.old.algebra) graph.now ends.0 ends.1) }
+    ensures same { IsOfSameGraph searcher.old searcher.new }
+{
+    let algebra = searcher.algebra();
+    let (value, route) = searcher.solve(graph, rows, ends)?;
+    let Some(value) = value else {
+        return Ok(None);
+    };
+    match route {
+        Some(route) => Ok(Some((algebra.code(value), route))),
+        None => Ok(None),
+    }
+}
+
+/// Gives it this limit. If it had another, its next search begins anew.
+fn set_limit(searcher: &mut PairSearcher<Within>, within: Within)
+    ensures limit { searcher.new.algebra ≡ within }
+    ensures graph { searcher.new.roads ≡ searcher.old.roads }
+{
+    if searcher.algebra() != within {
+        searcher.set_algebra(within);
+    }
+}
+
+impl KeptSearcher {
+    /// A searcher for this graph by this algebra.
+    pub(crate) fn new(
+        alloc: Global,
+        chosen: AlgebraChoice,
+        graph: &OutGraph,
+    ) -> Result<KeptSearcher, Memory>
+        ensures { IfOk result (IsKeptFor chosen graph.now) }
+    {
+        match chosen {
+            AlgebraChoice::Shortest => Ok(KeptSearcher::Shortest(PairSearcher::new(
+                alloc, Shortest, graph,
+            )?)),
+            AlgebraChoice::Widest => Ok(KeptSearcher::Widest(PairSearcher::new(
+                alloc, Widest, graph,
+            )?)),
+            AlgebraChoice::Reach => Ok(KeptSearcher::Reach(PairSearcher::new(
+                alloc, Reach, graph,
+            )?)),
+            AlgebraChoice::Hops => Ok(KeptSearcher::Hops(PairSearcher::new(alloc, Hops, graph)?)),
+            AlgebraChoice::Reliable => Ok(KeptSearcher::Reliable(PairSearcher::new(
+                alloc, Reliable, graph,
+            )?)),
+            AlgebraChoice::Within(within) => Ok(KeptSearcher::Within(PairSearcher::new(
+                alloc, within, graph,
+            )?)),
+        }
+    }
+
+    /// Whether it can search by this algebra from now on. If it has searched within another limit, it begins anew.
+    pub(crate) fn turn_to(&mut self, chosen: AlgebraChoice) -> bool
+        ensures algebra { IsTrue result → algebra_of self.new ≡ chosen }
+        ensures graph { graph_of self.new ≡ graph_of self.old }
+    {
+        match (self, chosen) {
+            (KeptSearcher::Shortest(_), AlgebraChoice::Shortest)
+            | (KeptSearcher::Widest(_), AlgebraChoice::Widest)
+            | (KeptSearcher::Reach(_), AlgebraChoice::Reach)
+            | (KeptSearcher::Hops(_), AlgebraChoice::Hops)
+            | (KeptSearcher::Reliable(_), AlgebraChoice::Reliable) => true,
+            (KeptSearcher::Within(searcher), AlgebraChoice::Within(within)) => {
+                set_limit(searcher, within);
+                true
+            }
+            _ => false,
+        }
+    }
+
+    /// The best code and the route; none if no walk to the target has a value.
+    pub(crate) fn route(
+        &mut self,
+        graph: &OutGraph,
+        rows: &InGraph,
+        ends: (Vertex, Vertex),
+    ) -> Result<Option<(u64, PairRoute)>, Memory>
+        requires graph { graph.now ≡ graph_of self.old }
+        requires rows { rows.now ≡ graph.now }
+        requires source { HasVertex graph.now ends.0 }
+        requires target { HasVertex graph.now ends.1 }
+        ensures found { Under (algebra_of self.old) (λ V A. IfOk result
+            (IsPairFound A graph.now ends.0 ends.1)) }
+        ensures graph { graph_of self.new ≡ graph_of self.old }
+    {
+        match self {
+            KeptSearcher::Shortest(searcher) => find(searcher, graph, rows, ends),
+            KeptSearcher::Widest(searcher) => find(searcher, graph, rows, ends),
+            KeptSearcher::Reach(searcher) => find(searcher, graph, rows, ends),
+            KeptSearcher::Hops(searcher) => find(searcher, graph, rows, ends),
+            KeptSearcher::Reliable(searcher) => find(searcher, graph, rows, ends),
+            KeptSearcher::Within(searcher) => find(searcher, graph, rows, ends),
+        }
+    }
+}

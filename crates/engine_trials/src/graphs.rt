@@ -59,6 +59,15 @@ pub fn five(rt: &(impl Abort + AllocGlobal)) -> Graph {
     graph_of(rt, 5, &FIVE)
 }
 
+/// Five vertices: 3 is next to 1 by a dear arc, and nearer by two cheap ones.
+pub fn detour(rt: &(impl Abort + AllocGlobal)) -> Graph {
+    graph_of(
+        rt,
+        5,
+        &[(1, 2, 1), (1, 3, 10), (2, 3, 2), (3, 4, 1), (4, 5, 1)],
+    )
+}
+
 /// Vertices 1 to n, with an arc of this weight from each to the next.
 pub fn chain_of(rt: &(impl Abort + AllocGlobal), n: u32, weight: u32) -> Graph {
     let mut arcs = Vec::new(rt.alloc());

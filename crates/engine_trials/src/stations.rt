@@ -8,6 +8,7 @@ ghost use Rattle.station.specs.Gather.{IsGathered, each_shows};
 ghost use Rattle.station.specs.Opened.{setup_of};
 ghost use Rattle.station.specs.Station.{BelongsTo};
 
+mod holding;
 mod threads;
 
 use crate::graphs::{ORDERS, SHORTEST, blocks_of, five};
@@ -17,8 +18,8 @@ use post_floor::Floor;
 use road_graph::{Graph, Vertex};
 use shard_part::{Plan, QueueOrder, Shard};
 use station::{
-    Finished, GatherFault, Gathered, Station, Ungathered, best_first_counts_each_arc_once, gather,
-    open_diffusion, reach_counts_each_arc_once,
+    Finished, GatherFault, Gathered, Report, Station, Ungathered, best_first_counts_each_arc_once,
+    gather, open_diffusion, reach_counts_each_arc_once,
 };
 use std::process::Abort;
 
@@ -58,29 +59,69 @@ pub fn opened<'g, A: PathAlgebra>(
     }
 }
 
+/// How a diffusion goes on: the order in which parts take their items, by what weight a shard may run ahead of the others, if it is held back, how many items
+/// parts take in a turn, and how many turns there are.
+#[derive(Clone, Copy)]
+struct Schedule {
+    order: QueueOrder,
+    ahead: Option<u32>,
+    budget: u32,
+    turns: usize,
+}
+
+/// The same floor, on which a shard may run ahead of the others by this weight, if there is one.
+fn held_back<A: PathAlgebra>(floor: Floor<A>, ahead: Option<u32>) -> Floor<A>
+    ensures { result ≡ floor }
+{
+    match ahead {
+        Some(ahead) => {
+            let mut floor = floor;
+            floor.hold_back(ahead);
+            floor
+        }
+        None => floor,
+    }
+}
+
+/// A diffusion from a vertex, whose shards are held back as the schedule says.
+fn opened_for<'g, A: PathAlgebra>(
+    rt: &(impl Abort + AllocGlobal),
+    algebra: A,
+    graph: &'g Graph,
+    plan: &'g Plan,
+    source: u32,
+    schedule: Schedule,
+) -> (Floor<A>, Vec<Station<'g, A>>)
+    ensures own { All (BelongsTo result.0) result.1.items }
+    ensures setup { result.0.setup ≡ setup_of algebra graph.now source plan.now schedule.order }
+{
+    let (floor, stations) = opened(rt, algebra, graph, plan, source, schedule.order);
+    (held_back(floor, schedule.ahead), stations)
+}
+
 /// One turn of a station.
-fn turn_one<A: PathAlgebra>(floor: &Floor<A>, station: &mut Station<'_, A>, budget: u32) -> bool
+fn turn_one<A: PathAlgebra>(floor: &Floor<A>, station: &mut Station<'_, A>, budget: u32) -> Report
     requires { BelongsTo floor.now station.old }
     ensures { BelongsTo floor.now station.new }
 {
-    station.turn(floor, budget).ended
+    station.turn(floor, budget)
 }
 
-/// One turn of one station of a list.
+/// One turn of one station of a list, and what it reports.
 fn turned_once<'g, A: PathAlgebra>(
     rt: &impl Abort,
     floor: &Floor<A>,
     stations: Vec<Station<'g, A>>,
     k: usize,
     budget: u32,
-) -> Vec<Station<'g, A>>
+) -> (Vec<Station<'g, A>>, Report)
     requires { All (BelongsTo floor.now) stations.items }
-    ensures { All (BelongsTo floor.now) result.items }
+    ensures { All (BelongsTo floor.now) result.0.items }
 {
     let mut stations = stations;
     assert!(rt; k < stations.len());
-    turn_one(floor, &mut stations[k], budget);
-    stations
+    let report = turn_one(floor, &mut stations[k], budget);
+    (stations, report)
 }
 
 /// This many turns, each of the next station, in rotation.
@@ -98,7 +139,7 @@ fn turned<'g, A: PathAlgebra>(
     for turn in 0..turns {
         assert!(rt; stations.len() > 0);
         let k = turn % stations.len();
-        stations = turned_once(rt, floor, stations, k, budget);
+        (stations, _) = turned_once(rt, floor, stations, k, budget);
     }
     stations
 }
@@ -200,14 +241,6 @@ fn gathered<A: PathAlgebra>(
     }
 }
 
-/// How a diffusion goes on: the order in which parts take their items, how many they take in a turn, and how many turns there are.
-#[derive(Clone, Copy)]
-struct Schedule {
-    order: QueueOrder,
-    budget: u32,
-    turns: usize,
-}
-
 /// The answer of a diffusion.
 fn answered<A: PathAlgebra>(
     rt: &(impl Abort + AllocGlobal),
@@ -220,13 +253,8 @@ fn answered<A: PathAlgebra>(
     ensures { IsGathered A.meaning (setup_of algebra graph.now source plan.now schedule.order)
         result }
 {
-    let Schedule {
-        order,
-        budget,
-        turns,
-    } = schedule;
-    let (floor, stations) = opened(rt, algebra, graph, plan, source, order);
-    let stations = turned(rt, &floor, stations, budget, turns);
+    let (floor, stations) = opened_for(rt, algebra, graph, plan, source, schedule);
+    let stations = turned(rt, &floor, stations, schedule.budget, schedule.turns);
     let done = finished(rt, &floor, stations);
     gathered(rt, floor, done)
 }
@@ -248,7 +276,14 @@ fn assert_labels<A: PathAlgebra>(
     }
 }
 
-/// Asserts the labels of the five vertices from vertex 1, after this many turns, in both orders.
+/// Both orders; and best first, if a shard is held back as soon as it runs ahead.
+const PACES: [(QueueOrder, Option<u32>); 3] = [
+    (QueueOrder::Arrival, None),
+    (QueueOrder::BestFirst, None),
+    (QueueOrder::BestFirst, Some(0)),
+];
+
+/// Asserts the labels of the five vertices from vertex 1, after this many turns, at each pace.
 fn assert_answer<A: PathAlgebra>(
     rt: &(impl Abort + AllocGlobal),
     algebra: A,
@@ -257,9 +292,10 @@ fn assert_answer<A: PathAlgebra>(
     turns: usize,
     wanted: [Option<u64>; 5],
 ) {
-    for order in ORDERS {
+    for (order, ahead) in PACES {
         let schedule = Schedule {
             order,
+            ahead,
             budget,
             turns,
         };
@@ -351,6 +387,7 @@ fn assert_reached(
     for order in ORDERS {
         let schedule = Schedule {
             order,
+            ahead: None,
             budget,
             turns: 200,
         };
@@ -394,6 +431,7 @@ fn best_alone<A: PathAlgebra>(
 {
     let schedule = Schedule {
         order: QueueOrder::BestFirst,
+        ahead: None,
         budget,
         turns: 200,
     };
@@ -458,7 +496,7 @@ fn assert_never_grows<A: PathAlgebra<Value = u64>>(
     let mut stations = stations;
     let mut last = None;
     for turn in 0..200 {
-        stations = turned_once(rt, floor, stations, turn % 3, 1);
+        (stations, _) = turned_once(rt, floor, stations, turn % 3, 1);
         assert!(rt; stations.len() == 3);
         assert!(rt; stations[1].shard() == Shard(1));
         let label = peeked(rt, &stations[1], v);

@@ -12,7 +12,7 @@ use road_graph::Vertex;
 use shard_part::{Plan, QueueOrder};
 use station::Station;
 use std::process::Abort;
-use worker_fleet::{Gate, OpenGate, Outcome, drive};
+use worker_fleet::{CallOff, Gate, OpenGate, Outcome, drive};
 
 /// A gate that lets each worker make this many turns.
 struct TurnsAtMost(u64);
@@ -131,6 +131,33 @@ fn assert_gated<A: PathAlgebra>(rt: &(impl Abort + AllocGlobal), algebra: A) {
     assert!(rt; back.outcome == Outcome::Gated);
     assert!(rt; back.turns == 2);
     assert!(rt; back.stations.len() == 2);
+}
+
+/// Asserts how a worker that may make three turns stops, and after how many, if it was called off before, or was not.
+fn assert_called_off<A: PathAlgebra>(
+    rt: &(impl Abort + AllocGlobal),
+    algebra: A,
+    called_off: bool,
+    outcome: Outcome,
+    turns: u64,
+) {
+    let graph = five(rt);
+    let plan = blocks_of(rt, 5, 2);
+    let (floor, stations) = opened(rt, algebra, &graph, &plan, 1, QueueOrder::Arrival);
+    let stations = placed(rt, &floor, stations);
+    let gate = CallOff::new();
+    if called_off {
+        gate.call_off();
+    }
+    let back = drive(&[floor], stations, 0, 1, 3, &gate);
+    assert!(rt; back.outcome == outcome);
+    assert!(rt; back.turns == turns);
+}
+
+#[test]
+fn makes_no_turn_once_it_is_called_off(rt: HostRuntime) {
+    assert_called_off(&rt, Shortest, false, Outcome::Stalled, 3);
+    assert_called_off(&rt, Shortest, true, Outcome::Gated, 0);
 }
 
 #[test]

@@ -15,3 +15,4 @@ mod Closed
 pub mod ExactCounts
 mod QuietTries
 mod QuietRound
+mod OneShard

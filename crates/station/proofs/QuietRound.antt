@@ -37,7 +37,7 @@ use Rattle.station.specs.Turn.{SentOff, Tried, Worked, received}
 use Rattle.station.specs.Round.{nothing_done, AreFound, IsSameMail, HasNoClaim, TurnAt, IsQuietTurn, AreQuietTurns, IsQuietRound}
 use Rattle.station.proofs.QuietTries.{Missed, AllMissed, all_missed}
 
-none_at_all : {A : Type 0} (xs : List A) → length xs ≡ 0 → xs ≡ []
+pub none_at_all : {A : Type 0} (xs : List A) → length xs ≡ 0 → xs ≡ []
 none_at_all [] e = refl
 none_at_all (x ∷ xs) e = absurd (omega (arith, e))
 
@@ -92,7 +92,7 @@ module _ {S V : Type 0} (meaning : S → Algebra V) where
   none_in_flight N place c h none = sum_zero (λ b. total (at_place N place h) (item_of b (c.token b))) (suc N.arcs) (λ b. weighs_none (at_place N place h) (item_of b (c.token b)) none)
 
   -- no outbox of a part has items for a shard that is not there
-  none_beyond : (p : PartData S V) → IsPlanned p.setup 0 → HoldsReachedShare meaning p → (j : ℕ) → p.setup.plan.shards ≤ j → get_or p.outs j [] ≡ []
+  pub none_beyond : (p : PartData S V) → IsPlanned p.setup 0 → HoldsReachedShare meaning p → (j : ℕ) → p.setup.plan.shards ≤ j → get_or p.outs j [] ≡ []
   none_beyond p P known j beyond =
       let N = network_of p.setup in let h : ℕ → Item V → ℕ = λ k i. is j k in
       let away : (i : Item V) → at_place N (place_in p.setup) h i ≡ 0 = λ i. let l = place_below p.setup 0 P (vertex_of N i) in is_other j (place_in p.setup (vertex_of N i)) (λ e. omega (arith, e, l, beyond)) in

@@ -1,6 +1,5 @@
 -- What a whole turn does, of what its steps do.
 use Rattle.std.proofs.Common.{◌≡◌, ◌≢◌, ℕ, ◌+◌, ◌-◌, ◌*◌, ◌<◌, ◌≤◌, Bool, true, false, Option, Some, None, IfSome, List, [], ◌∷◌, length, get_or, min, refl, sym, ap, ◌∙◌, subst, ◌⊎◌, inl, inr, arith, eq-eqb, length-append}
-use Rattle.std.specs.Prelude.{IsTrue}
 use Rattle.std.proofs.lemmas.List.{append-nil}
 use Rattle.path_algebra.specs.Algebra.{Algebra}
 use Rattle.path_algebra.proofs.Least.{same_no_worse}
@@ -85,6 +84,10 @@ far_sent {S} {V} no_worse budget handled held limit p q e (inr (inr w)) = inr (i
     held_in None b = absurd b
     held_in (Some x) b = subst (IsHeldBy no_worse x) (sym e) b
 
+all_or_none : {S V : Type 0} (budget handled : ℕ) (p q : PartData S V) → q.queue ≡ p.queue → (handled ≡ budget) ⊎ (p.queue ≡ []) → (handled ≡ budget) ⊎ (q.queue ≡ [])
+all_or_none budget handled p q e (inl h) = inl h
+all_or_none budget handled p q e (inr z) = inr (e ∙ z)
+
 module _ {S V : Type 0} (meaning : S → Algebra V) where
   -- no item was handled
   none_on : (p : PartData S V) (v : View S V) → IsViewOf v p → (before : List Event) → HoldsShare meaning (core_of meaning p.setup before) p → IsRunOn meaning before p 0 p
@@ -107,6 +110,7 @@ module _ {S V : Type 0} (meaning : S → Algebra V) where
   rested L f budget s i e b = record {
     own = b;
     shard = refl;
+    seat = i.shard;
     worked = record {
       batches = [];
       taken = refl;
@@ -124,6 +128,7 @@ module _ {S V : Type 0} (meaning : S → Algebra V) where
       limit = None;
       in_limit = ([], refl, refl);
       all = inr (inl (i.over e).part.queue);
+      alone = λ _. inr (i.over e).part.queue;
     };
     labels = λ v own x q. (x, q, same_no_worse (meaning s.part.setup.diffusion.algebra).no_worse (L s.part.setup.diffusion.algebra).ordered x);
     tried = λ q. absurd (let z = sym e ∙ q in cc);
@@ -138,16 +143,18 @@ module _ {S V : Type 0} (meaning : S → Algebra V) where
       → AllCameIn meaning taken s.part filled → emptied.setup ≡ filled.setup → emptied.shard ≡ filled.shard → HandledMany meaning filled handled emptied
       → ((before : List Event) → HoldsShare meaning (core_of meaning filled.setup before) filled → IsRunOn meaning before filled handled emptied)
       → handled ≤ budget → HandledWithin meaning limit filled handled emptied → IsAsFar (meaning s.part.setup.diffusion.algebra).no_worse budget handled held limit emptied
+      → (filled.setup.plan.shards ≡ 1 → (handled ≡ budget) ⊎ (emptied.queue ≡ []))
       → (has_ended q ≡ true → o ≡ true) → AreReady f d q → s.seat.shard < f.setup.plan.shards
       → AllTriedFrom f f.setup.plan.shards taken s.seat a → AllTriedTo f f.setup.plan.shards published emptied q a b → Looked f o b d
       → Turned meaning f budget s (record { handled = handled; taken = taken; published = published; held = held; ended = o }) (record { part = q; seat = d; ended = o })
-  turned L f budget handled taken published held limit s a b d filled emptied q o going (bs, bl, be, K) es ss T E within bounded all announced ready own from to look =
+  turned L f budget handled taken published held limit s a b d filled emptied q o going (bs, bl, be, K) es ss T E within bounded all alone announced ready own from to look =
       let before : IsLike s.part filled = subst (λ p. IsLike s.part p) (sym be) (received_like bs s.part) in
       let after : IsLike emptied q = sent_like to.outboxes emptied q to.sent in
       let tried = all_tried f handled taken published held s.seat a b d emptied q o from to look in
       record {
         own = record { floor = ready.floor; setup = ready.setup };
         shard = after.shard ∙ ss ∙ before.shard;
+        seat = ready.shard;
         worked = record {
           batches = bs;
           taken = bl;
@@ -165,6 +172,7 @@ module _ {S V : Type 0} (meaning : S → Algebra V) where
           limit = limit;
           in_limit = bounded;
           all = far_sent (meaning s.part.setup.diffusion.algebra).no_worse budget handled held limit emptied q (sent_queue to.outboxes emptied q to.sent) all;
+          alone = λ one. all_or_none budget handled emptied q (sent_queue to.outboxes emptied q to.sent) (alone (ap (λ t. t.plan.shards) before.setup ∙ one));
         };
         labels = λ v own. labels_stay meaning L s.part filled emptied q handled v before T after own.1;
         tried = λ _. tried;

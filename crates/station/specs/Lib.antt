@@ -3,6 +3,7 @@ pub mod Turn
 pub mod Tries
 pub mod Steps
 pub mod Round
+pub mod OneShard
 pub mod Opened
 pub mod Gather
 pub mod Handing

@@ -78,11 +78,13 @@ module _ {S V : Type 0} (meaning : S → Algebra V) where
     pub limit : Option V  -- how far it might run ahead of the others
     pub in_limit : HandledWithin meaning limit filled r.handled emptied
     pub all : IsAsFar (meaning p.setup.diffusion.algebra).no_worse budget r.handled r.held limit q
+    pub alone : p.setup.plan.shards ≡ 1 → (r.handled ≡ budget) ⊎ (q.queue ≡ [])  -- with one shard nothing is held back
 
   -- What one turn on the floor makes of a station, and reports. After the end it does nothing.
   pub record Turned (f : FloorData S) (budget : ℕ) (before : StationData S V) (r : Report) (after : StationData S V) : Type 0 where
     pub own : BelongsTo f after
     pub shard : after.part.shard ≡ before.part.shard
+    pub seat : after.seat.shard ≡ after.part.shard
     pub worked : Worked budget before.part r after.part
     pub labels : (v : ℕ) → IsOwn before.part v → StaysOrImproves (meaning before.part.setup.diffusion.algebra) ((state_in before.part).label v) ((state_in after.part).label v)
     pub tried : before.ended ≡ false → Tried f before.seat worked.emptied r worked.outboxes after.seat

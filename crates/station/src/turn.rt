@@ -1,5 +1,5 @@
 //! The steps of one turn.
-ghost use Rattle.std.specs.Prelude.{◌≡◌, ◌<◌, ◌≤◌, List, Option, length, true, IsTrue};
+ghost use Rattle.std.specs.Prelude.{◌≡◌, ◌⊎◌, ◌<◌, ◌≤◌, List, [], Option, None, length, true, IfSome, IsTrue};
 ghost use Rattle.scholten_core.specs.declared.event.Event.{Event};
 ghost use Rattle.scholten_core.specs.Diffusion.{state_after};
 ghost use Rattle.shard_store.specs.Setup.{network_of};
@@ -12,7 +12,7 @@ ghost use Rattle.station.specs.Steps.{AreReady, AreBehind, CameIn, AllCameIn, Tr
 ghost use Rattle.station.specs.Turn.{IsAsFar};
 
 use path_algebra::PathAlgebra;
-use post_floor::{Floor, Seat};
+use post_floor::{Floor, Limit, Seat};
 use shard_part::laws::part_holds;
 use shard_part::{Part, Plan, Shard};
 
@@ -77,12 +77,29 @@ pub(crate) fn read_all<A: PathAlgebra>(
     taken
 }
 
+/// How far a part may run ahead now; one that is alone may always go on.
+fn limit_of<A: PathAlgebra>(
+    floor: &Floor<A>,
+    plan: &Plan,
+    part: &Part<'_, A>,
+) -> Option<Limit<A::Value>>
+    ensures order { IfSome result (λ l. IsTrue (A.order l.best l.value)) }
+    ensures alone { plan.now.shards ≡ 1 → result ≡ None }
+{
+    if plan.shards() == 1 {
+        return None;
+    }
+    floor.limit(part)
+}
+
 /// Handles items, at most `budget`, as far as the floor lets the part run ahead. Says how many, and whether others are held back.
 pub(crate) fn handle_all<A: PathAlgebra>(
     floor: &Floor<A>,
+    plan: &Plan,
     part: &mut Part<'_, A>,
     budget: u32,
 ) -> (u32, bool)
+    requires plan { plan.now ≡ part.old.setup.plan }
     ensures taken { HandledMany A.meaning part.old result.0 part.new }
     ensures setup { part.new.setup ≡ part.old.setup }
     ensures shard { part.new.shard ≡ part.old.shard }
@@ -92,8 +109,9 @@ pub(crate) fn handle_all<A: PathAlgebra>(
     ensures budget { result.0 ≤ budget }
     ensures all { (limit : Option A.Value) × HandledWithin A.meaning limit part.old result.0
         part.new × IsAsFar A.order budget result.0 result.1 limit part.new }
+    ensures alone { part.old.setup.plan.shards ≡ 1 → (result.0 ≡ budget) ⊎ (part.new.queue ≡ []) }
 {
-    let limit = floor.limit(part);
+    let limit = limit_of(floor, plan, part);
     let value = match limit {
         Some(limit) => Some(limit.value),
         None => None,

@@ -8,3 +8,5 @@ mod Gathered
 pub mod Carried
 mod Grouped
 mod Carrying
+mod OneShard
+mod OneShardGroups

@@ -1,5 +1,5 @@
 -- One more step of one of the things that are moved.
-use Rattle.std.proofs.Common.{◌≡◌, ◌≢◌, ℕ, zero, suc, ◌+◌, ◌<◌, List, [], ◌∷◌, length, get_or, set, refl, ap, arith, add-one}
+use Rattle.std.proofs.Common.{◌≡◌, ◌≢◌, ℕ, zero, suc, ◌+◌, ◌<◌, List, [], ◌∷◌, length, get_or, set, refl, ap, arith, add-one, length-set}
 use Rattle.std.specs.Prelude.{sum, slice_get, Some, None}
 use Rattle.std.proofs.lemmas.List.Sums.{sum_by-set, sum_by-cons}
 use Rattle.std.proofs.lemmas.Grind.{common_steps}
@@ -30,6 +30,10 @@ module _ {X : Type 0} (S : X → X → Type 0) where
   MovesEach-more [] (x ∷ xs) ys i y z m at s = absurd m
   MovesEach-more (n ∷ ns) [] ys i y z m at s = absurd m
   MovesEach-more (n ∷ ns) (x ∷ xs) [] i y z m at s = absurd m
+
+pub more-length : (ns : List ℕ) (i : ℕ) → length (more_at ns i) ≡ length ns
+unfolding more_at
+more-length ns i = length-set ns i (get_or ns i 0 + 1)
 
 pub zeros-at : {X : Type 0} (xs : List X) (i : ℕ) → get_or (zeros xs) i 0 ≡ 0
 unfolding zeros

@@ -5,3 +5,4 @@ pub mod Assigned
 pub mod Dealt
 pub mod Groups
 pub mod Stops
+pub mod OneShard

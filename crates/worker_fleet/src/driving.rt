@@ -1,14 +1,13 @@
 //! The loop of one worker.
-ghost use Rattle.std.specs.Prelude.{◌≡◌, ◌≢◌, ◌<◌, ◌≤◌, length, false, None, IfSome, IfNone};
+ghost use Rattle.std.specs.Prelude.{◌≡◌, ◌<◌, ◌≤◌, length, IfSome, IfNone};
 ghost use Rattle.std.specs.List.{All, AllWithin, HoldsAt};
 ghost use Rattle.worker_fleet.specs.Turns.{NextOn, IsOnItsFloor, StationHasEnded, StationIsOpen, IsNextOpen};
-ghost use Rattle.worker_fleet.specs.Drives.{Drives};
+ghost use Rattle.worker_fleet.specs.Drives.{Drives, LetsTurn, WasCalledOff};
 
-use crate::gate::Gate;
+use crate::gate::{Gate, OpenGate};
 use path_algebra::PathAlgebra;
 use post_floor::Floor;
 use station::{Report, Station};
-use std::sync::atomic::{AtomicBool, Ordering};
 use std::thread;
 
 /// Why a worker stopped.
@@ -84,38 +83,29 @@ fn turn_one<A: PathAlgebra>(
     is_busy(station.turn(&floors[*place], budget))
 }
 
-/// Whether the workers were called off, if they can be.
-fn are_called_off(called_off: Option<&AtomicBool>) -> bool
-    ensures { called_off.entry ≡ None → result ≡ false }
-{
-    match called_off {
-        Some(flag) => flag.load(Ordering::Relaxed),
-        None => false,
-    }
-}
-
-/// Turns stations as `drive` does, and says why it stopped and how many turns that were; none if the workers were called off before.
-fn turn_until<'g, A: PathAlgebra, G: Gate>(
+/// Turns stations as `drive` does, and says why it stopped and how many turns that were; none if a second gate, which is asked before each turn too, called the worker off.
+fn turn_until<'g, A: PathAlgebra, G: Gate, C: Gate>(
     floors: &[Floor<A>],
     stations: &mut Vec<(usize, Station<'g, A>)>,
     worker: u64,
     budget: u32,
     limit: u64,
     gate: &G,
-    called_off: Option<&AtomicBool>,
+    call_off: &C,
 ) -> Option<(Outcome, u64)>
     requires { All (IsOnItsFloor floors.now) stations.old.items }
     ensures drives { IfSome result (λ r. Drives A.meaning floors.now budget limit
         (G.may_answer gate.now) worker stations.old.items
         (record { outcome = r.0; turns = r.1; stations = stations.new })) }
-    ensures some { called_off.entry ≡ None → result ≢ None }
+    ensures looked { IfSome result (λ r. LetsTurn (C.may_answer call_off.now) worker r.1) }
+    ensures called_off { IfNone result (WasCalledOff (C.may_answer call_off.now) worker limit) }
 {
     let (mut at, mut busy) = (0, true);
     for done in 0..limit {
         let Some(k) = next_open(stations, at) else {
             return Some((Outcome::Ended, done));
         };
-        if are_called_off(called_off) {
+        if !call_off.before(worker, done + 1) {
             return None;
         }
         if k < at {
@@ -134,31 +124,24 @@ fn turn_until<'g, A: PathAlgebra, G: Gate>(
     }
 }
 
-/// As `drive`, or none if the workers were called off before this one stopped.
-pub(crate) fn drive_unless<'g, A: PathAlgebra, G: Gate>(
+/// As `drive`, or none if the worker was called off before it stopped.
+pub(crate) fn drive_unless<'g, A: PathAlgebra, G: Gate, C: Gate>(
     floors: &[Floor<A>],
     stations: Vec<(usize, Station<'g, A>)>,
     worker: u64,
     budget: u32,
     limit: u64,
     gate: &G,
-    called_off: Option<&AtomicBool>,
+    call_off: &C,
 ) -> Option<Driven<'g, A>>
     requires { All (IsOnItsFloor floors.now) stations.items }
     ensures drives { IfSome result (Drives A.meaning floors.now budget limit (G.may_answer gate.now)
         worker stations.entry.items) }
-    ensures some { called_off.entry ≡ None → result ≢ None }
+    ensures looked { IfSome result (λ d. LetsTurn (C.may_answer call_off.now) worker d.turns) }
+    ensures called_off { IfNone result (WasCalledOff (C.may_answer call_off.now) worker limit) }
 {
     let mut stations = stations;
-    let stopped = turn_until(
-        floors,
-        &mut stations,
-        worker,
-        budget,
-        limit,
-        gate,
-        called_off,
-    );
+    let stopped = turn_until(floors, &mut stations, worker, budget, limit, gate, call_off);
     let (outcome, turns) = stopped?;
     Some(Driven {
         outcome,
@@ -183,7 +166,7 @@ pub fn drive<'g, A: PathAlgebra, G: Gate>(
     ensures { Drives A.meaning floors.now budget limit (G.may_answer gate.now) worker
         stations.entry.items result }
 {
-    match drive_unless(floors, stations, worker, budget, limit, gate, None) {
+    match drive_unless(floors, stations, worker, budget, limit, gate, &OpenGate) {
         Some(driven) => driven,
         None => unreachable!(),
     }

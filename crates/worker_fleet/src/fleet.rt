@@ -13,8 +13,12 @@ pub trait Assignment<J, T> {
     /// What the worker of this number may answer to this job.
     ghost answers: { Self → ℕ → J → T → Type 0 };
 
-    /// Tells the workers that already run that not all could be started, so that they need not go on.
-    fn call_off(&self);
+    /// That its workers were called off.
+    ghost called_off: { Self → Type 0 };
+
+    /// Tells the workers that run that nothing is made of what they return, so that they need not go on.
+    fn call_off(&self)
+        ensures { called_off self.now };
 }
 
 /// What a worker is started with, by which its answer is known.
@@ -102,19 +106,23 @@ fn start_all<
     Ok((handles, true))
 }
 
-/// Joins each worker and drops what it returns.
+/// Joins each worker, after all were called off, and drops what it returns.
 fn join_and_drop<'s, J: Drop, T: Drop, K: Assignment<J, T>, R: Threads>(
     rt: &R,
+    _assignment: &K,
     handles: Vec<PromisedHandle<T, Assigned<'s, J, K>>>,
-) {
+)
+    requires { K.called_off _assignment.now }
+{
     for handle in handles {
         drop(handle.join(rt));
     }
 }
 
-/// Joins all workers. If one was not started, or memory is refused, what they return is dropped.
+/// Joins all workers. If one was not started, or memory is refused, they are called off, and what they return is dropped.
 fn join_all<'s, J: Drop, T: Drop, K: Assignment<J, T>, R: Threads>(
     rt: &R,
+    assignment: &K,
     handles: Vec<PromisedHandle<T, Assigned<'s, J, K>>>,
     all: bool,
 ) -> Result<Vec<T>, AllocError>
@@ -123,17 +131,17 @@ fn join_all<'s, J: Drop, T: Drop, K: Assignment<J, T>, R: Threads>(
     ensures each { IfOk result (λ v. (k : ℕ) (r : T) → k < vec_len handles.entry
         → (h : _) × (h ≡ slice_index_or handles.entry.items k h) × K.answers h.promise.assignment.now h.promise.worker h.promise.job.value (slice_index_or v.items k r)) }
 {
-    if !all {
-        join_and_drop(rt, handles);
-        return Err(AllocError);
-    }
-    match thread::join_promised(rt, handles) {
-        Ok(answers) => Ok(answers),
-        Err(refused) => {
-            join_and_drop(rt, refused.value);
-            Err(AllocError)
+    let handles = if all {
+        match thread::join_promised(rt, handles) {
+            Ok(answers) => return Ok(answers),
+            Err(refused) => refused.value,
         }
-    }
+    } else {
+        handles
+    };
+    assignment.call_off();
+    join_and_drop(rt, assignment, handles);
+    Err(AllocError)
 }
 
 /// Does each job on a thread of its own, and waits for all of them; what they return comes in the order of the jobs.
@@ -169,10 +177,7 @@ pub fn run_each<
                 (slice_index_or v.items k r)) }
         {
             let (handles, all) = start_all(scope, alloc, assignment, work, jobs)?;
-            if !all {
-                assignment.call_off();
-            }
-            join_all(rt, handles, all)
+            join_all(rt, assignment, handles, all)
         },
     )
 }

@@ -1,11 +1,12 @@
 //! The stations of a group of diffusions, dealt to workers, run to their end, and put together again.
-ghost use Rattle.std.specs.Prelude.{◌≡◌, ◌⊎◌, ℕ, ◌<◌, length, map, IfOk, IfErr, IfNone, IfSome, Some, vec_len, slice_index_or};
+ghost use Rattle.std.specs.Prelude.{◌≡◌, ◌⊎◌, ℕ, ◌<◌, length, map, IfOk, IfErr, IfNone, IfSome, Some, ⊤, vec_len, slice_index_or};
 ghost use Rattle.std.specs.List.{All};
 ghost use Rattle.worker_fleet.specs.Turns.{IsOnItsFloor};
 ghost use Rattle.worker_fleet.specs.Drives.{Drives};
 ghost use Rattle.worker_fleet.specs.Groups.{gathered, HasShard, IsDone};
 ghost use Rattle.worker_fleet.specs.Stops.{IsFirstStop, IsStop};
 
+use crate::call_off::CallOff;
 use crate::dealing::{deal_all, empty_lists, put_all};
 use crate::driving::{Driven, Outcome, drive_unless};
 use crate::fleet::{Assignment, run_each};
@@ -15,7 +16,6 @@ use post_floor::Floor;
 use station::Station;
 use std::alloc::{AllocError, Global};
 use std::sync::Wait;
-use std::sync::atomic::{AtomicBool, Ordering};
 use std::thread::Threads;
 
 /// Why a group was not run to its end.
@@ -46,7 +46,7 @@ struct GroupAssignment<'a, A: PathAlgebra, G: Gate> {
     budget: u32,
     limit: u64,
     gate: &'a G,
-    called_off: &'a AtomicBool,
+    call_off: &'a CallOff,
 }
 
 impl<'a, 'g, A: PathAlgebra, G: Gate> Assignment<
@@ -55,8 +55,12 @@ impl<'a, 'g, A: PathAlgebra, G: Gate> Assignment<
 > for GroupAssignment<'a, A, G> {
     ghost answers = { λ o worker stations r. IfSome r (Drives A.meaning o.floors.now o.budget o.limit (G.may_answer o.gate.now) worker stations.items) };
 
-    fn call_off(&self) {
-        self.called_off.store(true, Ordering::Relaxed);
+    ghost called_off = { λ _. ⊤ };
+
+    fn call_off(&self)
+        ensures { ⊤ }
+    {
+        self.call_off.call_off();
     }
 }
 
@@ -93,13 +97,13 @@ fn drive_each<'g, A: PathAlgebra, G: Gate, R: Threads + Wait>(
         Drives A.meaning floors.now budget limit (G.may_answer gate.now) k
         (slice_index_or shares.entry.items k share).items (slice_index_or v.items k r)) }
 {
-    let called_off = &AtomicBool::new(false);
+    let call_off = &CallOff::new();
     let assignment = GroupAssignment {
         floors,
         budget,
         limit,
         gate,
-        called_off,
+        call_off,
     };
     let answers = run_each(
         rt,
@@ -110,17 +114,7 @@ fn drive_each<'g, A: PathAlgebra, G: Gate, R: Threads + Wait>(
             requires { All (IsOnItsFloor floors.now) stations.items }
             ensures { IfSome result (Drives A.meaning floors.entry.now budget limit
                 (G.may_answer gate.entry.now) worker stations.entry.items) }
-        {
-            drive_unless(
-                floors,
-                stations,
-                worker,
-                budget,
-                limit,
-                gate,
-                Some(called_off),
-            )
-        },
+        { drive_unless(floors, stations, worker, budget, limit, gate, call_off) },
     )?;
     let driven = all_driven(alloc, answers)?;
     Ok(driven)

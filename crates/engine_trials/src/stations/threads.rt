@@ -31,7 +31,7 @@ fn turn_to_end<A: PathAlgebra>(floor: &Floor<A>, station: &mut Station<'_, A>, b
     ensures { BelongsTo floor.now station.new }
 {
     for _ in 0..1_000_000_000 {
-        if turn_one(floor, station, budget) {
+        if turn_one(floor, station, budget).ended {
             return;
         }
         thread::yield_now();

@@ -4,4 +4,4 @@ use Rattle.station.specs.Gather.{IsGathered}
 use Rattle.engine_trials.proofs.stations.answered.Goals as goal
 
 pub returns : goal.returns
-returns g c = subst (λ (t : SetupData _). IsGathered g.A.PathAlgebra.meaning t c.gathered.result) c.opened-floor.ensures.setup c.gathered.ensures
+returns g c = subst (λ (t : SetupData _). IsGathered g.A.PathAlgebra.meaning t c.gathered.result) c.opened_for-floor.ensures.setup c.gathered.ensures

@@ -1,4 +1,4 @@
-use Rattle.std.proofs.Common.{inl, inr, subst}
+use Rattle.std.proofs.Common.{◌≡◌, ◌∙◌, Some, None, inl, inr, sym, ap, subst}
 use Rattle.shard_part.specs.Part.{IsHeldBack}
 use Rattle.station.proofs.Behind.{all_worse, settle}
 use Rattle.station.proofs.turn.handle_all.Goals.{in-Some, in-None}
@@ -18,9 +18,23 @@ returns-clause-all g c =
               | inl z ↦ inl z
               | inr b ↦ inr (elim c.match-limit.branch [
                 | in-Some w ↦ (let l = w.in-Some.limit in
-                    (b, l.best, all_worse g.A.PathAlgebra.order laws.ordered l.best l.value w.in-Some.ensures p.queue (subst (λ o. IsHeldBack g.A.PathAlgebra.order o p) w.value-is b)))
+                    (b, l.best, all_worse g.A.PathAlgebra.order laws.ordered l.best l.value w.in-Some.ensures.order p.queue (subst (λ o. IsHeldBack g.A.PathAlgebra.order o p) w.value-is b)))
                 | in-None w ↦ absurd (subst (λ o. IsHeldBack g.A.PathAlgebra.order o p) w.value-is b)
               ])
             ])
           ]),
     )
+
+-- a part that is alone has no limit
+pub returns-clause-alone : goal.returns-clause-alone
+returns-clause-alone g c = λ one. elim c.handle_within-handled.ensures.all [
+  | inl e ↦ inl e
+  | inr h ↦ elim h [
+    | inl z ↦ inr z
+    | inr b ↦ absurd (elim c.match-limit.branch [
+      | in-Some w ↦ (let none = c.limit_of-limit.ensures.alone (ap (λ p. p.shards) c.requires.plan ∙ one) in
+          let bad : Some w.in-Some.limit ≡ None = sym w.in-Some.is ∙ none in cc)
+      | in-None w ↦ subst (λ o. IsHeldBack g.A.PathAlgebra.order o c.handle_within-handled.new.self) w.value-is b
+    ])
+  ]
+]

@@ -1,4 +1,4 @@
-use Rattle.std.proofs.Common.{arith, true, false, ◌≡◌, rules, refl, ◌∙◌, ◌<◌, length, below_more}
+use Rattle.std.proofs.Common.{arith, ◌≡◌, rules, refl, ◌∙◌, ◌<◌, length, below_more}
 use Rattle.std.proofs.lemmas.List.Elements.{All-set}
 use Rattle.worker_fleet.specs.Turns.{NextOn, IsOnItsFloor, IsNextOpen}
 use Rattle.worker_fleet.specs.declared.driving.Outcome.TheVariants.{Ended, Stalled, Gated}
@@ -12,7 +12,7 @@ next : (g : _) (c : In-Some g) → IsNextOpen c.loop-done.stations.items c.loop-
 next g c = rw c.deref.ensures.value at c.in-Some.ensures.some
 
 pub loop-done-init : goal.loop-done-init
-loop-done-init g c = record { place = omega arith; placed = c.requires; moved = MovedRound-none _ c.args.stations.now.items; asked = λ k low. absurd (omega arith) }
+loop-done-init g c = record { place = omega arith; placed = c.requires; moved = MovedRound-none _ c.args.stations.now.items; asked = λ k low. absurd (omega arith); looked = λ k low. absurd (omega arith) }
 
 pub turn_one-busy-requires-after_bounds : goal.turn_one-busy-requires-after_bounds
 turn_one-busy-requires-after_bounds g c κs within =
@@ -30,13 +30,14 @@ loop-done-preserved g c =
           c.loop-done.invariant.placed;
       moved = MovedRound-more (NextOn g.A.PathAlgebra.meaning c.args.floors.now c.args.budget) c.loop-done.done c.loop-done.at c.args.stations.now.items c.loop-done.stations.items c.in-Some.k
           c.index_mut.result.now c.turn_one-busy.new.placed following c.index_mut.ensures.value c.turn_one-busy.ensures c.loop-done.invariant.moved;
-      asked = below_more _ _ c.loop-done.invariant.asked c.if-not-before.ensures;
+      asked = below_more _ _ c.loop-done.invariant.asked c.if-not-before-2.ensures;
+      looked = below_more _ _ c.loop-done.invariant.looked c.if-not-before.ensures;
     }
 
-pub returns-then-not-before-clause-drives : goal.returns-then-not-before-clause-drives
-returns-then-not-before-clause-drives g c =
+pub returns-then-not-before-2-clause-drives : goal.returns-then-not-before-2-clause-drives
+returns-then-not-before-2-clause-drives g c =
     let m = c.loop-done.invariant.moved in
-    let at = (goal.at.returns-then-not-before-clause-drives g c).In-Some in
+    let at = (goal.at.returns-then-not-before-2-clause-drives g c).In-Some in
     record {
       counts = m.0;
       moved = m.1;
@@ -49,7 +50,7 @@ returns-then-not-before-clause-drives g c =
         λ all. absurd (open_not_ended c.loop-done.stations.items c.in-Some.k (next g at).inside (next g at).here all),
       );
       stalled = λ e. absurd (let x : Gated ≡ Stalled = e in cc);
-      gated = λ e. (search rules, c.if-not-before.ensures);
+      gated = λ e. (search rules, c.if-not-before-2.ensures);
     }
 
 pub returns-in-Some-next_open-clause-drives : goal.returns-in-Some-next_open-clause-drives
@@ -104,5 +105,10 @@ returns-in-None-clause-drives g c =
       gated = λ e. absurd (let x : Ended ≡ Gated = e in cc);
     }
 
-pub returns-then-are_called_off-clause-some : goal.returns-then-are_called_off-clause-some
-returns-then-are_called_off-clause-some g c = λ none e. let x : true ≡ false = c.if-are_called_off.ensures none in cc
+pub returns-then-not-before-clause-called_off : goal.returns-then-not-before-clause-called_off
+returns-then-not-before-clause-called_off g c = record {
+  turns = c.loop-done.done;
+  within = search rules;
+  asked = c.loop-done.invariant.looked;
+  closed = c.if-not-before.ensures;
+}

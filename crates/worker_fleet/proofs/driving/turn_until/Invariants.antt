@@ -11,4 +11,5 @@ invariant-loop-done g l = record {
   placed : All (IsOnItsFloor l.floors) l.stations.items;
   moved : MovedRound (NextOn g.A.PathAlgebra.meaning l.floors l.budget) l.done l.at l.fn.stations.items l.stations.items;
   asked : LetsTurn (g.G.Gate.may_answer l.gate) l.worker l.done;
+  looked : LetsTurn (g.C.Gate.may_answer l.call_off) l.worker l.done;
 }

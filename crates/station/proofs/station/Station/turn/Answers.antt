@@ -36,7 +36,7 @@ returns-clause-turned g c =
     c.read_all-taken.new.seat c.fill_all-published.new.seat c.look_for_end-self-inside.new.seat c.read_all-taken.new.part c.handle_all-handled.new.part
     c.fill_all-published.new.part c.look_for_end-self-inside.result c.if-self.false
     c.read_all-taken.ensures.part h.setup h.shard h.taken h.events h.budget h.all.1 (as_far_in c.handle_all-handled.result.0 c.args.budget c.handle_all-handled.result.1 h.all.0 c.handle_all-handled.new.part g.A.PathAlgebra.order
-    (g.A.PathAlgebra.meaning i.part.setup.diffusion.algebra).no_worse (sym (laws.one_order i.part.setup.diffusion.algebra)) h.all.2) e.announced e.ready c.read_all-taken.ensures.own c.read_all-taken.ensures.tried c.fill_all-published.ensures.tried e.looked)
+    (g.A.PathAlgebra.meaning i.part.setup.diffusion.algebra).no_worse (sym (laws.one_order i.part.setup.diffusion.algebra)) h.all.2) h.alone e.announced e.ready c.read_all-taken.ensures.own c.read_all-taken.ensures.tried c.fill_all-published.ensures.tried e.looked)
 
 pub invariant_of-self : goal.invariant_of-self
 invariant_of-self g c = let e = c.look_for_end-self-inside.ensures in (

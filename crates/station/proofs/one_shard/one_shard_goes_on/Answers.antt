@@ -1,0 +1,20 @@
+use Rattle.std.proofs.Common.{◌*◌, ◌≤◌, sym, subst, arith}
+use Rattle.scholten_core.specs.Diffusion.{opening, count_enabled}
+use Rattle.scholten_core.specs.SimpleWalks.{message_bound}
+use Rattle.shard_store.specs.Setup.{network_of}
+use Rattle.station.proofs.OneShard.{opened_has_all, went_on}
+use Rattle.station.proofs.one_shard.one_shard_goes_on.Goals as goal
+
+pub returns-clause-opened : goal.returns-clause-opened
+returns-clause-opened g c = λ t id one.
+    opened_has_all g.A.PathAlgebra.meaning t one id
+
+pub returns-clause-turns : goal.returns-clause-turns
+returns-clause-turns g c = λ f budget events before after r one all going turned.
+    went_on g.A.PathAlgebra.meaning f one budget events before r after c.items_are_shown.ensures c.an_item_waits_until_the_end.ensures all going turned
+
+pub returns-clause-few : goal.returns-clause-few
+returns-clause-few g c = λ t events s is one all.
+    let most = subst (λ a. count_enabled (g.A.PathAlgebra.meaning a) (network_of t) (opening (g.A.PathAlgebra.meaning a) (network_of t)) events ≤ 2 * message_bound t.diffusion.roads t.diffusion.source) (sym is)
+    (c.every_run_is_finite.ensures.events t.diffusion.roads t.diffusion.source one.planned.roads one.planned.source events) in
+    let e = all.enabled in omega (arith, most, e)

@@ -13,5 +13,6 @@ mod NextDiffusions
 mod Moved
 mod Reporting
 mod WrittenReports
+mod Telling
 mod Flushing
 mod FileFaults

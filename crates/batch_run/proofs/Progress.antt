@@ -19,7 +19,7 @@ use Rattle.batch_run.specs.declared.faults.Cause.TheVariants as causes
 use Rattle.worker_fleet.specs.declared.group.GroupFault.{GroupFault}
 use Rattle.worker_fleet.specs.declared.group.GroupFault.TheVariants as group
 use Rattle.batch_run.specs.Answered.{AnsweredAll, WroteAnswers, WroteNext, begun_text, WroteFirst, WroteWhole}
-use Rattle.batch_run.specs.Causes.{MayStop, cause_of}
+use Rattle.batch_run.specs.Causes.{MayStop}
 use Rattle.batch_run.proofs.CauseCases.{write_or_other}
 
 -- the first i questions were answered, and the answers written
@@ -128,12 +128,12 @@ module _ {V : Type 0} (A : Algebra V) (g : GraphData) (asked : Asked) where
     }
 
     -- want of memory stopped it before the first question
-    pub stopped_for_memory : (cause : Cause) → cause ≡ causes.Memory → MayStop cause → Progress A g asked 0 old new → AnsweredAll A g asked MayStop old new (Err cause)
+    pub stopped_for_memory : (cause : Cause) → cause ≡ causes.Unsolved group.Memory → MayStop cause → Progress A g asked 0 old new → AnsweredAll A g asked MayStop old new (Err cause)
     stopped_for_memory cause memory kind p = record {
       text = stop 0 old new p;
       sound = tt;
       kind = kind;
-      failed = λ write. let bad : causes.Memory ≡ causes.Write = sym memory ∙ write in cc;
+      failed = λ write. let bad : causes.Unsolved group.Memory ≡ causes.Write = sym memory ∙ write in cc;
       unfailed = λ _. p.left.sound;
       whole = λ _. stop_whole 0 old new p;
     }
@@ -163,22 +163,17 @@ module _ {V : Type 0} (A : Algebra V) (g : GraphData) (asked : Asked) where
   all_answered MayStop i old new le p = record { text = whole_text i old new le p; sound = p.left.sound; kind = tt; failed = tt; unfailed = tt; whole = tt }
 
 -- a question is not solved: memory or a thread was refused; or, if workers answer, one of them stopped
-pub group_may_stop : (stops : GroupFault → Type 0) (plain : Bool) (f : GroupFault) → (plain ≡ true → f ≡ group.Memory) → stops f → MayStop plain stops (cause_of f)
-group_may_stop stops plain group.Memory only stop = tt
-group_may_stop stops false group.Stalled only stop = (refl, stop)
-group_may_stop stops true group.Stalled only stop = let bad : group.Stalled ≡ group.Memory = only refl in absurd cc
-group_may_stop stops false group.Gated only stop = (refl, stop)
-group_may_stop stops true group.Gated only stop = let bad : group.Gated ≡ group.Memory = only refl in absurd cc
+pub group_may_stop : (stops : GroupFault → Type 0) (plain : Bool) (f : GroupFault) → (plain ≡ true → f ≡ group.Memory) → stops f → MayStop plain stops (causes.Unsolved f)
+group_may_stop stops true f only stop = λ other. absurd (other (only refl))
+group_may_stop stops false f only stop = λ other. (refl, stop)
 
 -- that is no failed write
-no_write : (f : GroupFault) → cause_of f ≢ causes.Write
-no_write group.Memory e = let bad : causes.Memory ≡ causes.Write = e in cc
-no_write group.Stalled e = let bad : causes.Stalled ≡ causes.Write = e in cc
-no_write group.Gated e = let bad : causes.Gated ≡ causes.Write = e in cc
+no_write : (f : GroupFault) → causes.Unsolved f ≢ causes.Write
+no_write f e = let bad : causes.Unsolved f ≡ causes.Write = e in cc
 
 module _ {V : Type 0} (A : Algebra V) (g : GraphData) (q : Question) {X : Type 0} (old : Output X) where
   -- then nothing of its answer was written
-  pub not_solved : (f : GroupFault) → WroteNext A g q old old (Err (cause_of f))
+  pub not_solved : (f : GroupFault) → WroteNext A g q old old (Err (causes.Unsolved f))
   not_solved f = (λ write. absurd (no_write f write), λ _. refl)
 
   -- its answer was not written whole

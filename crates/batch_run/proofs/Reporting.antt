@@ -1,6 +1,6 @@
 -- What was reported so far, and one report more.
-use Rattle.std.proofs.Common.{◌≡◌, ℕ, zero, suc, ◌+◌, ◌<◌, ◌≤◌, Bool, true, List, [], ◌∷◌, ◌++◌, length, map, take, get_or, Option, Result, Ok, Err, refl, sym, ap, ◌∙◌, subst, append_assoc, append-nil, arith}
-use Rattle.std.specs.Prelude.{IfErr}
+use Rattle.std.proofs.Common.{◌≡◌, ℕ, zero, suc, ◌+◌, ◌<◌, ◌≤◌, Bool, true, List, [], ◌∷◌, ◌++◌, length, map, take, get_or, Option, None, Some, Result, Ok, Err, refl, sym, ap, ◌∙◌, subst, append_assoc, append-nil, arith}
+use Rattle.std.specs.Prelude.{IfErr, IfNone, IfSome}
 use Rattle.std.specs.List.{AllZip, flat_map}
 use Rattle.std.proofs.lemmas.List.{take_all, take_more, map-append}
 use Rattle.std.proofs.lemmas.List.Concat.{flat_map-cons}
@@ -19,9 +19,10 @@ use Rattle.batch_run.specs.declared.faults.Cause.{Cause}
 use Rattle.batch_run.specs.declared.settings.Settings.{Settings}
 use Rattle.batch_run.specs.declared.watcher.Report.{Report}
 use Rattle.batch_run.specs.declared.watcher.Report.TheVariants as report
+use Rattle.question_solvers.specs.declared.factor_solver.Factoring.{Factoring}
 use Rattle.batch_run.specs.Cut.{IsCut, order_of}
 use Rattle.batch_run.specs.Diffusions.{IsEnded}
-use Rattle.batch_run.specs.Reports.{IsAccount, Due, Beginning, Account, Progress, IsReportOf, FollowsReports, Reported, ReportedAllOrPrefix, ReportedPrefix, ReportedWritten, Watched, accounts_due, question_due, questions_due, batch_due, count_diffusions, diffused}
+use Rattle.batch_run.specs.Reports.{IsAccount, Due, Beginning, Attempt, Account, Progress, IsReportOf, IsTold, FollowsReports, Reported, ReportedAllOrPrefix, ReportedPrefix, ReportedWhole, ReportedWritten, Watched, accounts_due, question_due, questions_due, start_due, batch_due, count_diffusions, diffused}
 use Rattle.batch_run.specs.Choice.{without_diffusions}
 use Rattle.batch_run.specs.Causes.{fault_of}
 use Rattle.batch_run.proofs.CauseCases.{no_setting}
@@ -136,8 +137,8 @@ module _ {V S : Type 0} (A : Algebra V) (how : Settings) (g : GraphData) (may_be
   sources_ended i old new le h = subst (λ (l : List ℕ). Reported A how g may_become (map (Account k) l) old new) (take_all i xs le) h
 
 -- due of a batch until so many questions are answered
-abbrev pub due_first : Bool → List Question → ℕ → List Due
-due_first plain qs i = Beginning (length qs) (count_diffusions plain qs) ∷ questions_due plain 0 (take i qs)
+abbrev pub due_first : Bool → Option Factoring → List Question → ℕ → List Due
+due_first plain became qs i = start_due plain became qs ++ questions_due plain 0 (take i qs)
 
 -- of one question more
 due_push : (plain : Bool) (n : ℕ) (qs : List Question) (i k : ℕ) (d : Question) → i < length qs → k ≡ n + i + 1 →
@@ -160,47 +161,65 @@ due_from plain n (q ∷ qs) (suc i) =
     let after = due_from plain (n + 1) qs i in
     (after.0, ap (λ (x : List Due). head ++ x) after.1 ∙ sym (append_assoc head (questions_due plain (n + 1) (take i qs)) after.0))
 
-module _ (plain : Bool) (qs : List Question) (i : ℕ) where
-  -- what is due until so many questions are answered is a prefix of all
-  pub first_follows : (rest : List Due) × (batch_due plain qs ≡ due_first plain qs i ++ rest)
-  first_follows = let after = due_from plain 0 qs i in (after.0, ap (λ (x : List Due). Beginning (length qs) (count_diffusions plain qs) ∷ x) after.1)
+-- what is due until so many questions are answered is a prefix of all
+pub first_follows : (plain : Bool) (became : Option Factoring) (qs : List Question) (i : ℕ) → (rest : List Due) × (batch_due plain became qs ≡ due_first plain became qs i ++ rest)
+first_follows plain became qs i =
+    let head = start_due plain became qs in
+    let after = due_from plain 0 qs i in
+    (after.0, ap (λ (x : List Due). head ++ x) after.1 ∙ sym (append_assoc head (questions_due plain 0 (take i qs)) after.0))
 
-  module _ (k : ℕ) (q : Question) (low : i < length qs) (number : k ≡ i + 1) where
-    pub next_due : due_first plain qs (i + 1) ≡ due_first plain qs i ++ question_due plain k (get_or qs i q)
-    next_due =
-        let same : i + 1 ≡ suc i = omega arith in
-        ap (due_first plain qs) same ∙ ap (λ (x : List Due). Beginning (length qs) (count_diffusions plain qs) ∷ x) (due_push plain 0 qs i k q low (omega (arith, number)))
+-- and so is what is due before the first question
+pub start_follows : (plain : Bool) (became : Option Factoring) (qs : List Question) → (rest : List Due) × (batch_due plain became qs ≡ Beginning (length qs) (count_diffusions plain qs) ∷ rest)
+start_follows plain None qs = (questions_due plain 0 qs, refl)
+start_follows plain (Some f) qs = (Attempt f ∷ questions_due plain 0 qs, refl)
 
-    -- and so it is with some accounts of the next question
-    pub accounts_follow : (ds es : List Due) → accounts_due plain k (get_or qs i q) ≡ ds ++ es → (rest : List Due) × (batch_due plain qs ≡ (due_first plain qs i ++ ds) ++ rest)
-    accounts_follow ds es e =
-        let first = due_first plain qs i in
-        let after = due_from plain 0 qs (i + 1) in
-        let last = Progress k ∷ [] in
-        let all : batch_due plain qs ≡ (first ++ question_due plain k (get_or qs i q)) ++ after.0 =
-        ap (λ (x : List Due). Beginning (length qs) (count_diffusions plain qs) ∷ x) after.1 ∙ ap (λ (x : List Due). x ++ after.0) next_due in (
-          es ++ (last ++ after.0),
-          all ∙ ap (λ (x : List Due). (first ++ (x ++ last)) ++ after.0) e ∙ ap (λ (x : List Due). (first ++ x) ++ after.0) (append_assoc ds es last)
-              ∙ append_assoc first (ds ++ (es ++ last)) after.0 ∙ ap (λ (x : List Due). first ++ x) (append_assoc ds (es ++ last) after.0)
-              ∙ ap (λ (x : List Due). first ++ (ds ++ x)) (append_assoc es last after.0) ∙ sym (append_assoc first ds (es ++ (last ++ after.0))),
-        )
+module _ (plain : Bool) (became : Option Factoring) (qs : List Question) (i k : ℕ) (q : Question) (low : i < length qs) (number : k ≡ i + 1) where
+  pub next_due : due_first plain became qs (i + 1) ≡ due_first plain became qs i ++ question_due plain k (get_or qs i q)
+  next_due =
+      let head = start_due plain became qs in
+      let same : i + 1 ≡ suc i = omega arith in
+      ap (due_first plain became qs) same ∙ ap (λ (x : List Due). head ++ x) (due_push plain 0 qs i k q low (omega (arith, number)))
+      ∙ sym (append_assoc head (questions_due plain 0 (take i qs)) (question_due plain k (get_or qs i q)))
+
+  -- and so it is with some accounts of the next question
+  pub accounts_follow : (ds es : List Due) → accounts_due plain k (get_or qs i q) ≡ ds ++ es → (rest : List Due) × (batch_due plain became qs ≡ (due_first plain became qs i ++ ds) ++ rest)
+  accounts_follow ds es e =
+      let first = due_first plain became qs i in
+      let after = first_follows plain became qs (i + 1) in
+      let last = Progress k ∷ [] in (
+        es ++ (last ++ after.0),
+        after.1 ∙ ap (λ (x : List Due). x ++ after.0) next_due
+            ∙ ap (λ (x : List Due). (first ++ (x ++ last)) ++ after.0) e ∙ ap (λ (x : List Due). (first ++ x) ++ after.0) (append_assoc ds es last)
+            ∙ append_assoc first (ds ++ (es ++ last)) after.0 ∙ ap (λ (x : List Due). first ++ x) (append_assoc ds (es ++ last) after.0)
+            ∙ ap (λ (x : List Due). first ++ (ds ++ x)) (append_assoc es last after.0) ∙ sym (append_assoc first ds (es ++ (last ++ after.0))),
+      )
 
 module _ {V S : Type 0} (A : Algebra V) (how : Settings) (g : GraphData) (may_become : S → Report → S → Type 0) (plain : Bool) (qs : List Question) where
   -- the batch begins
-  pub begun : (n d : ℕ) (old new : S) → n ≡ length qs → d ≡ count_diffusions plain qs → may_become old (report.Begun n d) new → Reported A how g may_become (due_first plain qs 0) old new
+  pub begun : (n d : ℕ) (old new : S) → n ≡ length qs → d ≡ count_diffusions plain qs → may_become old (report.Begun n d) new →
+      Reported A how g may_become (Beginning (length qs) (count_diffusions plain qs) ∷ []) old new
   begun n d old new count diffusions become =
       one A how g may_become (Beginning (length qs) (count_diffusions plain qs)) (report.Begun n d) old new
       (ap (λ (m : ℕ). report.Begun m d) count ∙ ap (λ (m : ℕ). report.Begun (length qs) m) diffusions) become
 
-  -- all questions are answered
-  pub ended : (i : ℕ) (old new : S) → length qs ≤ i → Reported A how g may_become (due_first plain qs i) old new → Reported A how g may_become (batch_due plain qs) old new
-  ended i old new le h = subst (λ (x : List Question). Reported A how g may_become (Beginning (length qs) (count_diffusions plain qs) ∷ questions_due plain 0 x) old new) (take_all i qs le) h
+  -- and what became of factoring the graph is told
+  pub started : (became : Option Factoring) (old mid new : S) → Reported A how g may_become (Beginning (length qs) (count_diffusions plain qs) ∷ []) old mid →
+      IfSome became (λ f. may_become mid (report.Factored f) new) → IfNone became (new ≡ mid) → Reported A how g may_become (due_first plain became qs 0) old new
+  started None old mid new first told untold = subst (Reported A how g may_become (due_first plain None qs 0) old) (sym untold) first
+  started (Some f) old mid new first told untold =
+      more A how g may_become (Beginning (length qs) (count_diffusions plain qs) ∷ []) (Attempt f ∷ []) old mid new first (one A how g may_become (Attempt f) (report.Factored f) mid new refl told)
 
-  module _ (i k : ℕ) (q : Question) (low : i < length qs) (number : k ≡ i + 1) (old mid : S) (first : Reported A how g may_become (due_first plain qs i) old mid) where
+  module _ (became : Option Factoring) where
+    -- all questions are answered
+    pub ended : (i : ℕ) (old new : S) → length qs ≤ i → Reported A how g may_become (due_first plain became qs i) old new → Reported A how g may_become (batch_due plain became qs) old new
+    ended i old new le h = subst (λ (x : List Question). Reported A how g may_become (start_due plain became qs ++ questions_due plain 0 x) old new) (take_all i qs le) h
+
     -- one question more is answered
-    pub answered : (new : S) → Reported A how g may_become (question_due plain k (get_or qs i q)) mid new → Reported A how g may_become (due_first plain qs (i + 1)) old new
-    answered new one =
-        subst (λ (x : List Due). Reported A how g may_become x old new) (sym (next_due plain qs i k q low number)) (more A how g may_become (due_first plain qs i) (question_due plain k (get_or qs i q)) old mid new first one)
+    pub answered : (i k : ℕ) (q : Question) → i < length qs → k ≡ i + 1 → (old mid new : S) → Reported A how g may_become (due_first plain became qs i) old mid →
+        Reported A how g may_become (question_due plain k (get_or qs i q)) mid new → Reported A how g may_become (due_first plain became qs (i + 1)) old new
+    answered i k q low number old mid new first one =
+        subst (λ (x : List Due). Reported A how g may_become x old new) (sym (next_due plain became qs i k q low number))
+        (more A how g may_become (due_first plain became qs i) (question_due plain k (get_or qs i q)) old mid new first one)
 
 -- a question is answered
 module _ {V S : Type 0} (A : Algebra V) (how : Settings) (g : GraphData) (may_become : S → Report → S → Type 0) (plain : Bool) (k : ℕ) (q : Question) where
@@ -219,10 +238,10 @@ none_counted qs = sym (ap (λ (l : List ℕ). length l) (none_diffused qs))
 -- what a run reports of inputs that were read, from what answering them reports
 module _ {V S W : Type 0} (A : Algebra V) (how : Settings) (IsRead : GraphData → Asked → Type 0) (may_become : S → Report → S → Type 0) (old new : S) (out out_after : Output W) (g : GraphData)
     (asked : Asked) (read : IsRead g asked) where
-  pub watched_all : Reported A how g may_become (batch_due (without_diffusions how) asked.questions) old new → Watched A how IsRead may_become old new out out_after (Ok tt)
+  pub watched_all : ReportedWhole A how g (without_diffusions how) (IsTold how.factors) asked.questions may_become old new → Watched A how IsRead may_become old new out out_after (Ok tt)
   watched_all reported = record { all = record { graph = g; asked = asked; read = read; reported = reported }; first = tt; nothing = tt; untouched = tt }
 
-  pub watched_first : (cause : Cause) → ReportedWritten A how g asked (without_diffusions how) may_become old new out out_after → Watched A how IsRead may_become old new out out_after (Err (fault_of cause))
+  pub watched_first : (cause : Cause) → ReportedWritten A how g asked (without_diffusions how) (IsTold how.factors) may_become old new out out_after → Watched A how IsRead may_become old new out out_after (Err (fault_of cause))
   watched_first cause reported = record {
     all = tt;
     first = λ file other. record { graph = g; asked = asked; read = read; reported = reported };

@@ -1,33 +1,25 @@
 -- Why a batch stops after its input was read, and how that is reported.
-use Rattle.std.specs.Prelude.{◌≡◌, ℕ, Bool, false}
+use Rattle.std.specs.Prelude.{◌≡◌, ◌≢◌, ℕ, Bool, false}
 use Rattle.worker_fleet.specs.declared.group.GroupFault.{GroupFault}
-use Rattle.worker_fleet.specs.declared.group.GroupFault.TheVariants as group
+use Rattle.worker_fleet.specs.declared.group.GroupFault.TheVariants.{Memory, Stalled, Gated}
 use Rattle.batch_run.specs.declared.faults.Cause.{Cause}
-use Rattle.batch_run.specs.declared.faults.Cause.TheVariants.{Memory, Stalled, Gated, Write}
+use Rattle.batch_run.specs.declared.faults.Cause.TheVariants.{Unsolved, Write}
 use Rattle.batch_run.specs.declared.faults.File.TheVariants.{NoFile}
 use Rattle.batch_run.specs.declared.faults.RunFault.{RunFault}
 
 -- the number that reports it
 abbrev pub number_of : Cause → ℕ
-number_of Memory = 3
-number_of Stalled = 40
-number_of Gated = 41
+number_of (Unsolved Memory) = 3
+number_of (Unsolved Stalled) = 40
+number_of (Unsolved Gated) = 41
 number_of Write = 42
 
 -- the fault that reports it, in no input and no line
 abbrev pub fault_of : Cause → RunFault
 fault_of cause = record { number = number_of cause; file = NoFile; line = 0 }
 
--- why a group of diffusions is not run to its end
-abbrev pub cause_of : GroupFault → Cause
-cause_of group.Memory = Memory
-cause_of group.Stalled = Stalled
-cause_of group.Gated = Gated
-
 -- a batch may stop for this: memory or a thread, or a write; and if stations answer, a limit of turns or a gate that stopped a group of diffusions, of which `stops`
 -- says what holds
 abbrev pub MayStop : (plain : Bool) → (stops : GroupFault → Type 0) → Cause → Type 0
-MayStop plain stops Memory = Unit {0}
-MayStop plain stops Stalled = (plain ≡ false) × stops group.Stalled
-MayStop plain stops Gated = (plain ≡ false) × stops group.Gated
+MayStop plain stops (Unsolved fault) = fault ≢ Memory → (plain ≡ false) × stops fault
 MayStop plain stops Write = Unit {0}

@@ -1,7 +1,7 @@
 -- What a batch reports while it runs. Of two questions, from 1 and from 4 and 5, by diffusions: it begins (2 questions, 3 diffusions), question 1 from 1 was
 -- gathered, 1 is answered, question 2 from 4 was gathered, question 2 from 5 was, 2 are answered. With the plain solver: it begins (2 questions, 0 diffusions),
--- 1 is answered, 2 are.
-use Rattle.std.specs.Prelude.{◌≡◌, ◌≢◌, ℕ, ◌+◌, Bool, true, false, List, [], ◌∷◌, ◌++◌, length, map, Option, Result, Ok, Err, OnOk, IfErr}
+-- 1 is answered, 2 are. With factors: it begins (2 questions, 0 diffusions), the graph is factored, 1 is answered, 2 are.
+use Rattle.std.specs.Prelude.{◌≡◌, ◌≢◌, ℕ, ◌+◌, Bool, true, false, List, [], ◌∷◌, ◌++◌, length, map, Option, None, Some, IsSome, Result, Ok, Err, OnOk, IfErr}
 use Rattle.std.specs.List.{AllByRecursion, AllZip, flat_map}
 use Rattle.road_text.specs.Streams.{Output}
 use Rattle.road_graph.specs.GraphData.{GraphData}
@@ -10,6 +10,7 @@ use Rattle.path_algebra.specs.Algebra.{Algebra}
 use Rattle.shard_store.specs.declared.tally.Tally.{Tally}
 use Rattle.shard_store.specs.Plans.{PlanData}
 use Rattle.station.specs.Gather.{IsGathered}
+use Rattle.question_solvers.specs.declared.factor_solver.Factoring.{Factoring}
 use Rattle.batch_run.specs.declared.faults.File.TheVariants.{NoFile}
 use Rattle.batch_run.specs.declared.faults.RunFault.{RunFault}
 use Rattle.batch_run.specs.declared.settings.Settings.{Settings}
@@ -17,7 +18,7 @@ use Rattle.batch_run.specs.Answered.{WroteAtLeast}
 use Rattle.batch_run.specs.Choice.{without_diffusions}
 use Rattle.batch_run.specs.Cut.{IsCut, order_of}
 use Rattle.batch_run.specs.declared.watcher.Report.{Report}
-use Rattle.batch_run.specs.declared.watcher.Report.TheVariants.{Begun, Gathered, Answered}
+use Rattle.batch_run.specs.declared.watcher.Report.TheVariants.{Begun, Factored, Gathered, Answered}
 use Rattle.station.specs.Opened.{setup_of}
 
 -- The counts of a diffusion over a graph from a source are those that `gather` reports with some labels, in the shards and the order that the settings choose: some events, counted in full, lead from
@@ -29,16 +30,18 @@ pub record IsAccount {V : Type 0} (A : Algebra V) (how : Settings) (g : GraphDat
   pub labels : List (Option V)
   pub gathered : IsGathered (λ (B : Algebra V). B) (setup_of A g source plan (order_of how)) (record { labels = labels; tally = tally })
 
--- what is due to be reported: that the batch begins, with so many questions and diffusions; that a question's diffusion from a source was gathered; or that so
--- many questions are answered
+-- what is due to be reported: that the batch begins, with so many questions and diffusions; what became of factoring its graph; that a question's diffusion from
+-- a source was gathered; or that so many questions are answered
 pub data Due : Type 0 where
   Beginning : (questions diffusions : ℕ) → Due
+  Attempt : (became : Factoring) → Due
   Account : (question source : ℕ) → Due
   Progress : (questions : ℕ) → Due
 
 -- the report is the one that is due; one of a diffusion that was gathered has its counts
 abbrev pub IsReportOf : {V : Type 0} → Algebra V → Settings → GraphData → Due → Report → Type 0
 IsReportOf A how g (Beginning n d) r = r ≡ Begun n d
+IsReportOf A how g (Attempt became) r = r ≡ Factored became
 IsReportOf A how g (Account k s) r = (tally : Tally) × IsAccount A how g s tally × (r ≡ Gathered k s tally)
 IsReportOf A how g (Progress n) r = r ≡ Answered n
 
@@ -64,9 +67,19 @@ abbrev pub questions_due : Bool → ℕ → List Question → List Due
 questions_due plain n [] = []
 questions_due plain n (q ∷ qs) = accounts_due plain (n + 1) q ++ Progress (n + 1) ∷ [] ++ questions_due plain (n + 1) qs
 
--- due of a batch: that it begins, and then what is due of each question
-abbrev pub batch_due : Bool → List Question → List Due
-batch_due plain qs = Beginning (length qs) (count_diffusions plain qs) ∷ questions_due plain 0 qs
+-- due before the first question: that the batch begins, and what became of factoring its graph, if factors are to answer
+abbrev pub start_due : Bool → Option Factoring → List Question → List Due
+start_due plain None qs = Beginning (length qs) (count_diffusions plain qs) ∷ []
+start_due plain (Some became) qs = Beginning (length qs) (count_diffusions plain qs) ∷ Attempt became ∷ []
+
+-- due of a batch: that, and then what is due of each question
+abbrev pub batch_due : Bool → Option Factoring → List Question → List Due
+batch_due plain became qs = start_due plain became qs ++ questions_due plain 0 qs
+
+-- what is told of factoring the graph: if the settings choose factors, what became of it; else nothing
+abbrev pub IsTold : (factors : Bool) → Option Factoring → Type 0
+IsTold true became = IsSome became
+IsTold false became = became ≡ None
 
 -- given these reports, one after the other, a watcher went from the one state to the other
 abbrev pub FollowsReports : {S : Type 0} → (S → Report → S → Type 0) → S → List Report → S → Type 0
@@ -91,22 +104,31 @@ abbrev pub ReportedAllOrPrefix : {V S T E : Type 0} (A : Algebra V) (how : Setti
 ReportedAllOrPrefix A how g may_become due old new (Ok _) = Reported A how g may_become due old new
 ReportedAllOrPrefix A how g may_become due old new (Err _) = ReportedPrefix A how g may_become due old new
 
--- all that is due of what was read was reported
+-- all that is due of questions was reported, and of factoring what may be told
+pub record ReportedWhole {V S : Type 0} (A : Algebra V) (how : Settings) (g : GraphData) (plain : Bool) (Told : Option Factoring → Type 0) (qs : List Question) (may_become : S → Report → S → Type 0) (old new : S) : Type 0 where
+  pub became : Option Factoring
+  pub told : Told became
+  pub reported : Reported A how g may_become (batch_due plain became qs) old new
+
+-- so it was with what was read
 pub record ReportedAll {V S : Type 0} (A : Algebra V) (how : Settings) (plain : Bool) (IsRead : GraphData → Asked → Type 0) (may_become : S → Report → S → Type 0) (old new : S) : Type 0 where
   pub graph : GraphData
   pub asked : Asked
   pub read : IsRead graph asked
-  pub reported : Reported A how graph may_become (batch_due plain asked.questions) old new
+  pub reported : ReportedWhole A how graph plain (IsTold how.factors) asked.questions may_become old new
 
 -- what a report says was written, before: that a batch begins, the header; that so many questions are answered, their answers too, each whole
 abbrev pub IsWritten : {V W : Type 0} → Algebra V → GraphData → Asked → Output W → Output W → Due → Type 0
 IsWritten A g asked out out_after (Beginning n d) = WroteAtLeast A g asked 0 out out_after
+IsWritten A g asked out out_after (Attempt became) = Unit {0}
 IsWritten A g asked out out_after (Account k s) = Unit {0}
 IsWritten A g asked out out_after (Progress n) = WroteAtLeast A g asked n out out_after
 
--- a prefix of what is due of a batch was reported, and what it says was written
-pub record ReportedWritten {V S W : Type 0} (A : Algebra V) (how : Settings) (g : GraphData) (asked : Asked) (plain : Bool) (may_become : S → Report → S → Type 0) (old new : S) (out out_after : Output W) : Type 0 where
-  pub reported : ReportedPrefix A how g may_become (batch_due plain asked.questions) old new
+-- a prefix of what is due of a batch was reported, of factoring what may be told, and what it says was written
+pub record ReportedWritten {V S W : Type 0} (A : Algebra V) (how : Settings) (g : GraphData) (asked : Asked) (plain : Bool) (Told : Option Factoring → Type 0) (may_become : S → Report → S → Type 0) (old new : S) (out out_after : Output W) : Type 0 where
+  pub became : Option Factoring
+  pub told : Told became
+  pub reported : ReportedPrefix A how g may_become (batch_due plain became asked.questions) old new
   pub written : AllByRecursion (IsWritten A g asked out out_after) reported.prefix
 
 -- so it was with a prefix of what is due of what was read
@@ -114,7 +136,7 @@ pub record ReportedFirst {V S W : Type 0} (A : Algebra V) (how : Settings) (plai
   pub graph : GraphData
   pub asked : Asked
   pub read : IsRead graph asked
-  pub reported : ReportedWritten A how graph asked plain may_become old new out out_after
+  pub reported : ReportedWritten A how graph asked plain (IsTold how.factors) may_become old new out out_after
 
 -- what a batch over what was read reported to a watcher, which went from the one state to the other, while the output took bytes
 pub record Watched {V S W : Type 0} (A : Algebra V) (how : Settings) (IsRead : GraphData → Asked → Type 0) (may_become : S → Report → S → Type 0) (old new : S) (out out_after : Output W) (outcome : Result (Unit {0}) RunFault) : Type 0 where

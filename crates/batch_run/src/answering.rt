@@ -1,11 +1,11 @@
 //! Answers all questions of a batch.
-ghost use Rattle.std.specs.Prelude.{◌≡◌, ◌+◌, ◌<◌, length, slice_index_or, IfErr, OnErr, OnOk};
+ghost use Rattle.std.specs.Prelude.{◌≡◌, ◌+◌, ◌<◌, length, slice_index_or, IfErr, IfNone, IfSome, OnErr, OnOk};
 ghost use Rattle.road_files.specs.Asked.{AreQuestionsOf, Question, asked_of};
 ghost use Rattle.batch_run.specs.Answered.{AnsweredAll, WroteNext};
 ghost use Rattle.batch_run.specs.Causes.{MayStop};
-ghost use Rattle.batch_run.specs.Reports.{Reported, ReportedPrefix, ReportedWritten, accounts_due, batch_due, question_due};
+ghost use Rattle.batch_run.specs.Reports.{Reported, ReportedPrefix, ReportedWhole, ReportedWritten, accounts_due, question_due};
 ghost use Rattle.batch_run.specs.Stopping.{Stops};
-ghost use Rattle.batch_run.specs.Solvers.{IsReady, IsSameSolver, graph_of, is_plain};
+ghost use Rattle.batch_run.specs.Solvers.{IsReady, IsSameSolver, MayTell, graph_of, is_plain};
 
 use crate::batch::Batch;
 use crate::begin::begin;
@@ -14,6 +14,7 @@ use crate::solve::{Solver, solve_next, start};
 use crate::watcher::{Report, Watcher};
 use crate::write::answer_at;
 use path_algebra::PathAlgebra;
+use question_solvers::Factoring;
 use road_text::RoadWrite;
 use std::sync::Wait;
 use std::thread::Threads;
@@ -29,8 +30,8 @@ fn answer_next<A: PathAlgebra, W: RoadWrite, R: Threads + Wait + Sync, T: Gate, 
 ) -> Result<(), Cause>
     requires place { i < length (asked_of batch.now.questions.now).questions }
     requires within { AreQuestionsOf (graph_of solver.old).vertices batch.now.questions.now }
-    requires ready { IsReady A.meaning batch.now.algebra batch.now.run.now.settings.now (asked_of batch.now.questions.now) i
-        solver.old }
+    requires ready { IsReady A.meaning batch.now.algebra batch.now.run.now.settings.now
+        (asked_of batch.now.questions.now) i solver.old }
     ensures same { IsSameSolver solver.old solver.new }
     ensures ready { OnOk result (IsReady A.meaning batch.now.algebra batch.now.run.now.settings.now
         (asked_of batch.now.questions.now) (i + 1) solver.new) }
@@ -41,12 +42,13 @@ fn answer_next<A: PathAlgebra, W: RoadWrite, R: Threads + Wait + Sync, T: Gate, 
         (graph_of solver.old) batch.now.run.now.settings.now
         (T.may_answer batch.now.run.now.gate.now))) }
     ensures reported { OnOk result ((default : Question) → Reported (A.meaning batch.now.algebra)
-        batch.now.run.now.settings.now (graph_of solver.old) O.may_become (question_due (is_plain solver.old) (i + 1)
+        batch.now.run.now.settings.now (graph_of solver.old) O.may_become
+        (question_due (is_plain solver.old) (i + 1)
         (slice_index_or (asked_of batch.now.questions.now).questions i default)) watcher.old
         watcher.new) }
     ensures unreported { OnErr result ((default : Question) →
-        ReportedPrefix (A.meaning batch.now.algebra) batch.now.run.now.settings.now (graph_of solver.old) O.may_become
-        (accounts_due (is_plain solver.old) (i + 1)
+        ReportedPrefix (A.meaning batch.now.algebra) batch.now.run.now.settings.now
+        (graph_of solver.old) O.may_become (accounts_due (is_plain solver.old) (i + 1)
         (slice_index_or (asked_of batch.now.questions.now).questions i default)) watcher.old
         watcher.new) }
 {
@@ -55,6 +57,16 @@ fn answer_next<A: PathAlgebra, W: RoadWrite, R: Threads + Wait + Sync, T: Gate, 
     let questions = (i + 1) as u32;
     watcher.report(Report::Answered { questions });
     Ok(())
+}
+
+/// Reports what became of factoring the graph, if factors are to answer.
+fn report_factoring<O: Watcher>(became: Option<Factoring>, watcher: &mut O)
+    ensures some { IfSome became (λ f. O.may_become watcher.old (Report.Factored f) watcher.new) }
+    ensures none { IfNone became (watcher.new ≡ watcher.old) }
+{
+    if let Some(became) = became {
+        watcher.report(Report::Factored { became });
+    }
 }
 
 /// Answers all questions in order, writes the answers, and stops at the first fault. Nothing is flushed.
@@ -71,16 +83,19 @@ pub fn answer_all<A: PathAlgebra, W: RoadWrite, R: Threads + Wait + Sync, T: Gat
         batch.now.algebra (graph_of solver.old) batch.now.run.now.settings.now
         (T.may_answer batch.now.run.now.gate.now)))
         (W.seen out.old) (W.seen out.new) result }
-    ensures all { OnOk result (Reported (A.meaning batch.now.algebra) batch.now.run.now.settings.now (graph_of solver.old)
-        O.may_become (batch_due (is_plain solver.old) (asked_of batch.now.questions.now).questions)
-        watcher.old watcher.new) }
-    ensures reported { ReportedWritten (A.meaning batch.now.algebra) batch.now.run.now.settings.now (graph_of solver.old)
-        (asked_of batch.now.questions.now) (is_plain solver.old) O.may_become watcher.old
-        watcher.new (W.seen out.old) (W.seen out.new) }
+    ensures all { OnOk result (ReportedWhole (A.meaning batch.now.algebra)
+        batch.now.run.now.settings.now (graph_of solver.old) (is_plain solver.old)
+        (MayTell solver.old) (asked_of batch.now.questions.now).questions O.may_become watcher.old
+        watcher.new) }
+    ensures reported { ReportedWritten (A.meaning batch.now.algebra) batch.now.run.now.settings.now
+        (graph_of solver.old) (asked_of batch.now.questions.now) (is_plain solver.old)
+        (MayTell solver.old) O.may_become watcher.old watcher.new (W.seen out.old)
+        (W.seen out.new) }
 {
     let plain = solver.is_plain();
     begin(batch.algebra, batch.questions, plain, out, watcher)?;
     start(batch, solver)?;
+    report_factoring(solver.factoring(), watcher);
     for i in 0..batch.questions.len() {
         answer_next(batch, solver, i, out, watcher)?;
     }

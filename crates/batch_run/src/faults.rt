@@ -66,12 +66,8 @@ impl Error for RunFault {}
 /// Why a batch stopped after its input was read.
 #[derive(Clone, Copy, Debug, PartialEq, Eq)]
 pub enum Cause {
-    /// Memory or a thread was refused.
-    Memory,
-    /// A worker reached its limit of turns.
-    Stalled,
-    /// A worker's gate answered `false`.
-    Gated,
+    /// A question was not solved: memory or a thread was refused, or workers stopped.
+    Unsolved(GroupFault),
     /// A write failed.
     Write,
 }
@@ -82,9 +78,9 @@ impl Cause {
         ensures { result ≡ number_of self }
     {
         match self {
-            Cause::Memory => MEMORY,
-            Cause::Stalled => STALLED,
-            Cause::Gated => GATED,
+            Cause::Unsolved(GroupFault::Memory) => MEMORY,
+            Cause::Unsolved(GroupFault::Stalled) => STALLED,
+            Cause::Unsolved(GroupFault::Gated) => GATED,
             Cause::Write => WRITE,
         }
     }
@@ -92,11 +88,12 @@ impl Cause {
 
 impl From<Memory> for Cause {
     ghost use Rattle.batch_run.specs.declared.faults.Cause.TheVariants as causes;
+    ghost use Rattle.worker_fleet.specs.declared.group.GroupFault.TheVariants as group;
 
-    ghost from_gives = { λ _ cause. cause ≡ causes.Memory };
+    ghost from_gives = { λ _ cause. cause ≡ causes.Unsolved group.Memory };
 
     fn from(_refused: Memory) -> Cause {
-        Cause::Memory
+        Cause::Unsolved(GroupFault::Memory)
     }
 }
 
@@ -111,16 +108,12 @@ impl From<WriteFault> for Cause {
 }
 
 impl From<GroupFault> for Cause {
-    ghost use Rattle.batch_run.specs.Causes.{cause_of};
+    ghost use Rattle.batch_run.specs.declared.faults.Cause.TheVariants as causes;
 
-    ghost from_gives = { λ fault cause. cause ≡ cause_of fault };
+    ghost from_gives = { λ fault cause. cause ≡ causes.Unsolved fault };
 
     fn from(fault: GroupFault) -> Cause {
-        match fault {
-            GroupFault::Memory => Cause::Memory,
-            GroupFault::Stalled => Cause::Stalled,
-            GroupFault::Gated => Cause::Gated,
-        }
+        Cause::Unsolved(fault)
     }
 }
 

@@ -4,10 +4,10 @@ ghost use Rattle.std.specs.Io.KnownBytes.{Keeps};
 ghost use Rattle.road_files.specs.Asked.{AreQuestionsOf, asked_of};
 ghost use Rattle.batch_run.specs.Answered.{WroteAllOrPrefix, WroteWhole};
 ghost use Rattle.batch_run.specs.Causes.{MayStop};
-ghost use Rattle.batch_run.specs.Reports.{Reported, ReportedWritten, batch_due};
+ghost use Rattle.batch_run.specs.Reports.{ReportedWhole, ReportedWritten};
 ghost use Rattle.batch_run.specs.Ran.{IsPassedOn};
 ghost use Rattle.batch_run.specs.Stopping.{Stops};
-ghost use Rattle.batch_run.specs.Solvers.{graph_of, is_plain};
+ghost use Rattle.batch_run.specs.Solvers.{MayTell, graph_of, is_plain};
 
 use crate::answering::answer_all;
 use crate::batch::Batch;
@@ -75,12 +75,14 @@ pub(crate) fn answer_and_flush<
         (W.seen out.old).failures + 1) }
     ensures flushed { IfErr result (λ cause. cause ≢ Cause.Write → IsPassedOn (W.seen out.new).held
         (W.seen out.old).failures (W.seen out.new).failures) }
-    ensures all { OnOk result (Reported (A.meaning batch.now.algebra) batch.now.run.now.settings.now (graph_of solver.old)
-        O.may_become (batch_due (is_plain solver.old) (asked_of batch.now.questions.now).questions)
-        watcher.old watcher.new) }
-    ensures reported { ReportedWritten (A.meaning batch.now.algebra) batch.now.run.now.settings.now (graph_of solver.old)
-        (asked_of batch.now.questions.now) (is_plain solver.old) O.may_become watcher.old
-        watcher.new (W.seen out.old) (W.seen out.new) }
+    ensures all { OnOk result (ReportedWhole (A.meaning batch.now.algebra)
+        batch.now.run.now.settings.now (graph_of solver.old) (is_plain solver.old)
+        (MayTell solver.old) (asked_of batch.now.questions.now).questions O.may_become watcher.old
+        watcher.new) }
+    ensures reported { ReportedWritten (A.meaning batch.now.algebra) batch.now.run.now.settings.now
+        (graph_of solver.old) (asked_of batch.now.questions.now) (is_plain solver.old)
+        (MayTell solver.old) O.may_become watcher.old watcher.new (W.seen out.old)
+        (W.seen out.new) }
 {
     answers_exist(batch.algebra);
     first_answers_begin_all(batch.algebra);

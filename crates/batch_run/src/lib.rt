@@ -21,7 +21,7 @@ pub use entries::{run_bundle, run_pair};
 pub use faults::{Cause, File, RunFault, SETTINGS, WRITE, fault_in, fault_of_run};
 pub use inputs::{BatchInput, BundleInput, PairInput};
 pub use laws::{answers_exist, best_first_accounts_count_each_arc_once};
-pub use question_solvers::{FactorSolver, PlainSolver, Solved};
+pub use question_solvers::{FactorSolver, Factoring, PlainSolver, Refusal, Solved};
 pub use run::run_batch;
 pub use settings::{Settings, SolverKind};
 pub use solve::{Solver, WorkerSolver};

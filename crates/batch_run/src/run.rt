@@ -5,7 +5,7 @@ ghost use Rattle.batch_run.specs.Reports.{Watched};
 ghost use Rattle.batch_run.specs.Runs.{Ran};
 ghost use Rattle.batch_run.specs.Stopping.{Stopped};
 ghost use Rattle.batch_run.specs.Ran.{IsRoadNumber};
-ghost use Rattle.batch_run.specs.Solvers.{graph_of, is_plain};
+ghost use Rattle.batch_run.specs.Solvers.{graph_of, is_by_factors, is_plain};
 ghost use Rattle.batch_run.specs.Choice.{without_diffusions};
 
 use crate::batch::{Batch, Run};
@@ -30,6 +30,7 @@ fn read_batch<A: PathAlgebra, I: BatchInput, R, T>(
     input: &mut I,
 ) -> Result<(Solver<A>, Questions), RunFault>
     ensures kind { IfOk result (λ r. is_plain r.0 ≡ without_diffusions run.now.settings.now) }
+    ensures factors { IfOk result (λ r. is_by_factors r.0 ≡ run.now.settings.now.factors) }
     ensures read { IfOk result (λ r. I.is_read input.old (graph_of r.0) (asked_of r.1)) }
     ensures within { IfOk result (λ r. AreQuestionsOf (graph_of r.0).vertices r.1) }
     ensures done { OnOk result (I.has_read input.old input.new (Ok tt)) }
@@ -56,12 +57,13 @@ fn read_batch<A: PathAlgebra, I: BatchInput, R, T>(
 }
 
 /// Answers the questions of an input over its graph, writes the answers, and reports to a watcher as it goes: that the questions
-/// were read, each diffusion that was gathered, with its counts, and each question that was answered. With `plain` or `factors` there
-/// are no diffusions. Before a fault of an input nothing is reported.
+/// were read; with `factors`, what became of factoring the graph; each diffusion that was gathered, with its counts; and each
+/// question that was answered. With `plain` or `factors` there are no diffusions. Before a fault of an input nothing is reported.
 ///
-/// The settings are tested first (43), and if they choose factors, whether the algebra has a cost (43 too); then the graph is read and then the questions, and then each question is
-/// answered and written, in order; at last the output is flushed. The first fault in this order is reported. After a
-/// fault of an input nothing has been written; after a later one (3, 40 to 42) a prefix of the answers' text has.
+/// The settings are tested first (43), and if they choose factors, whether the algebra has a cost (43 too); then the graph is read
+/// and then the questions, and then each question is answered and written, in order; at last the output is flushed. The first
+/// fault in this order is reported. After a fault of an input nothing has been written; after a later one (3, 40 to 42) a prefix
+/// of the answers' text has.
 ///
 /// Questions are run in groups of `width` diffusions, each over its own shards, by workers on threads: worker w turns the
 /// stations of the shards whose number is w modulo `workers`. With `plain` the one-thread solver answers each question, one that

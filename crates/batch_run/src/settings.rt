@@ -65,7 +65,8 @@ impl Settings {
     /// Whether each setting is in its range, and factors are chosen only for an algebra that has a cost.
     pub fn suit<A: PathAlgebra>(&self, algebra: A) -> bool
         ensures in_range { IsTrue result → AreInRange self.now }
-        ensures costs { IsTrue result → self.now.factors ≡ true → (cost : Cost) × IsCarried (A.meaning algebra) (cost_of cost) }
+        ensures costs { IsTrue result → self.now.factors ≡ true → (cost : Cost) × IsCarried
+            (A.meaning algebra) (cost_of cost) }
         ensures out { result ≡ false → (AreInRange self.now → ⊥) ⊎ (self.now.factors ≡ true) }
     {
         if !self.are_in_range() {
@@ -80,7 +81,8 @@ impl Settings {
     /// Which solver answers.
     pub fn solver(&self) -> SolverKind
         ensures factors { (result ≡ SolverKind.Factors) ↔ (self.now.factors ≡ true) }
-        ensures plain { (result ≡ SolverKind.Plain) ↔ ((self.now.factors ≡ false) × (self.now.plain ≡ true)) }
+        ensures plain { (result ≡ SolverKind.Plain) ↔ ((self.now.factors ≡ false) × (self.now.plain
+            ≡ true)) }
         ensures workers { (result ≡ SolverKind.Workers) ↔ (without_diffusions self.now ≡ false) }
     {
         if self.factors {

@@ -5,7 +5,7 @@ ghost use Rattle.road_files.specs.Asked.{AreQuestionsOf, Question, asked_of};
 ghost use Rattle.batch_run.specs.Stopping.{Stops};
 ghost use Rattle.batch_run.specs.Reports.{ReportedAllOrPrefix, accounts_due};
 ghost use Rattle.question_solvers.specs.Solved.{IsSolvedFor};
-ghost use Rattle.batch_run.specs.Solvers.{IsReady, IsSameSolver, graph_of, is_plain, last_of};
+ghost use Rattle.batch_run.specs.Solvers.{IsFactoringOf, IsReady, IsSameSolver, graph_of, is_by_factors, is_plain, last_of};
 
 mod diffusion;
 mod group;
@@ -21,8 +21,8 @@ use crate::solve::workers::{solve_next_by_workers, start_workers};
 use crate::watcher::Watcher;
 use path_algebra::PathAlgebra;
 use question_solvers::{
-    FactorSolver, PlainSolver, Solved, solve_next_by_factors, solve_next_plainly, start_factors,
-    start_plain,
+    FactorSolver, Factoring, PlainSolver, Solved, solve_next_by_factors, solve_next_plainly,
+    start_factors, start_plain,
 };
 use road_graph::Memory;
 pub(crate) use schedule::count_diffusions;
@@ -67,6 +67,16 @@ impl<A: PathAlgebra> Solver<A> {
         }
     }
 
+    /// What became of factoring the graph, if factors are to answer.
+    pub(crate) fn factoring(&self) -> Option<Factoring>
+        ensures { IsFactoringOf self.now result }
+    {
+        match self {
+            Solver::Plain(_) | Solver::Workers(_) => None,
+            Solver::Factors(solver) => Some(solver.factoring()),
+        }
+    }
+
     /// What it solved last.
     pub(crate) fn last(&self) -> &Solved<A::Value>
         requires { IsSome (last_of self.now) }
@@ -91,6 +101,7 @@ pub(crate) fn start<A: PathAlgebra, R, T>(
     solver: &mut Solver<A>,
 ) -> Result<(), Memory>
     ensures same { IsSameSolver solver.old solver.new }
+    ensures kind { is_by_factors solver.new ≡ is_by_factors solver.old }
     ensures ready { OnOk result (IsReady A.meaning batch.now.algebra batch.now.run.now.settings.now
         (asked_of batch.now.questions.now) 0 solver.new) }
 {
@@ -110,8 +121,8 @@ pub(crate) fn solve_next<A: PathAlgebra, R: Threads + Wait + Sync, T: Gate, O: W
 ) -> Result<(), GroupFault>
     requires place { i < length (asked_of batch.now.questions.now).questions }
     requires within { AreQuestionsOf (graph_of solver.old).vertices batch.now.questions.now }
-    requires ready { IsReady A.meaning batch.now.algebra batch.now.run.now.settings.now (asked_of batch.now.questions.now) i
-        solver.old }
+    requires ready { IsReady A.meaning batch.now.algebra batch.now.run.now.settings.now (asked_of
+        batch.now.questions.now) i solver.old }
     ensures same { IsSameSolver solver.old solver.new }
     ensures ready { OnOk result (IsReady A.meaning batch.now.algebra batch.now.run.now.settings.now
         (asked_of batch.now.questions.now) (i + 1) solver.new) }
@@ -122,9 +133,9 @@ pub(crate) fn solve_next<A: PathAlgebra, R: Threads + Wait + Sync, T: Gate, O: W
     ensures stops { IfErr result (Stops A.meaning batch.now.algebra (graph_of solver.old)
         batch.now.run.now.settings.now (T.may_answer batch.now.run.now.gate.now)) }
     ensures reported { (default : Question) → ReportedAllOrPrefix (A.meaning batch.now.algebra)
-        batch.now.run.now.settings.now (graph_of solver.old) O.may_become (accounts_due (is_plain solver.old) (i + 1)
-        (slice_index_or (asked_of batch.now.questions.now).questions i default)) watcher.old
-        watcher.new result }
+        batch.now.run.now.settings.now (graph_of solver.old) O.may_become (accounts_due (is_plain
+        solver.old) (i + 1) (slice_index_or (asked_of batch.now.questions.now).questions i default))
+        watcher.old watcher.new result }
 {
     match solver {
         Solver::Plain(solver) => match solve_next_plainly(&batch.task(), solver, i) {

@@ -1,6 +1,7 @@
 //! What a batch reports while it runs, and to whom.
 ghost use Rattle.batch_run.specs.declared.watcher.Report.{Report};
 
+use question_solvers::Factoring;
 use road_graph::Vertex;
 use shard_part::Tally;
 
@@ -11,6 +12,10 @@ pub enum Report {
     Begun {
         questions: u32,
         diffusions: u64,
+    },
+    /// With factors, before the first question: the graph was factored, or was refused and why.
+    Factored {
+        became: Factoring,
     },
     /// The diffusion for this question, numbered from 1, from this source was gathered: its counts.
     Gathered {

@@ -150,7 +150,7 @@ pub const ACCOUNTS: &str = concat!(
 /// Whether a run says how far it is.
 pub const PROGRESS: &str = concat!(
     "Report on standard error how many questions are answered, after each\n",
-    "hundredth of them.",
+    "hundredth of them, and whether `--factors` factored the graph.",
 );
 
 /// Whether a run says how long it took.

@@ -48,7 +48,10 @@ module _ {V S W : Type 0} (A : Algebra V) (how : Settings) (plain : Bool) (IsRea
 pub watched_told : {V S W : Type 0} (A : Algebra V) (how : Settings) (IsRead : GraphData → Asked → Type 0) (may_become : S → Report → S → Type 0) (old new : S) (out out_after : Output W) (outcome : Result (Unit {0}) RunFault) →
     Watched A how IsRead may_become old new out out_after outcome → (told : WasTold may_become old new) × OnOk outcome (AreReportsOf A how (without_diffusions how) IsRead told.0)
 watched_told A how IsRead may_become old new out out_after (Ok u) w =
-    ((w.all.reported.reports, w.all.reported.told), record { graph = w.all.graph; asked = w.all.asked; read = w.all.read; are_due = w.all.reported.are_due })
+    let made = w.all.reported in (
+      (made.reported.reports, made.reported.told),
+      record { graph = w.all.graph; asked = w.all.asked; read = w.all.read; became = made.became; told = made.told; are_due = made.reported.are_due },
+    )
 watched_told A how IsRead may_become old new out out_after (Err f) w = (fault_told A how (without_diffusions how) IsRead may_become old new out out_after f.file f.number w.first w.nothing w.untouched, tt)
 
 -- the same under the algebra that was chosen

@@ -5,7 +5,7 @@ use Rattle.path_algebra.specs.declared.name.AlgebraName.{AlgebraName}
 use Rattle.road_text.specs.Texts.{spelled}
 use Rattle.shard_store.specs.declared.tally.Tally.{Tally}
 use Rattle.batch_run.specs.declared.watcher.Report.{Report}
-use Rattle.batch_run.specs.declared.watcher.Report.TheVariants.{Begun, Gathered, Answered}
+use Rattle.batch_run.specs.declared.watcher.Report.TheVariants.{Begun, Factored, Gathered, Answered}
 
 -- the header before the accounts of so many diffusions
 abbrev pub heading_text : ℕ → AlgebraName → List ℕ
@@ -30,6 +30,7 @@ counts_text t = (32 ∷ decimal t.sent) ++ (32 ∷ decimal t.delivered) ++ (32 �
 -- what a report adds to the accounts of a batch under an algebra of this name: its beginning the header, a diffusion that was gathered its line
 abbrev pub account_of : AlgebraName → Report → List ℕ
 account_of name (Begun questions diffusions) = heading_text diffusions name
+account_of name (Factored became) = []
 account_of name (Gathered question source tally) = account_text question source tally
 account_of name (Answered questions) = []
 

@@ -1,7 +1,10 @@
 -- The lines that show how far a batch is.
 use Rattle.std.specs.Prelude.{ℕ, ◌-◌, ◌*◌, ◌/◌, List, [], ◌∷◌, ◌++◌, Bool, codes, decimal, nat_eq, nat_lt, if◌then◌else◌, ◌||◌}
+use Rattle.question_solvers.specs.declared.factor_solver.Factoring.{Factoring}
+use Rattle.question_solvers.specs.declared.factor_solver.Factoring.TheVariants.{Untried, Made, Refused}
+use Rattle.question_solvers.specs.declared.factor_solver.Refusal.TheVariants.{Dense, Heavy}
 use Rattle.batch_run.specs.declared.watcher.Report.{Report}
-use Rattle.batch_run.specs.declared.watcher.Report.TheVariants.{Begun, Gathered, Answered}
+use Rattle.batch_run.specs.declared.watcher.Report.TheVariants.{Begun, Factored, Gathered, Answered}
 
 -- how many whole hundredths of all questions so many are
 abbrev pub hundredths : ℕ → ℕ → ℕ
@@ -19,15 +22,24 @@ line_of_progress answered all = codes "diffuse: " ++ decimal answered ++ codes "
 abbrev pub due_line : ℕ → ℕ → List ℕ
 due_line answered all = if is_due answered all then line_of_progress answered all else []
 
+-- the line that says what became of factoring the graph
+abbrev pub line_of_factoring : Factoring → List ℕ
+line_of_factoring Untried = codes "diffuse: the graph is not factored; searches answer" ++ 10 ∷ []
+line_of_factoring Made = codes "diffuse: the graph is factored" ++ 10 ∷ []
+line_of_factoring (Refused Dense) = codes "diffuse: the graph is too dense to factor; searches answer" ++ 10 ∷ []
+line_of_factoring (Refused Heavy) = codes "diffuse: the graph's sums are too large to factor; searches answer" ++ 10 ∷ []
+
 -- how many questions there are, after a report
 abbrev pub all_after : ℕ → Report → ℕ
 all_after all (Begun questions diffusions) = questions
+all_after all (Factored became) = all
 all_after all (Gathered question source tally) = all
 all_after all (Answered questions) = all
 
 -- what is shown at a report of a batch with so many questions
 abbrev pub shown_at : ℕ → Report → List ℕ
 shown_at all (Begun questions diffusions) = due_line 0 questions
+shown_at all (Factored became) = line_of_factoring became
 shown_at all (Gathered question source tally) = []
 shown_at all (Answered questions) = due_line questions all
 

@@ -10,7 +10,8 @@ use Rattle.batch_run.specs.declared.faults.RunFault.{RunFault}
 use Rattle.batch_run.specs.declared.settings.Settings.{Settings}
 use Rattle.batch_run.specs.declared.watcher.Report.{Report}
 use Rattle.batch_run.specs.Choice.{without_diffusions}
-use Rattle.batch_run.specs.Reports.{IsReportOf, batch_due}
+use Rattle.batch_run.specs.Reports.{IsReportOf, IsTold, batch_due}
+use Rattle.question_solvers.specs.declared.factor_solver.Factoring.{Factoring}
 use Rattle.road_text.specs.Streams.{Output}
 use Rattle.path_algebra.specs.declared.choice.AlgebraChoice.{AlgebraChoice}
 use Rattle.path_algebra.specs.Choices.{Under, name_of}
@@ -61,12 +62,14 @@ pub record Notes {A E M : Type 0} (seen : A → Output A) (shown : E → Output 
   -- and so has the error output, if progress is shown
   pub errors : IsAddedIf shown old.progress old.errors.now new.errors.now (shown_at old.all report)
 
--- these are the reports of a batch over what was read: of each question in order, and each account is of a diffusion that has ended
+-- these are the reports of a batch over what was read: of factoring, if it is to answer; of each question in order, and each account is of a diffusion that has ended
 pub record AreReportsOf {V : Type 0} (A : Algebra V) (how : Settings) (plain : Bool) (IsRead : GraphData → Asked → Type 0) (reports : List Report) : Type 0 where
   pub graph : GraphData
   pub asked : Asked
   pub read : IsRead graph asked
-  pub are_due : AllZip (IsReportOf A how graph) (batch_due plain asked.questions) reports
+  pub became : Option Factoring
+  pub told : IsTold how.factors became
+  pub are_due : AllZip (IsReportOf A how graph) (batch_due plain became asked.questions) reports
 
 -- accounts, if they are wanted, have the text, and nothing is held back; or a write failed, and that is fault 42
 abbrev pub Account : {A : Type 0} → List ℕ → Option (Output A) → Option (Output A) → Result (Unit {0}) RunFault → Type 0

@@ -56,8 +56,8 @@ fn open_all<'g, A: PathAlgebra>(
     ensures floors { IfOk result (λ r. vec_len r.0 ≡ length sources.now) }
     ensures stations { IfOk result (λ r. vec_len r.1 ≡ length sources.now) }
     ensures opened { IfOk result (λ r. (q : ℕ) (s : ℕ) (f : _) (v : _) → q < length sources.now →
-        AreOpened A.meaning (setup_of algebra graph.now (get_or sources.now q s) plan.now pace.order)
-        (get_or r.0.items q f) (get_or r.1.items q v).items) }
+        AreOpened A.meaning (setup_of algebra graph.now (get_or sources.now q s) plan.now
+        pace.order) (get_or r.0.items q f) (get_or r.1.items q v).items) }
 {
     let mut floors = Vec::new(alloc);
     let mut lists = Vec::new(alloc);
@@ -104,7 +104,8 @@ fn gathered_from<'g, A: PathAlgebra, R, T>(
     ended: EndedDiffusion<'g, A>,
 ) -> Result<GatheredDiffusion<A::Value>, AllocError>
     requires plan { IsCut batch.now.run.now.settings.now batch.now.graph.now plan.now }
-    requires ended { IsEnded batch.now.algebra batch.now.run.now.settings.now batch.now.graph.now plan.now ended }
+    requires ended { IsEnded batch.now.algebra batch.now.run.now.settings.now batch.now.graph.now
+        plan.now ended }
     ensures gathered { IfOk result (IsGatheredOver (A.meaning batch.now.algebra)
         batch.now.run.now.settings.now batch.now.graph.now) }
     ensures source { IfOk result (λ d. d.source ≡ ended.entry.source) }
@@ -128,9 +129,11 @@ pub(crate) fn run_together<A: PathAlgebra, R: Threads + Wait, T: Gate>(
     requires plan { IsCut batch.now.run.now.settings.now batch.now.graph.now plan.now }
     requires sources { All (HasVertex batch.now.graph.now) sources.now }
     requires width { length sources.now ≤ batch.now.run.now.settings.now.width }
-    ensures gathered { IfOk result (λ v. All (IsGatheredOver (A.meaning batch.now.algebra) batch.now.run.now.settings.now batch.now.graph.now) v.items) }
+    ensures gathered { IfOk result (λ v. All (IsGatheredOver (A.meaning batch.now.algebra)
+        batch.now.run.now.settings.now batch.now.graph.now) v.items) }
     ensures sources { IfOk result (λ v. sources_in_order v.items ≡ sources.now) }
-    ensures stops { IfErr result (Stops A.meaning batch.now.algebra batch.now.graph.now batch.now.run.now.settings.now (T.may_answer batch.now.run.now.gate.now)) }
+    ensures stops { IfErr result (Stops A.meaning batch.now.algebra batch.now.graph.now
+        batch.now.run.now.settings.now (T.may_answer batch.now.run.now.gate.now)) }
 {
     let (alloc, settings) = (batch.run.alloc, batch.run.settings);
     let (algebra, graph) = (batch.algebra, batch.graph);

@@ -24,14 +24,17 @@ pub(crate) fn merge_all<A: PathAlgebra, R: Threads + Wait, T: Gate, O: Watcher>(
     watcher: &mut O,
 ) -> Result<Labels<A::Value>, GroupFault>
     requires place { i < length (asked_of batch.now.questions.now).questions }
-    requires ready { AreNext (A.meaning batch.now.algebra) batch.now.run.now.settings.now batch.now.graph.now
-        (sources_to_come (asked_of batch.now.questions.now).questions i 0) queue.old }
+    requires ready { AreNext (A.meaning batch.now.algebra) batch.now.run.now.settings.now
+        batch.now.graph.now (sources_to_come (asked_of batch.now.questions.now).questions i 0)
+        queue.old }
     ensures labels { IfOk result (λ labels. (default : Question) →
         AreBest (A.meaning batch.now.algebra) batch.now.graph.now (sources_of
         (slice_index_or (asked_of batch.now.questions.now).questions i default)) labels) }
-    ensures ready { OnOk result (AreNext (A.meaning batch.now.algebra) batch.now.run.now.settings.now batch.now.graph.now
-        (sources_to_come (asked_of batch.now.questions.now).questions (i + 1) 0) queue.new) }
-    ensures stops { IfErr result (Stops A.meaning batch.now.algebra batch.now.graph.now batch.now.run.now.settings.now (T.may_answer batch.now.run.now.gate.now)) }
+    ensures ready { OnOk result (AreNext (A.meaning batch.now.algebra)
+        batch.now.run.now.settings.now batch.now.graph.now (sources_to_come (asked_of
+        batch.now.questions.now).questions (i + 1) 0) queue.new) }
+    ensures stops { IfErr result (Stops A.meaning batch.now.algebra batch.now.graph.now
+        batch.now.run.now.settings.now (T.may_answer batch.now.run.now.gate.now)) }
     ensures reported { (default : Question) → ReportedAllOrPrefix (A.meaning batch.now.algebra)
         batch.now.run.now.settings.now batch.now.graph.now O.may_become (accounts_due false (i + 1)
         (slice_index_or (asked_of batch.now.questions.now).questions i default)) watcher.old

@@ -33,12 +33,15 @@ fn refill<A: PathAlgebra, R: Threads + Wait, T: Gate>(
     j: usize,
 ) -> Result<(), GroupFault>
     requires source { HasSource (asked_of batch.now.questions.now).questions i j }
-    requires ready { AreNext (A.meaning batch.now.algebra) batch.now.run.now.settings.now batch.now.graph.now
-        (sources_to_come (asked_of batch.now.questions.now).questions i j) queue.old }
+    requires ready { AreNext (A.meaning batch.now.algebra) batch.now.run.now.settings.now
+        batch.now.graph.now (sources_to_come (asked_of batch.now.questions.now).questions i j)
+        queue.old }
     ensures some { OnOk result (1 ≤ length queue.new.waiting.items) }
-    ensures ready { OnOk result (AreNext (A.meaning batch.now.algebra) batch.now.run.now.settings.now batch.now.graph.now
-        (sources_to_come (asked_of batch.now.questions.now).questions i j) queue.new) }
-    ensures stops { IfErr result (Stops A.meaning batch.now.algebra batch.now.graph.now batch.now.run.now.settings.now (T.may_answer batch.now.run.now.gate.now)) }
+    ensures ready { OnOk result (AreNext (A.meaning batch.now.algebra)
+        batch.now.run.now.settings.now batch.now.graph.now (sources_to_come (asked_of
+        batch.now.questions.now).questions i j) queue.new) }
+    ensures stops { IfErr result (Stops A.meaning batch.now.algebra batch.now.graph.now
+        batch.now.run.now.settings.now (T.may_answer batch.now.run.now.gate.now)) }
 {
     if !queue.waiting.is_empty() {
         return Ok(());
@@ -61,13 +64,17 @@ fn take_next<A: PathAlgebra, R: Threads + Wait, T: Gate>(
     requires source { HasSource (asked_of batch.now.questions.now).questions i j }
     requires next { sources_to_come (asked_of batch.now.questions.now).questions i j ≡ source ∷
         sources_to_come (asked_of batch.now.questions.now).questions i (j + 1) }
-    requires ready { AreNext (A.meaning batch.now.algebra) batch.now.run.now.settings.now batch.now.graph.now
-        (sources_to_come (asked_of batch.now.questions.now).questions i j) queue.old }
+    requires ready { AreNext (A.meaning batch.now.algebra) batch.now.run.now.settings.now
+        batch.now.graph.now (sources_to_come (asked_of batch.now.questions.now).questions i j)
+        queue.old }
     ensures source { IfOk result (λ d. d.source ≡ source) }
-    ensures gathered { IfOk result (IsGatheredOver (A.meaning batch.now.algebra) batch.now.run.now.settings.now batch.now.graph.now) }
-    ensures ready { OnOk result (AreNext (A.meaning batch.now.algebra) batch.now.run.now.settings.now batch.now.graph.now
-        (sources_to_come (asked_of batch.now.questions.now).questions i (j + 1)) queue.new) }
-    ensures stops { IfErr result (Stops A.meaning batch.now.algebra batch.now.graph.now batch.now.run.now.settings.now (T.may_answer batch.now.run.now.gate.now)) }
+    ensures gathered { IfOk result (IsGatheredOver (A.meaning batch.now.algebra)
+        batch.now.run.now.settings.now batch.now.graph.now) }
+    ensures ready { OnOk result (AreNext (A.meaning batch.now.algebra)
+        batch.now.run.now.settings.now batch.now.graph.now (sources_to_come (asked_of
+        batch.now.questions.now).questions i (j + 1)) queue.new) }
+    ensures stops { IfErr result (Stops A.meaning batch.now.algebra batch.now.graph.now
+        batch.now.run.now.settings.now (T.may_answer batch.now.run.now.gate.now)) }
 {
     refill(batch, queue, i, j)?;
     let Some(next) = queue.waiting.pop() else {
@@ -88,15 +95,19 @@ pub(crate) fn next_labels<A: PathAlgebra, R: Threads + Wait, T: Gate, O: Watcher
     requires source { HasSource (asked_of batch.now.questions.now).questions i j }
     requires next { sources_to_come (asked_of batch.now.questions.now).questions i j ≡ source ∷
         sources_to_come (asked_of batch.now.questions.now).questions i (j + 1) }
-    requires ready { AreNext (A.meaning batch.now.algebra) batch.now.run.now.settings.now batch.now.graph.now
-        (sources_to_come (asked_of batch.now.questions.now).questions i j) queue.old }
+    requires ready { AreNext (A.meaning batch.now.algebra) batch.now.run.now.settings.now
+        batch.now.graph.now (sources_to_come (asked_of batch.now.questions.now).questions i j)
+        queue.old }
     ensures labels { IfOk result (λ labels. AreBest (A.meaning batch.now.algebra)
         batch.now.graph.now (source ∷ []) labels) }
-    ensures ready { OnOk result (AreNext (A.meaning batch.now.algebra) batch.now.run.now.settings.now batch.now.graph.now
-        (sources_to_come (asked_of batch.now.questions.now).questions i (j + 1)) queue.new) }
-    ensures stops { IfErr result (Stops A.meaning batch.now.algebra batch.now.graph.now batch.now.run.now.settings.now (T.may_answer batch.now.run.now.gate.now)) }
-    ensures reported { OnOk result (Reported (A.meaning batch.now.algebra) batch.now.run.now.settings.now batch.now.graph.now
-        O.may_become (Account (i + 1) source ∷ []) watcher.old watcher.new) }
+    ensures ready { OnOk result (AreNext (A.meaning batch.now.algebra)
+        batch.now.run.now.settings.now batch.now.graph.now (sources_to_come (asked_of
+        batch.now.questions.now).questions i (j + 1)) queue.new) }
+    ensures stops { IfErr result (Stops A.meaning batch.now.algebra batch.now.graph.now
+        batch.now.run.now.settings.now (T.may_answer batch.now.run.now.gate.now)) }
+    ensures reported { OnOk result (Reported (A.meaning batch.now.algebra)
+        batch.now.run.now.settings.now batch.now.graph.now O.may_become (Account (i + 1) source ∷
+        []) watcher.old watcher.new) }
     ensures unreported { OnErr result (watcher.new ≡ watcher.old) }
 {
     let question = (i + 1) as u32;

@@ -61,8 +61,8 @@ fn solve_by_labels<A: PathAlgebra, R, T>(
 ) -> Result<Solved<A::Value>, Memory>
     requires place { i < length (asked_of batch.now.questions.now).questions }
     requires labels { (default : Question) → AreBest (A.meaning batch.now.algebra)
-        batch.now.graph.now
-        (sources_of (slice_index_or (asked_of batch.now.questions.now).questions i default)) labels }
+        batch.now.graph.now (sources_of (slice_index_or (asked_of batch.now.questions.now).questions
+        i default)) labels }
     ensures { IfOk result (IsSolvedFor (A.meaning batch.now.algebra) batch.now.graph.now
         (asked_of batch.now.questions.now) i) }
 {
@@ -88,13 +88,16 @@ fn solve_by_workers<A: PathAlgebra, R: Threads + Wait, T: Gate, O: Watcher>(
     watcher: &mut O,
 ) -> Result<Solved<A::Value>, GroupFault>
     requires place { i < length (asked_of batch.now.questions.now).questions }
-    requires ready { AreNext (A.meaning batch.now.algebra) batch.now.run.now.settings.now batch.now.graph.now
-        (sources_to_come (asked_of batch.now.questions.now).questions i 0) queue.old }
+    requires ready { AreNext (A.meaning batch.now.algebra) batch.now.run.now.settings.now
+        batch.now.graph.now (sources_to_come (asked_of batch.now.questions.now).questions i 0)
+        queue.old }
     ensures solved { IfOk result (IsSolvedFor (A.meaning batch.now.algebra) batch.now.graph.now
         (asked_of batch.now.questions.now) i) }
-    ensures ready { OnOk result (AreNext (A.meaning batch.now.algebra) batch.now.run.now.settings.now batch.now.graph.now
-        (sources_to_come (asked_of batch.now.questions.now).questions (i + 1) 0) queue.new) }
-    ensures stops { IfErr result (Stops A.meaning batch.now.algebra batch.now.graph.now batch.now.run.now.settings.now (T.may_answer batch.now.run.now.gate.now)) }
+    ensures ready { OnOk result (AreNext (A.meaning batch.now.algebra)
+        batch.now.run.now.settings.now batch.now.graph.now (sources_to_come (asked_of
+        batch.now.questions.now).questions (i + 1) 0) queue.new) }
+    ensures stops { IfErr result (Stops A.meaning batch.now.algebra batch.now.graph.now
+        batch.now.run.now.settings.now (T.may_answer batch.now.run.now.gate.now)) }
     ensures reported { (default : Question) → ReportedAllOrPrefix (A.meaning batch.now.algebra)
         batch.now.run.now.settings.now batch.now.graph.now O.may_become (accounts_due false (i + 1)
         (slice_index_or (asked_of batch.now.questions.now).questions i default)) watcher.old
@@ -127,8 +130,8 @@ pub(crate) fn start_workers<A: PathAlgebra, R, T>(
     solver: &mut WorkerSolver<A::Value>,
 ) -> Result<(), Memory>
     ensures graph { solver.new.graph ≡ solver.old.graph }
-    ensures ready { OnOk result (IsWorkerReady (A.meaning batch.now.algebra) batch.now.run.now.settings.now
-        (asked_of batch.now.questions.now) 0 solver.new) }
+    ensures ready { OnOk result (IsWorkerReady (A.meaning batch.now.algebra)
+        batch.now.run.now.settings.now (asked_of batch.now.questions.now) 0 solver.new) }
 {
     let (alloc, shards) = (batch.run.alloc, batch.run.settings.shards as u8);
     let plan = Plan::blocks(alloc, solver.graph.vertices(), shards)?;
@@ -151,12 +154,13 @@ pub(crate) fn solve_next_by_workers<A: PathAlgebra, R: Threads + Wait, T: Gate, 
     requires ready { IsWorkerReady (A.meaning batch.now.algebra) batch.now.run.now.settings.now
         (asked_of batch.now.questions.now) i solver.old }
     ensures graph { solver.new.graph ≡ solver.old.graph }
-    ensures ready { OnOk result (IsWorkerReady (A.meaning batch.now.algebra) batch.now.run.now.settings.now
-        (asked_of batch.now.questions.now) (i + 1) solver.new) }
+    ensures ready { OnOk result (IsWorkerReady (A.meaning batch.now.algebra)
+        batch.now.run.now.settings.now (asked_of batch.now.questions.now) (i + 1) solver.new) }
     ensures some { OnOk result (IsSome solver.new.last) }
     ensures solved { OnOk result (IfSome solver.new.last (IsSolvedFor (A.meaning batch.now.algebra)
         solver.old.graph (asked_of batch.now.questions.now) i)) }
-    ensures stops { IfErr result (Stops A.meaning batch.now.algebra solver.old.graph batch.now.run.now.settings.now (T.may_answer batch.now.run.now.gate.now)) }
+    ensures stops { IfErr result (Stops A.meaning batch.now.algebra solver.old.graph
+        batch.now.run.now.settings.now (T.may_answer batch.now.run.now.gate.now)) }
     ensures reported { (default : Question) → ReportedAllOrPrefix (A.meaning batch.now.algebra)
         batch.now.run.now.settings.now solver.old.graph O.may_become (accounts_due false (i + 1)
         (slice_index_or (asked_of batch.now.questions.now).questions i default)) watcher.old

@@ -1,11 +1,12 @@
-//! Batches that are answered by factors: the same bytes, and what refuses them.
+//! Batches that are answered by factors: the same bytes, what is told of the factors, and what refuses them.
+use super::reports::{answered, assert_notes, assert_reports, begun, watch_pair};
 use super::workers::{AROUND, CYCLE, NEAREST, SEVERAL};
 use super::{
     FIVE, FROM_ONE, PAIRS, ROUTES, SHORTEST, SHORTEST_THRICE, THRICE, assert_answered,
     assert_ended, run_two,
 };
 use crate::tolls::Tolls;
-use batch_run::{File, RunFault, Settings};
+use batch_run::{Factoring, File, OpenGate, Refusal, Report, RunFault, Settings};
 use path_algebra::{Hops, PathAlgebra, Shortest, Widest, Within};
 use std::process::Abort;
 use std::sync::Wait;
@@ -85,6 +86,54 @@ fn factors_within_a_limit(rt: HostRuntime) {
     let five = Within::new(5).expect(&rt, "refused");
     let wanted = "p ans ss 1 within\ns 1\nd 1 0 0 0\nd 2 3 2 3\nd 3 1 1 1\nu 4\nu 5\n";
     assert_factored(&rt, five, FIVE, FROM_ONE, wanted);
+}
+
+/// The report of what became of factoring the graph.
+fn told(became: Factoring) -> Report {
+    Report::Factored { became }
+}
+
+#[test]
+fn factors_are_reported_once(rt: HostRuntime) {
+    let settings = factored(false, 1);
+    let wanted = [
+        begun(3, 0),
+        told(Factoring::Made),
+        answered(1),
+        answered(2),
+        answered(3),
+    ];
+    assert_reports(&rt, Shortest, PAIRS, &settings, &wanted);
+    assert_reports(&rt, Shortest, THRICE, &settings, &wanted);
+    let none = [begun(0, 0), told(Factoring::Made)];
+    assert_reports(&rt, Hops, "p aux sp ss 0\n", &settings, &none);
+}
+
+/// A hub, vertex 1, with so many rays, both ways.
+fn star(rt: &(impl Abort + AllocGlobal), rays: u32) -> String {
+    let (vertices, arcs) = (rays.saturating_add(1), rays.saturating_mul(2));
+    let mut text = format!(in rt.alloc(); "p sp {vertices} {arcs}\n").expect(rt, "memory");
+    for v in 2..=vertices {
+        let both = format!(in rt.alloc(); "a 1 {v} 2\na {v} 1 3\n").expect(rt, "memory");
+        text.push_str(both.as_str()).expect(rt, "memory");
+    }
+    text
+}
+
+/// The squares of the degrees may add up to 64 for each vertex and each neighbour of one.
+#[test]
+fn a_graph_that_is_too_dense_is_reported(rt: HostRuntime) {
+    let settings = factored(false, 1);
+    for &(rays, became) in &[
+        (191, Factoring::Made),
+        (192, Factoring::Refused(Refusal::Dense)),
+    ] {
+        let graph = star(&rt, rays);
+        let inputs = (graph.as_str(), FROM_ONE);
+        let (ended, notes) = watch_pair(&rt, rt.alloc(), Shortest, inputs, &settings, &OpenGate);
+        assert_eq!(rt; ended, Ok(()));
+        assert_notes(&rt, &notes, &[begun(1, 0), told(became), answered(1)]);
+    }
 }
 
 #[test]

@@ -18,7 +18,7 @@ const THREE: &str = "p aux sp ss 3\ns 1\ns 4\ns 5\n";
 
 /// Keeps all reports, and notes if memory for one was refused.
 #[derive(Drop)]
-struct Notes {
+pub(super) struct Notes {
     reports: Vec<Report>,
     full: bool,
 }
@@ -43,7 +43,7 @@ impl Notes {
 }
 
 /// The report that so many questions over so many diffusions were read.
-fn begun(questions: u32, diffusions: u64) -> Report {
+pub(super) fn begun(questions: u32, diffusions: u64) -> Report {
     Report::Begun {
         questions,
         diffusions,
@@ -66,12 +66,12 @@ fn gathered(question: u32, source: u32, count: u64) -> Report {
 }
 
 /// The report that so many questions are answered.
-fn answered(questions: u32) -> Report {
+pub(super) fn answered(questions: u32) -> Report {
     Report::Answered { questions }
 }
 
 /// How a pair of inputs ends at a gate, and what it reports.
-fn watch_pair<A: PathAlgebra, R: Threads + Wait + Sync, T: Gate>(
+pub(super) fn watch_pair<A: PathAlgebra, R: Threads + Wait + Sync, T: Gate>(
     rt: &R,
     alloc: Global,
     algebra: A,
@@ -116,13 +116,13 @@ fn watch_bundle<A: PathAlgebra, R: Threads + Wait + Sync>(
 }
 
 /// Asserts what was reported.
-fn assert_notes(rt: &impl Abort, notes: &Notes, wanted: &[Report]) {
+pub(super) fn assert_notes(rt: &impl Abort, notes: &Notes, wanted: &[Report]) {
     assert!(rt; !notes.full);
     assert_eq!(rt; notes.reports.as_slice(), wanted);
 }
 
 /// Asserts what questions over `FIVE` report, as two inputs and as one.
-fn assert_reports<A: PathAlgebra>(
+pub(super) fn assert_reports<A: PathAlgebra>(
     rt: &(impl Abort + AllocGlobal + Threads + Wait + Sync),
     algebra: A,
     questions: &str,

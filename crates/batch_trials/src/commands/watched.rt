@@ -227,9 +227,16 @@ fn progress_of_many_questions(rt: HostRuntime) {
 fn words_that_ask_to_see_a_run(rt: HostRuntime) {
     let uncounted = "error: `--plain` and `--factors` count nothing: leave out `--accounts`\n";
     let shown = "diffuse: 1 of 1 questions answered\n";
+    let factored = "diffuse: the graph is factored\ndiffuse: 1 of 1 questions answered\n";
     for &(line, out, errors, status) in &[
         ("diffuse solve g q --progress", SHORTEST, shown, 0),
         ("diffuse solve g q --plain --progress", SHORTEST, shown, 0),
+        (
+            "diffuse solve g q --factors --progress",
+            SHORTEST,
+            factored,
+            0,
+        ),
         ("diffuse solve g q --accounts a", SHORTEST, "", 0),
         (
             "diffuse solve g q --accounts a --progress",

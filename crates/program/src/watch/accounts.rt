@@ -89,6 +89,6 @@ pub(crate) fn write_report<W: RoadWrite>(
             source,
             tally,
         } => write_account(to, *question, source.0, *tally),
-        Report::Answered { .. } => Ok(()),
+        Report::Factored { .. } | Report::Answered { .. } => Ok(()),
     }
 }

@@ -1,9 +1,9 @@
 //! The lines that show how far a batch is.
 ghost use Rattle.std.specs.Prelude.{◌≡◌};
-ghost use Rattle.program.specs.Progress.{due_line, hundredths, is_due, line_of_progress, shown_at};
+ghost use Rattle.program.specs.Progress.{due_line, hundredths, is_due, line_of_factoring, line_of_progress, shown_at};
 ghost use Rattle.program.specs.Watching.{IsAdded};
 
-use batch_run::Report;
+use batch_run::{Factoring, Refusal, Report};
 use road_text::{Line, RoadWrite, push_number, write_bytes};
 
 /// How many whole hundredths of all questions so many are.
@@ -45,12 +45,36 @@ fn show_progress<E: RoadWrite>(errors: &mut E, answered: u32, all: u32)
     }
 }
 
+/// The line that says what became of factoring the graph.
+fn line_of_factoring(became: Factoring) -> &'static str
+    ensures { result.now ≡ line_of_factoring became }
+{
+    match became {
+        Factoring::Made => "diffuse: the graph is factored\n",
+        Factoring::Refused(Refusal::Dense) => {
+            "diffuse: the graph is too dense to factor; searches answer\n"
+        }
+        Factoring::Refused(Refusal::Heavy) => {
+            "diffuse: the graph's sums are too large to factor; searches answer\n"
+        }
+        Factoring::Untried => "diffuse: the graph is not factored; searches answer\n",
+    }
+}
+
+/// Shows what became of factoring the graph.
+fn show_factoring<E: RoadWrite>(errors: &mut E, became: Factoring)
+    ensures { IsAdded (E.seen errors.old) (E.seen errors.new) (line_of_factoring became) }
+{
+    let _ = write_bytes(errors, line_of_factoring(became).as_bytes());
+}
+
 /// Shows what a report says of so many questions.
 pub(crate) fn show_report<E: RoadWrite>(errors: &mut E, all: u32, report: &Report)
     ensures { IsAdded (E.seen errors.old) (E.seen errors.new) (shown_at all report.now) }
 {
     match report {
         Report::Begun { questions, .. } => show_progress(errors, 0, *questions),
+        Report::Factored { became } => show_factoring(errors, *became),
         Report::Gathered { .. } => {}
         Report::Answered { questions } => show_progress(errors, *questions, all),
     }

@@ -71,7 +71,7 @@ fn show<E: RoadWrite>(errors: &mut E, progress: bool, all: u32, report: &Report)
 /// Takes note that the next question is solved, once the questions were read or one was answered.
 fn note_phase<M: Phases>(phases: &M, report: &Report) {
     match report {
-        Report::Gathered { .. } => {}
+        Report::Factored { .. } | Report::Gathered { .. } => {}
         Report::Begun { .. } | Report::Answered { .. } => phases.enter(Phase::Solving),
     }
 }

@@ -7,10 +7,11 @@ use Rattle.batch_run.specs.Answered.{WroteNext}
 use Rattle.batch_run.specs.Causes.{MayStop}
 use Rattle.batch_run.specs.Stopping.{Stops}
 use Rattle.batch_run.specs.Reports.{count_diffusions}
-use Rattle.batch_run.specs.Solvers.{graph_of, is_plain}
+use Rattle.batch_run.specs.Solvers.{MayTell, graph_of, is_plain}
 use Rattle.batch_run.proofs.Progress.{start, answered, stopped_first, stopped_at, stopped_for_memory, all_answered}
-use Rattle.batch_run.proofs.Reporting.{due_first, begun as reports_begun, answered as reports_answered, ended as reports_ended}
-use Rattle.batch_run.proofs.WrittenReports.{at_least, reported_first, reported_within, unreported, written_next, written_still}
+use Rattle.batch_run.proofs.Reporting.{begun as reports_begun}
+use Rattle.batch_run.proofs.Telling.{some_told}
+use Rattle.batch_run.proofs.WrittenReports.{at_least, only_begun, unreported, until_all, until_ended, until_first, until_next, until_stopped}
 use Rattle.batch_run.proofs.answering.answer_all.Goals as goal
 
 pub begin-requires-after_bounds : goal.begin-requires-after_bounds
@@ -23,33 +24,40 @@ returns-in_err-begin-clause-answered g c =
     (MayStop (is_plain c.args.solver.now) (Stops g.A.PathAlgebra.meaning c.args.batch.now.algebra (graph_of c.args.solver.now) c.args.batch.now.run.now.settings.now (g.T.Gate.may_answer c.args.batch.now.run.now.gate.now))) _ _ fault.0 fault.2 (rw fault.2 tt) c.in_err-begin.ensures.wrote)
 
 pub returns-in_err-begin-clause-reported : goal.returns-in_err-begin-clause-reported
-returns-in_err-begin-clause-reported g c = unreported (g.A.PathAlgebra.meaning c.args.batch.now.algebra) (graph_of c.args.solver.now) (asked_of c.args.batch.now.questions.now) c.args.batch.now.run.now.settings.now (is_plain c.args.solver.now) g.O.Watcher.may_become _ _ _ _ c.in_err-begin.ensures.unreported
+returns-in_err-begin-clause-reported g c =
+    let told = some_told c.args.solver.now in
+    unreported (g.A.PathAlgebra.meaning c.args.batch.now.algebra) c.args.batch.now.run.now.settings.now (graph_of c.args.solver.now) (asked_of c.args.batch.now.questions.now) (is_plain c.args.solver.now) (MayTell c.args.solver.now) g.O.Watcher.may_become _ _ told.0 told.1 _ _ c.in_err-begin.ensures.unreported
 
 pub returns-in_err-start-clause-answered : goal.returns-in_err-start-clause-answered
 returns-in_err-start-clause-answered g c =
     let fault = err_from_is_err_and c.from_residual-in_err-start.result c.from_residual-in_err-start.ensures.1 in
     rw fault.1 (stopped_for_memory (g.A.PathAlgebra.meaning c.args.batch.now.algebra) (graph_of c.args.solver.now) (asked_of c.args.batch.now.questions.now)
-    (MayStop (is_plain c.args.solver.now) (Stops g.A.PathAlgebra.meaning c.args.batch.now.algebra (graph_of c.args.solver.now) c.args.batch.now.run.now.settings.now (g.T.Gate.may_answer c.args.batch.now.run.now.gate.now))) _ _ fault.0 fault.2 (rw fault.2 tt)
+    (MayStop (is_plain c.args.solver.now) (Stops g.A.PathAlgebra.meaning c.args.batch.now.algebra (graph_of c.args.solver.now) c.args.batch.now.run.now.settings.now (g.T.Gate.may_answer c.args.batch.now.run.now.gate.now))) _ _ fault.0 fault.2 (rw fault.2 (λ other. absurd (other refl)))
     (start (g.A.PathAlgebra.meaning c.args.batch.now.algebra) (graph_of c.args.solver.now) (asked_of c.args.batch.now.questions.now) _ _ c.in_ok-begin.ensures.wrote))
 
 pub returns-in_err-start-clause-reported : goal.returns-in_err-start-clause-reported
-returns-in_err-start-clause-reported g c = reported_first (g.A.PathAlgebra.meaning c.args.batch.now.algebra) (graph_of c.args.solver.now) (asked_of c.args.batch.now.questions.now) c.args.batch.now.run.now.settings.now (is_plain c.args.solver.now) g.O.Watcher.may_become _ _ _ 0 _
-    (reports_begun (g.A.PathAlgebra.meaning c.args.batch.now.algebra) c.args.batch.now.run.now.settings.now (graph_of c.args.solver.now) g.O.Watcher.may_become (is_plain c.args.solver.now) (asked_of c.args.batch.now.questions.now).questions _ _ _ _ refl (ap (λ b. count_diffusions b (asked_of c.args.batch.now.questions.now).questions) c.is_plain-plain.ensures) c.in_ok-begin.ensures.reported)
-    (at_least (g.A.PathAlgebra.meaning c.args.batch.now.algebra) (graph_of c.args.solver.now) (asked_of c.args.batch.now.questions.now) 0 _ _ (start (g.A.PathAlgebra.meaning c.args.batch.now.algebra) (graph_of c.args.solver.now) (asked_of c.args.batch.now.questions.now) _ _ c.in_ok-begin.ensures.wrote), tt)
+returns-in_err-start-clause-reported g c =
+    let told = some_told c.args.solver.now in
+    only_begun (g.A.PathAlgebra.meaning c.args.batch.now.algebra) c.args.batch.now.run.now.settings.now (graph_of c.args.solver.now) (asked_of c.args.batch.now.questions.now) (is_plain c.args.solver.now) (MayTell c.args.solver.now) g.O.Watcher.may_become _ _ told.0 told.1 _
+    (at_least (g.A.PathAlgebra.meaning c.args.batch.now.algebra) (graph_of c.args.solver.now) (asked_of c.args.batch.now.questions.now) 0 _ _ (start (g.A.PathAlgebra.meaning c.args.batch.now.algebra) (graph_of c.args.solver.now) (asked_of c.args.batch.now.questions.now) _ _ c.in_ok-begin.ensures.wrote)) _
+    (reports_begun (g.A.PathAlgebra.meaning c.args.batch.now.algebra) c.args.batch.now.run.now.settings.now (graph_of c.args.solver.now) g.O.Watcher.may_become (is_plain c.args.solver.now) (asked_of c.args.batch.now.questions.now).questions _ _ _ _ refl
+    (ap (λ b. count_diffusions b (asked_of c.args.batch.now.questions.now).questions) c.is_plain-plain.ensures) c.in_ok-begin.ensures.reported)
 
 pub answer_next-requires-clause-within : goal.answer_next-requires-clause-within
 answer_next-requires-clause-within g c κs within = rw c.loop-i.invariant.same.graph c.requires.within
 
 pub loop-i-init : goal.loop-i-init
 loop-i-init g c =
-    let first = start (g.A.PathAlgebra.meaning c.args.batch.now.algebra) (graph_of c.args.solver.now) (asked_of c.args.batch.now.questions.now) _ _ c.in_ok-begin.ensures.wrote in
+    let header = start (g.A.PathAlgebra.meaning c.args.batch.now.algebra) (graph_of c.args.solver.now) (asked_of c.args.batch.now.questions.now) _ _ c.in_ok-begin.ensures.wrote in
     record {
-      progress = first;
+      progress = header;
       ready = c.in_ok-start.ensures.ready;
       same = c.in_ok-start.ensures.same;
-      reported = reports_begun (g.A.PathAlgebra.meaning c.args.batch.now.algebra) c.args.batch.now.run.now.settings.now (graph_of c.args.solver.now) g.O.Watcher.may_become (is_plain c.args.solver.now) (asked_of c.args.batch.now.questions.now).questions _ _ _ _ refl
-          (ap (λ b. count_diffusions b (asked_of c.args.batch.now.questions.now).questions) c.is_plain-plain.ensures) c.in_ok-begin.ensures.reported;
-      written = (at_least (g.A.PathAlgebra.meaning c.args.batch.now.algebra) (graph_of c.args.solver.now) (asked_of c.args.batch.now.questions.now) 0 _ _ first, tt);
+      first = until_first (g.A.PathAlgebra.meaning c.args.batch.now.algebra) c.args.batch.now.run.now.settings.now (graph_of c.args.solver.now) (asked_of c.args.batch.now.questions.now) (is_plain c.args.solver.now) (MayTell c.args.solver.now) g.O.Watcher.may_become _ _ c.factoring.result
+          (record { moment = c.start.new.solver; graph = c.in_ok-start.ensures.same.graph; kind = c.in_ok-start.ensures.kind; is_true = c.factoring.ensures }) _
+          (at_least (g.A.PathAlgebra.meaning c.args.batch.now.algebra) (graph_of c.args.solver.now) (asked_of c.args.batch.now.questions.now) 0 _ _ header) _
+          (reports_begun (g.A.PathAlgebra.meaning c.args.batch.now.algebra) c.args.batch.now.run.now.settings.now (graph_of c.args.solver.now) g.O.Watcher.may_become (is_plain c.args.solver.now) (asked_of c.args.batch.now.questions.now).questions _ _ _ _ refl
+          (ap (λ b. count_diffusions b (asked_of c.args.batch.now.questions.now).questions) c.is_plain-plain.ensures) c.in_ok-begin.ensures.reported) _ c.report_factoring.ensures.some c.report_factoring.ensures.none;
     }
 
 pub loop-i-preserved : goal.loop-i-preserved
@@ -63,10 +71,8 @@ loop-i-preserved g c =
       progress = progress;
       ready = next.ready;
       same = record { graph = next.same.graph ∙ was.same.graph; kind = next.same.kind ∙ was.same.kind };
-      reported = reports_answered (g.A.PathAlgebra.meaning c.args.batch.now.algebra) c.args.batch.now.run.now.settings.now (graph_of c.args.solver.now) g.O.Watcher.may_become (is_plain c.args.solver.now)
-          (asked_of c.args.batch.now.questions.now).questions c.loop-i.i (c.loop-i.i + 1) (FromSource 0) (search rules) refl _ _ was.reported _
-          (rw (was.same.graph, was.same.kind) at (next.reported (FromSource 0)));
-      written = written_next (g.A.PathAlgebra.meaning c.args.batch.now.algebra) (graph_of c.args.solver.now) (asked_of c.args.batch.now.questions.now) (is_plain c.args.solver.now) c.loop-i.i (FromSource 0) _ _ _ (answer_text wrote.0) (search rules) wrote.2 progress was.written;
+      first = until_next (g.A.PathAlgebra.meaning c.args.batch.now.algebra) c.args.batch.now.run.now.settings.now (graph_of c.args.solver.now) (asked_of c.args.batch.now.questions.now) (is_plain c.args.solver.now) (MayTell c.args.solver.now) g.O.Watcher.may_become _ _ c.loop-i.i _ _ was.first (FromSource 0) _ _ (answer_text wrote.0) (search rules)
+          (rw (was.same.graph, was.same.kind) at (next.reported (FromSource 0))) wrote.2 progress;
     }
 
 pub returns-in_err-answer_next-clause-same : goal.returns-in_err-answer_next-clause-same
@@ -89,18 +95,18 @@ pub returns-in_err-answer_next-clause-reported : goal.returns-in_err-answer_next
 returns-in_err-answer_next-clause-reported g c =
     let was = c.loop-i.invariant in
     let next = c.in_err-answer_next.ensures in
-    reported_within (g.A.PathAlgebra.meaning c.args.batch.now.algebra) (graph_of c.args.solver.now) (asked_of c.args.batch.now.questions.now) c.args.batch.now.run.now.settings.now (is_plain c.args.solver.now) g.O.Watcher.may_become _ _ _ c.loop-i.i _ was.reported
-    (written_still (g.A.PathAlgebra.meaning c.args.batch.now.algebra) (graph_of c.args.solver.now) (asked_of c.args.batch.now.questions.now) (get_or (asked_of c.args.batch.now.questions.now).questions c.loop-i.i (FromSource 0)) _ _ _ c.in_err-answer_next.field-0.0
-    (due_first (is_plain c.args.solver.now) (asked_of c.args.batch.now.questions.now).questions c.loop-i.i)
+    until_stopped (g.A.PathAlgebra.meaning c.args.batch.now.algebra) c.args.batch.now.run.now.settings.now (graph_of c.args.solver.now) (asked_of c.args.batch.now.questions.now) (is_plain c.args.solver.now) (MayTell c.args.solver.now) g.O.Watcher.may_become _ _ c.loop-i.i _ _ was.first (FromSource 0) _ _ c.in_err-answer_next.field-0.0 (search rules)
+    (rw (was.same.graph, was.same.kind) at (next.unreported (FromSource 0)))
     (subst (λ (r : GraphData). WroteNext (g.A.PathAlgebra.meaning c.args.batch.now.algebra) r (get_or (asked_of c.args.batch.now.questions.now).questions c.loop-i.i (FromSource 0))
-    (g.W.RoadWrite.seen c.loop-i.out) (g.W.RoadWrite.seen c.answer_next.new.out) (Err c.in_err-answer_next.field-0.0)) was.same.graph (next.wrote (FromSource 0))) was.written)
-    (FromSource 0) _ (search rules) (rw (was.same.graph, was.same.kind) at (next.unreported (FromSource 0)))
+    (g.W.RoadWrite.seen c.loop-i.out) (g.W.RoadWrite.seen c.answer_next.new.out) (Err c.in_err-answer_next.field-0.0)) was.same.graph (next.wrote (FromSource 0)))
 
 pub returns-clause-answered : goal.returns-clause-answered
 returns-clause-answered g c = all_answered (g.A.PathAlgebra.meaning c.args.batch.now.algebra) (graph_of c.args.solver.now) (asked_of c.args.batch.now.questions.now) (MayStop (is_plain c.args.solver.now) (Stops g.A.PathAlgebra.meaning c.args.batch.now.algebra (graph_of c.args.solver.now) c.args.batch.now.run.now.settings.now (g.T.Gate.may_answer c.args.batch.now.run.now.gate.now))) c.loop-i.i _ _ (search rules) c.loop-i.invariant.progress
 
 pub returns-clause-all : goal.returns-clause-all
-returns-clause-all g c = reports_ended (g.A.PathAlgebra.meaning c.args.batch.now.algebra) c.args.batch.now.run.now.settings.now (graph_of c.args.solver.now) g.O.Watcher.may_become (is_plain c.args.solver.now) (asked_of c.args.batch.now.questions.now).questions c.loop-i.i _ _ (search rules) c.loop-i.invariant.reported
+returns-clause-all g c =
+    until_all (g.A.PathAlgebra.meaning c.args.batch.now.algebra) c.args.batch.now.run.now.settings.now (graph_of c.args.solver.now) (asked_of c.args.batch.now.questions.now) (is_plain c.args.solver.now) (MayTell c.args.solver.now) g.O.Watcher.may_become _ _ c.loop-i.i _ _ c.loop-i.invariant.first (search rules)
 
 pub returns-clause-reported : goal.returns-clause-reported
-returns-clause-reported g c = reported_first (g.A.PathAlgebra.meaning c.args.batch.now.algebra) (graph_of c.args.solver.now) (asked_of c.args.batch.now.questions.now) c.args.batch.now.run.now.settings.now (is_plain c.args.solver.now) g.O.Watcher.may_become _ _ _ c.loop-i.i _ c.loop-i.invariant.reported c.loop-i.invariant.written
+returns-clause-reported g c =
+    until_ended (g.A.PathAlgebra.meaning c.args.batch.now.algebra) c.args.batch.now.run.now.settings.now (graph_of c.args.solver.now) (asked_of c.args.batch.now.questions.now) (is_plain c.args.solver.now) (MayTell c.args.solver.now) g.O.Watcher.may_become _ _ c.loop-i.i _ _ c.loop-i.invariant.first

@@ -1,7 +1,7 @@
 use Rattle.road_files.specs.Asked.{asked_of}
 use Rattle.batch_run.specs.Causes.{MayStop}
 use Rattle.batch_run.specs.Stopping.{Stops}
-use Rattle.batch_run.specs.Solvers.{graph_of, is_plain}
+use Rattle.batch_run.specs.Solvers.{MayTell, graph_of, is_plain}
 use Rattle.batch_run.proofs.Progress.{no_fewer_failures}
 use Rattle.batch_run.proofs.Flushing.{text_flushed, sound_flushed, kind_flushed, failed_flushed, whole_flushed, once_flushed, after_all, reported_flushed}
 use Rattle.batch_run.proofs.Prefixes.{all_or_prefix, passed_on_since}
@@ -48,4 +48,4 @@ pub returns-clause-all : goal.returns-clause-all
 returns-clause-all g c = after_all _ _ c.answer_all-answered.result c.flush_all.result c.answer_all-answered.ensures.all c.flush_all.ensures.passed_on
 
 pub returns-clause-reported : goal.returns-clause-reported
-returns-clause-reported g c = reported_flushed (g.A.PathAlgebra.meaning c.args.batch.now.algebra) c.args.batch.now.run.now.settings.now (graph_of c.args.solver.now) (asked_of c.args.batch.now.questions.now) (is_plain c.args.solver.now) g.O.Watcher.may_become _ _ _ _ _ c.flush_all.ensures.bytes c.answer_all-answered.ensures.reported
+returns-clause-reported g c = reported_flushed (g.A.PathAlgebra.meaning c.args.batch.now.algebra) c.args.batch.now.run.now.settings.now (graph_of c.args.solver.now) (asked_of c.args.batch.now.questions.now) (is_plain c.args.solver.now) (MayTell c.args.solver.now) g.O.Watcher.may_become _ _ _ _ _ c.flush_all.ensures.bytes c.answer_all-answered.ensures.reported

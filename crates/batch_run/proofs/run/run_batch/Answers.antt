@@ -2,13 +2,16 @@ use Rattle.std.proofs.Common.{refl, subst, Bool}
 use Rattle.std.proofs.lemmas.Result.{err_from_is_err_and}
 use Rattle.road_files.specs.Asked.{asked_of}
 use Rattle.batch_run.specs.Causes.{MayStop, fault_of}
-use Rattle.batch_run.specs.Reports.{Reported, ReportedWritten, batch_due}
+use Rattle.batch_run.specs.Choice.{without_diffusions}
+use Rattle.batch_run.specs.Reports.{IsTold, ReportedWhole, ReportedWritten}
 use Rattle.batch_run.specs.Stopping.{Stops}
-use Rattle.batch_run.specs.Solvers.{graph_of}
+use Rattle.batch_run.specs.Solvers.{MayTell, graph_of}
 use Rattle.batch_run.proofs.CauseCases.{no_setting}
 use Rattle.batch_run.proofs.OfInputs.{ran_stopped, ran_whole}
 use Rattle.batch_run.proofs.Reporting.{watched_all, watched_first}
 use Rattle.batch_run.proofs.Stopped.{says_of_cause, stopped_for}
+use Rattle.batch_run.proofs.Telling.{told_by_kind}
+use Rattle.batch_run.proofs.WrittenReports.{whole_wider, written_wider}
 use Rattle.batch_run.proofs.run.run_batch.Goals as goal
 
 pub returns-in_err-answer_and_flush : goal.returns-in_err-answer_and_flush
@@ -31,8 +34,9 @@ returns-in_err-answer_and_flush g c =
       read = g.met.I.BatchInput.later c.args.input.now c.read_batch.new.input (fault_of cause) refl (no_setting cause) c.in-Ok.ensures.done;
       stopped = stopped_for g.A.PathAlgebra.meaning c.args.algebra roads how gate _ cause may is_read asked c.in-Ok.ensures.read;
       watched = watched_first A how is_read g.O.Watcher.may_become _ _ _ _ roads asked c.in-Ok.ensures.read cause
-          (subst (λ (b : Bool). ReportedWritten A how roads asked b g.O.Watcher.may_become c.args.watcher.now c.answer_and_flush.new.watcher (g.W.RoadWrite.seen c.args.out.now)
-          (g.W.RoadWrite.seen c.answer_and_flush.new.out)) c.in-Ok.ensures.kind was.reported);
+          (written_wider A how roads asked (without_diffusions how) (MayTell c.in-Ok.read.0) (IsTold how.factors) (told_by_kind c.in-Ok.read.0 how.factors c.in-Ok.ensures.factors) g.O.Watcher.may_become _ _ _ _
+          (subst (λ (b : Bool). ReportedWritten A how roads asked b (MayTell c.in-Ok.read.0) g.O.Watcher.may_become c.args.watcher.now c.answer_and_flush.new.watcher (g.W.RoadWrite.seen c.args.out.now)
+          (g.W.RoadWrite.seen c.answer_and_flush.new.out)) c.in-Ok.ensures.kind was.reported));
     })
 
 pub returns : goal.returns
@@ -51,5 +55,6 @@ returns g c =
       read = c.in-Ok.ensures.done;
       stopped = record { stalled = tt; gated = tt };
       watched = watched_all A how is_read g.O.Watcher.may_become _ _ _ _ roads asked c.in-Ok.ensures.read
-          (subst (λ (b : Bool). Reported A how roads g.O.Watcher.may_become (batch_due b asked.questions) c.args.watcher.now c.answer_and_flush.new.watcher) c.in-Ok.ensures.kind was.all);
+          (whole_wider A how roads asked (without_diffusions how) (MayTell c.in-Ok.read.0) (IsTold how.factors) (told_by_kind c.in-Ok.read.0 how.factors c.in-Ok.ensures.factors) g.O.Watcher.may_become _ _ (g.W.RoadWrite.seen c.args.out.now) (g.W.RoadWrite.seen c.args.out.now)
+          (subst (λ (b : Bool). ReportedWhole A how roads b (MayTell c.in-Ok.read.0) asked.questions g.O.Watcher.may_become c.args.watcher.now c.answer_and_flush.new.watcher) c.in-Ok.ensures.kind was.all));
     }

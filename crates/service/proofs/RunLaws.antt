@@ -77,6 +77,7 @@ module _ {V G Q W : Type 0} (A : Algebra V) (how : Settings) (gate : ℕ → ℕ
     read_graph = (λ e. absurd (other_file _ _ _ questions_or_graph refl e), λ failed. absurd (failed sound));
     read_input = (λ e. failed.0 (number_of _ _ _ refl e), λ lost. rw (failed.1 lost) refl);
     kinds = inr (inl (refl, (which, refl)));
+    unfactored = λ file. absurd (let bad : Questions ≡ NoFile = file in cc);
     placed = λ few. refl;
     before_requests = λ file. absurd (questions_or_graph file);
     untouched = λ setting. absurd (low 43 (omega arith) setting);
@@ -88,6 +89,32 @@ module _ {V G Q W : Type 0} (A : Algebra V) (how : Settings) (gate : ℕ → ℕ
         | inl one ↦ omega (arith, high, e, one)
         | inr two ↦ omega (arith, high, e, two)
       ]
+
+  -- memory was refused while the graph was factored
+  pub unfactored : how.factors ≡ true → input_after ≡ input → out_after ≡ out
+      → RanService A how gate graph graph_after input input_after out out_after (Err (record { number = 3; file = NoFile; line = 0 }))
+  unfactored chosen unread unwritten = record {
+    done = tt;
+    passed_on = tt;
+    sound = tt;
+    ends = tt;
+    stopped = λ file one. absurd (let bad : NoFile ≡ Questions = file in cc);
+    too_long = λ file two. absurd (let bad : NoFile ≡ Questions = file in cc);
+    nothing_held = λ file. absurd (let bad : NoFile ≡ Questions = file in cc);
+    fell = λ write. absurd (omega (arith, write));
+    refused = λ no. absurd (no inside);
+    settings = λ e. absurd (other_number _ _ _ (λ n. omega (arith, n)) refl e);
+    graph_fault = λ file. absurd (let bad : NoFile ≡ Graph = file in cc);
+    graph_memory = λ file. absurd (let bad : NoFile ≡ Graph = file in cc);
+    read_graph = (λ e. absurd (other_number _ _ _ (λ n. omega (arith, n)) refl e), λ failed. absurd (failed sound));
+    read_input = (λ e. absurd (other_number _ _ _ (λ n. omega (arith, n)) refl e), λ failed. absurd (failed (ap (λ (i : Input Q). i.failures) unread)));
+    kinds = inr (inr (refl, refl, inl refl));
+    unfactored = λ file three. (chosen, (g, read, tt), end, unread, unwritten);
+    placed = λ few. refl;
+    before_requests = λ file. absurd (let bad : NoFile ≡ Graph = file in cc);
+    untouched = λ setting. absurd (omega (arith, setting));
+    asked = asked;
+  }
 
   -- a write failed
   pub fell : ServedPart (MayAnswer A how gate g) g.vertices input.left out out_after → input_after.failures ≡ input.failures
@@ -107,7 +134,8 @@ module _ {V G Q W : Type 0} (A : Algebra V) (how : Settings) (gate : ℕ → ℕ
     graph_memory = λ file. absurd (let bad : NoFile ≡ Graph = file in cc);
     read_graph = (λ e. absurd (other_number _ _ _ (λ n. omega (arith, n)) refl e), λ failed. absurd (failed sound));
     read_input = (λ e. absurd (other_number _ _ _ (λ n. omega (arith, n)) refl e), λ failed. absurd (failed input_sound));
-    kinds = inr (inr (refl, refl, inl refl));
+    kinds = inr (inr (refl, refl, inr (inl refl)));
+    unfactored = λ file three. absurd (omega (arith, three));
     placed = λ few. refl;
     before_requests = λ file. absurd (let bad : NoFile ≡ Graph = file in cc);
     untouched = λ setting. absurd (omega (arith, setting));
@@ -137,6 +165,7 @@ module _ {V G Q W : Type 0} (A : Algebra V) (how : Settings) (gate : ℕ → ℕ
     read_graph = (λ e. told (number_of _ _ _ refl e), λ failed. one_line (is_one f.number graph_after.failures graph.failures untold failed));
     read_input = (λ e. absurd (other_file _ _ _ graph_or_questions refl e), λ failed. absurd (failed refl));
     kinds = inl (refl, numbered);
+    unfactored = λ file. absurd (graph_or_none file);
     placed = placed;
     before_requests = λ file. (refl, refl);
     untouched = λ setting. absurd (of_input 43 (omega arith) setting);

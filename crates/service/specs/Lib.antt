@@ -4,3 +4,4 @@ pub mod Replies
 pub mod Answering
 pub mod Fed
 pub mod Served
+pub mod Factoring

@@ -62,12 +62,16 @@ pub record RanService {V G Q W : Type 0} (A : Algebra V) (how : Settings) (gate 
   pub read_graph : (outcome ≡ Err (record { number = 1; file = Graph; line = 0 })) ↔ (graph_after.failures ≢ graph.failures)
   -- and of the requests exactly if a read of them failed
   pub read_input : (outcome ≡ Err (record { number = 1; file = Questions; line = 0 })) ↔ (input_after.failures ≢ input.failures)
-  -- a fault is one of the graph, with a number of its own, one of the input of requests, a failed
-  -- write, or a setting
+  -- a fault is one of the graph, with a number of its own, one of the input of requests, or one of no
+  -- input: memory that was refused while the graph was factored, a failed write, or a setting
   pub kinds : IfErr outcome (λ f.
       ((f.file ≡ Graph) × IsRoadNumber f.number)
       ⊎ (((f.file ≡ Questions) × IsStopOfInput f)
-      ⊎ ((f.file ≡ NoFile) × (f.line ≡ 0) × ((f.number ≡ 42) ⊎ (f.number ≡ 43)))))
+      ⊎ ((f.file ≡ NoFile) × (f.line ≡ 0) × ((f.number ≡ 3) ⊎ ((f.number ≡ 42) ⊎ (f.number ≡ 43))))))
+  -- 3 is reported of no input only if factors are chosen, once the graph was read to its end, and
+  -- before anything of the requests is read, and before anything is written
+  pub unfactored : IfErr outcome (λ f. f.file ≡ NoFile → f.number ≡ 3 → (how.factors ≡ true)
+      × OverGraph graph.left (λ g. Unit {0}) × IsAtEnd graph_after.left × (input_after ≡ input) × (out_after ≡ out))
   -- faults 1 to 3 are in no line
   pub placed : IfErr outcome (λ f. f.number ≤ 3 → f.line ≡ 0)
   -- a fault of the graph is reported before anything of the requests is read, and before anything is written

@@ -1,20 +1,22 @@
 //! Runs a service from bytes to bytes.
-ghost use Rattle.std.specs.Prelude.{◌≡◌, IfOk};
+ghost use Rattle.std.specs.Prelude.{◌≡◌, true, IfOk, IfErr, OnOk, OnErr};
 ghost use Rattle.road_text.specs.Reads.{ReadsText};
 ghost use Rattle.graph_text.specs.GraphFiles.{gr_rules};
+ghost use Rattle.batch_run.specs.Causes.{number_of};
 ghost use Rattle.batch_run.specs.Choice.{without_diffusions};
-ghost use Rattle.batch_run.specs.Solvers.{graph_of, is_plain};
+ghost use Rattle.batch_run.specs.Solvers.{IsSameSolver, graph_of, is_by_factors, is_plain};
+ghost use Rattle.service.specs.Factoring.{HasFactorsOf};
 ghost use Rattle.service.specs.Served.{RanService};
 
 use crate::batch_answers::BatchAnswers;
 use crate::serving::{Stopped, serve};
 use batch_run::{
-    FactorSolver, File, Gate, PlainSolver, Run, RunFault, SETTINGS, Solver, SolverKind, WRITE,
-    WorkerSolver, fault_in, fault_of_run,
+    Cause, FactorSolver, File, Gate, PlainSolver, Run, RunFault, SETTINGS, Solver, SolverKind,
+    WRITE, WorkerSolver, fault_in, fault_of_run,
 };
 use graph_text::read_gr_as;
 use path_algebra::PathAlgebra;
-use road_graph::{Graph, OutGraph};
+use question_solvers::factor;
 use road_text::{READ_FAILED, ReadFault, RoadRead, RoadWrite, TOO_LONG};
 use std::sync::Wait;
 use std::thread::Threads;
@@ -34,30 +36,40 @@ fn read_solver<A: PathAlgebra, G: RoadRead, R, T>(
     ensures reads { ReadsText (G.seen graph_in.old) (G.seen graph_in.new) gr_rules graph_of
         10 19 result }
     ensures kind { IfOk result (λ s. is_plain s ≡ without_diffusions run.now.settings.now) }
+    ensures factors { IfOk result (λ s. is_by_factors s ≡ run.now.settings.now.factors) }
 {
     match run.settings.solver() {
         SolverKind::Plain => {
-            let graph: OutGraph = match read_gr_as(run.alloc, graph_in) {
-                Ok(graph) => graph,
-                Err(fault) => return Err(fault),
-            };
+            let graph = read_gr_as(run.alloc, graph_in)?;
             Ok(Solver::Plain(PlainSolver::new(run.alloc, graph)))
         }
         SolverKind::Factors => {
-            let graph: OutGraph = match read_gr_as(run.alloc, graph_in) {
-                Ok(graph) => graph,
-                Err(fault) => return Err(fault),
-            };
+            let graph = read_gr_as(run.alloc, graph_in)?;
             Ok(Solver::Factors(FactorSolver::new(run.alloc, graph)))
         }
         SolverKind::Workers => {
-            let graph: Graph = match read_gr_as(run.alloc, graph_in) {
-                Ok(graph) => graph,
-                Err(fault) => return Err(fault),
-            };
+            let graph = read_gr_as(run.alloc, graph_in)?;
             Ok(Solver::Workers(WorkerSolver::new(run.alloc, graph)))
         }
     }
+}
+
+/// Factors the graph of a solver that answers by factors. The only error is want of memory.
+fn factor_graph<A: PathAlgebra, R, T>(
+    run: &Run<'_, R, T>,
+    algebra: A,
+    solver: &mut Solver<A>,
+) -> Result<(), Cause>
+    ensures same { IsSameSolver solver.old solver.new }
+    ensures factors { OnOk result (HasFactorsOf (A.meaning algebra) solver.new) }
+    ensures memory { IfErr result (λ cause. number_of cause ≡ 3) }
+    ensures chosen { OnErr result (is_by_factors solver.old ≡ true) }
+{
+    let Solver::Factors(by_factors) = solver else {
+        return Ok(());
+    };
+    factor(run.alloc, algebra, by_factors)?;
+    Ok(())
 }
 
 /// Reads a graph from one input, and replies to each request of another input as soon as it is whole.
@@ -68,9 +80,9 @@ fn read_solver<A: PathAlgebra, G: RoadRead, R, T>(
 /// fault of the run (3, 40, 41) does the same, with LINE 0.
 ///
 /// The settings are tested first (43), and if they choose factors, whether the algebra has any (43 too). Then the graph is
-/// read: a fault of the graph is reported before any request is read. The first request finds its factors, if they are chosen.
-/// The service ends at the end of the input, after a failed read (1), at a request with more than 2^32 bytes (2),
-/// or after a failed write or flush (42).
+/// read, and factored, if they choose that. A fault of the graph, or want of memory while it is factored (3, of no input), is
+/// reported before any request is read. The service ends at the end of the input, after a failed read (1), at a request with
+/// more than 2^32 bytes (2), or after a failed write or flush (42).
 pub fn run_service<
     A: PathAlgebra,
     G: RoadRead,
@@ -96,6 +108,7 @@ pub fn run_service<
         Ok(solver) => solver,
         Err(fault) => return Err(fault_in(File::Graph, fault)),
     };
+    factor_graph(run, algebra, &mut solver)?;
     let answers = BatchAnswers { run, algebra };
     let served = serve(&answers, &mut solver, requests_in, out);
     drop(solver);

@@ -34,6 +34,14 @@ pub(crate) fn plain() -> Settings {
     }
 }
 
+/// The settings of a service that factors its graph.
+pub(crate) fn by_factors() -> Settings {
+    Settings {
+        factors: true,
+        ..Settings::default()
+    }
+}
+
 /// How a service over a graph ends.
 pub(crate) fn serve<A: PathAlgebra, Q: RoadRead, W: RoadWrite, R: Threads + Wait + Sync, T: Gate>(
     run: &Run<'_, R, T>,

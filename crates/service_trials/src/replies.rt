@@ -1,7 +1,7 @@
 //! Requests with their replies.
 use crate::asking::{
-    ALL_KINDS, ALL_REPLIES, FIVE, ONE, ONE_REPLY, assert_pieces, assert_replies, joined, plain,
-    serve_with,
+    ALL_KINDS, ALL_REPLIES, FIVE, ONE, ONE_REPLY, assert_pieces, assert_replies, by_factors,
+    joined, plain, serve_with,
 };
 use batch_run::Settings;
 use path_algebra::Widest;
@@ -22,6 +22,11 @@ fn each_kind_by_workers(rt: HostRuntime) {
         ..Settings::default()
     };
     assert_pieces(&rt, ALL_KINDS, 5, ALL_REPLIES, &settings);
+}
+
+#[test]
+fn each_kind_by_factors(rt: HostRuntime) {
+    assert_pieces(&rt, ALL_KINDS, 5, ALL_REPLIES, &by_factors());
 }
 
 #[test]

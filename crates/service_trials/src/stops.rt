@@ -2,7 +2,7 @@
 ghost use Rattle.std.specs.Prelude.{◌≡◌, false};
 
 use crate::asking::{
-    ALL_KINDS, ALL_REPLIES, FIVE, ONE, ONE_REPLY, joined, plain, serve, serve_with,
+    ALL_KINDS, ALL_REPLIES, FIVE, ONE, ONE_REPLY, by_factors, joined, plain, serve, serve_with,
 };
 use batch_run::{File, Gate, OpenGate, Run, RunFault, Settings};
 use path_algebra::Shortest;
@@ -80,6 +80,24 @@ fn a_fault_of_the_graph_comes_first(rt: HostRuntime) {
         line: 1,
     };
     assert_eq!(rt; ended, Err(fault));
+    assert_eq!(rt; out.into_inner().len(), 0);
+}
+
+/// Whatever growth is refused while the graph is read and factored, no request is read: the first read would fail.
+#[test]
+fn want_of_memory_comes_before_the_first_read(rt: HostRuntime) {
+    let mut input = Pieces::new(b"", 1, true);
+    let mut out = Plain::new(Vec::new(rt.alloc()));
+    let ended = serve_with(&rt, &by_factors(), Shortest, FIVE, &mut input, &mut out);
+    let Err(fault) = ended else {
+        panic!(rt; "a failed read")
+    };
+    match fault.file {
+        File::Questions => assert_eq!(rt; fault.number, 1),
+        File::Graph | File::NoFile => assert_eq!(rt; fault.number, 3),
+        _ => panic!(rt; "another input"),
+    }
+    assert_eq!(rt; fault.line, 0);
     assert_eq!(rt; out.into_inner().len(), 0);
 }
 

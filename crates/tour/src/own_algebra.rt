@@ -1,4 +1,9 @@
 //! Files and an algebra of one's own: a bundle is answered from bytes to bytes, and its answers are judged.
+ghost use Rattle.std.specs.Prelude.{Some, [], IfOk};
+ghost use Rattle.batch_run.specs.Ran.{Done, IsBundleOf};
+ghost use Rattle.tour.specs.InMemory.{in_memory};
+ghost use Rattle.tour.specs.Stops.{stops};
+
 use crate::fault::Fault;
 use crate::stops::Stops;
 use answer_check::{Verdict, check};
@@ -18,11 +23,10 @@ const BUNDLE: &str =
 const WRONG: &str = "p ans ss 1 own\ns 1\nd 1 0 0 0\nd 2 6 1 1\nd 3 3 1 1\nd 4 14 2 2\nu 5\n";
 
 /// The text of the right answers to a bundle.
-fn answered<R: Threads + Wait + Sync>(
-    rt: &R,
-    alloc: Global,
-    bundle: &str,
-) -> Result<Vec<u8>, Fault> {
+fn answered<R: Threads + Wait + Sync>(rt: &R, alloc: Global, bundle: &str) -> Result<Vec<u8>, Fault>
+    ensures { IfOk result (λ text. Done stops (IsBundleOf (Some bundle.now)) (in_memory [])
+        (in_memory text.items)) }
+{
     let mut input = Plain::new(bundle.as_bytes());
     let mut out = Plain::new(Vec::new(alloc));
     let settings = Settings::default();

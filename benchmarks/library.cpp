@@ -3,7 +3,7 @@
 //
 //     library GRAPH PAIRS NEAR_PAIRS ROUNDS
 //
-// Each round asks all of them for a tree, a route and a near route, by the pairs in turn, and each seventh round for a table of
+// Each round asks all of them for a tree, a route and a hundred near routes, by the pairs in turn, and each seventh round for a table of
 // the first hundred sources and targets; another one begins each time. A line for each, with commas: its name, the bytes of its
 // graph and of its factors, microseconds of processor time for opening and for factoring, and for each kind of answer a check
 // number and the microseconds of each round. libdiffuse is asked with its graph as it is, and factored.
@@ -118,6 +118,16 @@ static std::pair<Vertices, Vertices> ends_of(const vector<Pair>& pairs) {
     return ends;
 }
 
+// A hundred near routes one after the other, since what a route costs depends on the one before: the sum of their distances.
+uint64_t near_routes(Peer& peer, const vector<Pair>& pairs, size_t round) {
+    uint64_t sum = 0;
+    for (size_t i = 0; i < 100; i++) {
+        Pair pair = pairs[(100 * round + i) % pairs.size()];
+        sum += peer.route(pair.source, pair.target);
+    }
+    return sum;
+}
+
 int main(int count, char** words) {
     if (count != 5) stop("usage: library GRAPH PAIRS NEAR_PAIRS ROUNDS");
     ArcList list = read_graph(words[1]);
@@ -128,13 +138,13 @@ int main(int count, char** words) {
     for (auto& peer : peers) peer->begin(list);
     size_t rounds = std::strtoul(words[4], nullptr, 10);
     for (size_t round = 0; round < rounds; round++) {
-        Pair pair = pairs[round % pairs.size()], near = near_pairs[round % near_pairs.size()];
+        Pair pair = pairs[round % pairs.size()];
         for (size_t i = 0; i < peers.size(); i++) {
             Peer& peer = *peers[(i + round) % peers.size()];
             peer.ask(TREE, [&] { return peer.tree(pair.source); });
             if (!peer.finds_routes()) continue;
             peer.ask(ROUTE, [&] { return peer.route(pair.source, pair.target); });
-            peer.ask(NEAR_ROUTE, [&] { return peer.route(near.source, near.target); });
+            peer.ask(NEAR_ROUTES, [&] { return near_routes(peer, near_pairs, round); });
             if (round % 7 == 0) peer.ask(TABLE, [&, &sources = sources, &targets = targets] { return peer.table(sources, targets); });
         }
     }

@@ -19,7 +19,7 @@ from report import Table, ratio, seconds, spread
 
 SIZES = [("New York's size", (264346, 733846)), ("Florida's size", (1070376, 2712798))]
 LIBRARY, FACTORED, BASELINE = "libdiffuse", "libdiffuse with factors", "baseline"
-TREE, ROUTE, NEAR_ROUTE, TABLE = range(4)
+TREE, ROUTE, NEAR_ROUTES, TABLE = range(4)
 ENDS = 100
 
 # What is aimed at for the C library, to the baseline: a tree, a route, and a graph that is kept.
@@ -106,12 +106,12 @@ def peers_of(program, graph, rounds):
 
 def library_of(found):
     """Processor time, medians over the rounds, and bytes."""
-    table = Table("Libraries, a graph that is kept: ratios as median (quartiles)", ["Graph", "Library", "Open", "Tree", "Ratio", "Route", "Ratio", "Near route", "Ratio", "Graph, MB", "Ratio"])
+    table = Table("Libraries, a graph that is kept: ratios as median (quartiles)", ["Graph", "Library", "Open", "Tree", "Ratio", "Route", "Ratio", "100 near routes", "Ratio", "Graph, MB", "Ratio"])
     for one in found:
         baseline = one.peers[BASELINE]
         for peer in one.peers.values():
             row = [one.name, peer.name, seconds(peer.opening)]
-            for kind in (TREE, ROUTE, NEAR_ROUTE):
+            for kind in (TREE, ROUTE, NEAR_ROUTES):
                 row += [seconds(peer.times[kind]), spread(one.ratios(peer.name, kind))] if peer.times[kind] else ["", ""]
             table.rows.append(row + ["%.1f" % (peer.bytes / 1e6), ratio(peer.bytes / baseline.bytes)])
     return table

@@ -17,7 +17,7 @@ static size_t bytes_in_use() {
 }
 
 // What is asked for: all distances from a source, a route, a route to a neighbour, and the distances from many to many.
-enum Kind { TREE, ROUTE, NEAR_ROUTE, TABLE, KINDS };
+enum Kind { TREE, ROUTE, NEAR_ROUTES, TABLE, KINDS };
 
 using Vertices = vector<uint32_t>;
 

@@ -1,7 +1,7 @@
 """Builds the wheel of the package with the C library in it: a build backend (PEP 517) without requirements.
 
 The library is DIFFUSE_LIBRARY, if that names one; or it is linked by examples/c/install from the archive that `rt lib` makes in
-crates/libdiffuse, or that DIFFUSE_ARCHIVE names.
+crates/diffuse_c, or that DIFFUSE_ARCHIVE names.
 """
 import base64
 import hashlib
@@ -70,9 +70,9 @@ def library():
     named = os.environ.get("DIFFUSE_LIBRARY")
     if named:
         return Path(named).read_bytes()
-    archive = Path(os.environ.get("DIFFUSE_ARCHIVE") or TOP / "crates/libdiffuse/out/liblibdiffuse.a")
+    archive = Path(os.environ.get("DIFFUSE_ARCHIVE") or TOP / "crates/diffuse_c/out/libdiffuse_c.a")
     if not archive.exists():
-        raise SystemExit(f"there is no {archive}: run `rt lib` in crates/libdiffuse, or let DIFFUSE_LIBRARY name a libdiffuse.so")
+        raise SystemExit(f"there is no {archive}: run `rt lib` in crates/diffuse_c, or let DIFFUSE_LIBRARY name a libdiffuse.so")
     settings = {name: value for name, value in os.environ.items() if name not in ("DESTDIR", "LIBDIR")}
     with tempfile.TemporaryDirectory() as prefix:
         command = [TOP / "examples/c/install", prefix, archive.resolve()]

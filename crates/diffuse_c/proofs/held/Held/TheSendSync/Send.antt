@@ -1,0 +1,32 @@
+-- What a handle owns may go to another thread.
+use Rattle.std.proofs.Common.{Option, Some, None}
+use mir.Raw.{raw}
+use base.Fraction.{full_share}
+use base.Shift.{Keyless}
+use denote.Memory.{lone}
+use denote.Builtin.{RawPtr}
+use denote.RattleType.{RattleType}
+use denote.RawPtr.{Ptr, block_ptr, null_ptr, lies_at}
+use denote.Param.Send.{IsSend, owning_send, part_keyless, sendable}
+use Rattle.std.proofs.Crossing.{crosses, frees}
+use Rattle.road_graph.specs.GraphData.{GraphData}
+use Rattle.answer_lists.specs.contracts.kept_searcher.KeptSearcher as kept
+use Rattle.diffuse_c.specs.Holding.{held_at, shared_row, the_heap}
+use Rattle.diffuse_c.specs.contracts.held.Held.{the_row, the_type}
+
+lies : (R : RattleType) → IsSend R → (p : Ptr) (x : R.Denot) → Keyless (lies_at R full_share p x)
+lies R s (block_ptr b o) x = part_keyless R s full_share x b o
+lies R s null_ptr x = tt
+
+searching : IsSend kept.the_row
+searching = search (sendable, crosses) depth 60 fits 100000
+
+inside : IsSend shared_row
+inside = search (sendable, crosses, searching) depth 60 fits 100000
+
+keyless : (p : Ptr) (x : Option (GraphData)) → Keyless (held_at p x)
+keyless p None = tt
+keyless p (Some g) = (lies shared_row inside p g, frees.frees the_heap (raw (lone shared_row.mir)) p)
+
+pub send : IsSend the_row
+send = let ps : IsSend RawPtr = search sendable in owning_send the_type (ps, tt) (λ d. keyless d.at d.roads) (λ k x w. tt)

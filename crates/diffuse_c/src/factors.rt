@@ -1,0 +1,36 @@
+//! The call that factors a graph.
+
+ghost use Rattle.std.specs.Prelude.{◌≡◌, ◌↔◌, ◌∷◌, [], pos, None};
+ghost use Rattle.path_algebra.specs.Choices.{IsAlgebra, OfAlgebra};
+ghost use Rattle.answer_lists.specs.Answers.{IsOneOf};
+ghost use Rattle.answer_lists.specs.Factoring.{IsTooHeavy};
+ghost use Rattle.diffuse_c.specs.Holding.{OfGraph};
+
+use crate::handle::{DiffuseGraph, put, take};
+use crate::status::CLOSED;
+use answer_lists::factor_graph;
+use std::alloc::Global;
+
+/// Factors the graph for the algebra of a number, at every limit. Routes, trees and tables that are asked for afterwards, by this
+/// handle and those opened from it later, use the factors. They are answered the same.
+#[unsafe(no_mangle)]
+pub extern "C" fn diffuse_graph_factor(
+    alloc: Global,
+    handle: &mut DiffuseGraph,
+    algebra: u32,
+) -> i32
+    ensures kept { handle.new.held.roads ≡ handle.old.held.roads }
+    ensures heavy { OfGraph handle.old.held.roads (λ g. result ≡ pos 8 → OfAlgebra algebra 0
+        (λ V A. IsTooHeavy A g)) }
+    ensures algebra { OfGraph handle.old.held.roads
+        (λ g. (result ≡ pos 43) ↔ (IsAlgebra algebra 0 → ⊥)) }
+    ensures closed { (result ≡ pos 4) ↔ (handle.old.held.roads ≡ None) }
+    ensures status { IsOneOf (0 ∷ 3 ∷ 4 ∷ 7 ∷ 8 ∷ 9 ∷ 43 ∷ []) result }
+{
+    let Some(mut owner) = take(alloc, handle) else {
+        return CLOSED;
+    };
+    let status = factor_graph(alloc, algebra, &mut owner);
+    put(handle, owner);
+    status
+}

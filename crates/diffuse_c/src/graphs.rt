@@ -1,0 +1,114 @@
+//! The calls that open and close handles, and report the size of a graph.
+
+ghost use Rattle.std.specs.Prelude.{◌≡◌, ◌≢◌, ◌↔◌, ◌∷◌, [], length, pos, MatchOption, Some, None, true};
+ghost use Rattle.road_graph.specs.GraphData.{IsGraph};
+ghost use Rattle.answer_lists.specs.Answers.{IsOneOf};
+ghost use Rattle.diffuse_c.specs.Holding.{has_graph};
+ghost use Rattle.diffuse_c.specs.Lent.{IsBadlyJoined, IsTooLarge, lent};
+
+use crate::arcs::DiffuseArc;
+use crate::handle::{DiffuseGraph, put, take};
+use crate::opening::owner_of;
+use crate::owners::try_clone;
+use crate::status::{CLOSED, OPEN};
+use answer_lists::{DONE, MEMORY};
+use road_graph::Memory;
+use std::alloc::Global;
+
+/// Opens a closed handle with the graph of these arcs. They may be changed or freed afterwards.
+#[unsafe(no_mangle)]
+pub extern "C" fn diffuse_graph_open(
+    alloc: Global,
+    vertices: u32,
+    arcs: &[DiffuseArc],
+    handle: &mut DiffuseGraph,
+) -> i32
+    ensures graph { result ≡ pos 0 → handle.new.held.roads ≡ Some (lent vertices arcs.now) }
+    ensures kept { result ≢ pos 0 → handle.new.held.roads ≡ handle.old.held.roads }
+    ensures status { IsOneOf (0 ∷ 3 ∷ 5 ∷ 16 ∷ 17 ∷ []) result }
+    ensures open { (result ≡ pos 5) ↔ (has_graph handle.old.held.roads ≡ true) }
+    ensures limit { (result ≡ pos 16) ↔ ((handle.old.held.roads ≡ None) × IsTooLarge vertices
+        arcs.now) }
+    ensures bad { (result ≡ pos 17) ↔ ((handle.old.held.roads ≡ None) × IsBadlyJoined vertices
+        arcs.now) }
+    ensures roads { IsOneOf (0 ∷ 3 ∷ []) result → IsGraph (lent vertices arcs.now) }
+{
+    if handle.is_open {
+        return OPEN;
+    }
+    match owner_of(alloc, vertices, arcs) {
+        Ok(owner) => {
+            put(handle, owner);
+            DONE
+        }
+        Err(status) => status,
+    }
+}
+
+/// Opens a closed handle with the graph of an open one. Each may then be used on a thread of its own.
+#[unsafe(no_mangle)]
+pub extern "C" fn diffuse_graph_share(
+    alloc: Global,
+    handle: &mut DiffuseGraph,
+    second: &mut DiffuseGraph,
+) -> i32
+    ensures kept { handle.new.held.roads ≡ handle.old.held.roads }
+    ensures graph { result ≡ pos 0 → second.new.held.roads ≡ handle.old.held.roads }
+    ensures unchanged { result ≢ pos 0 → second.new.held.roads ≡ second.old.held.roads }
+    ensures status { IsOneOf (0 ∷ 3 ∷ 4 ∷ 5 ∷ []) result }
+    ensures open { (result ≡ pos 5) ↔ (has_graph second.old.held.roads ≡ true) }
+    ensures closed { (result ≡ pos 4) ↔ ((second.old.held.roads ≡ None) ×
+        (handle.old.held.roads ≡ None)) }
+{
+    if second.is_open {
+        return OPEN;
+    }
+    let Some(mut owner) = take(alloc, handle) else {
+        return CLOSED;
+    };
+    let status = match try_clone(alloc, &mut owner) {
+        Ok(other) => {
+            put(second, other);
+            DONE
+        }
+        Err(Memory) => MEMORY,
+    };
+    put(handle, owner);
+    status
+}
+
+/// Closes a handle. The graph is freed with the last handle that has it; a closed handle stays closed.
+#[unsafe(no_mangle)]
+pub extern "C" fn diffuse_graph_close(alloc: Global, handle: &mut DiffuseGraph)
+    ensures { handle.new.held.roads ≡ None }
+{
+    let _owner = take(alloc, handle);
+}
+
+/// How many vertices the graph of a handle has; 0 if it is closed.
+#[unsafe(no_mangle)]
+pub extern "C" fn diffuse_graph_vertices(alloc: Global, handle: &mut DiffuseGraph) -> u32
+    ensures kept { handle.new.held.roads ≡ handle.old.held.roads }
+    ensures count { MatchOption handle.old.held.roads (result ≡ 0) (λ g. result ≡ g.vertices) }
+{
+    let Some(owner) = take(alloc, handle) else {
+        return 0;
+    };
+    let count = owner.graph().vertices();
+    put(handle, owner);
+    count
+}
+
+/// How many arcs the graph of a handle has; 0 if it is closed.
+#[unsafe(no_mangle)]
+pub extern "C" fn diffuse_graph_arcs(alloc: Global, handle: &mut DiffuseGraph) -> usize
+    ensures kept { handle.new.held.roads ≡ handle.old.held.roads }
+    ensures count { MatchOption handle.old.held.roads (result ≡ 0) (λ g. result ≡ length g.arcs) }
+{
+    let Some(owner) = take(alloc, handle) else {
+        return 0;
+    };
+    let count = owner.graph().arcs();
+    put(handle, owner);
+    count
+}

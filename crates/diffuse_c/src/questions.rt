@@ -1,0 +1,127 @@
+//! The calls that answer questions: a route, a tree, and whether a tree is right.
+
+ghost use Rattle.std.specs.Prelude.{◌≡◌, ◌↔◌, ◌<◌, ◌≤◌, ◌+◌, ◌∷◌, [], drop, length, pos, None};
+ghost use Rattle.path_algebra.specs.Choices.{IsAlgebra, OfAlgebra};
+ghost use Rattle.answer_lists.specs.Answers.{IsAnswered, IsFound, ReportsRoute, IsOneOf, HasBoth};
+ghost use Rattle.answer_lists.specs.Tree.{AreTreeLists, AreWantedLists, IsFirstRefuted, ReportsRefusals, ReportsTreeRefusals};
+ghost use Rattle.diffuse_c.specs.Holding.{OfGraph};
+
+use crate::handle::{DiffuseGraph, put, take};
+use crate::status::CLOSED;
+use answer_lists::{answer_route, answer_tree, check_tree};
+use road_graph::Vertex;
+use std::alloc::Global;
+
+/// The best value from a source to a target, as a code, the least hops, and the route by least parents, by the algebra
+/// of a number.
+///
+/// If the room is too short, code and hops are still written: hops + 1 places are needed.
+#[unsafe(no_mangle)]
+pub extern "C" fn diffuse_graph_route(
+    alloc: Global,
+    handle: &mut DiffuseGraph,
+    algebra: u32,
+    limit: u64,
+    source: u32,
+    target: u32,
+    code: &mut u64,
+    hops: &mut u32,
+    room: &mut [u32],
+) -> i32
+    ensures kept { handle.new.held.roads ≡ handle.old.held.roads }
+    ensures tells { OfGraph handle.old.held.roads (λ g. IsAnswered result → OfAlgebra algebra limit
+        (λ V A. ReportsRoute A g source target result code.new hops.new room.new)) }
+    ensures short { result ≡ pos 2 → length room.old < hops.new + 1 }
+    ensures long { result ≡ pos 0 → hops.new + 1 ≤ length room.old }
+    ensures room { (result ≡ pos 0 → ⊥) → room.new ≡ room.old }
+    ensures rest { result ≡ pos 0 → drop (hops.new + 1) room.new ≡ drop (hops.new + 1) room.old }
+    ensures places { (IsFound result → ⊥) → (code.new ≡ code.old) × (hops.new ≡ hops.old) }
+    ensures vertex { OfGraph handle.old.held.roads
+        (λ g. (result ≡ pos 17) ↔ (HasBoth g source target → ⊥)) }
+    ensures algebra { OfGraph handle.old.held.roads
+        (λ g. (result ≡ pos 43) ↔ (HasBoth g source target × (IsAlgebra algebra limit → ⊥))) }
+    ensures closed { (result ≡ pos 4) ↔ (handle.old.held.roads ≡ None) }
+    ensures status { IsOneOf (0 ∷ 1 ∷ 2 ∷ 3 ∷ 4 ∷ 17 ∷ 43 ∷ []) result }
+{
+    let Some(mut owner) = take(alloc, handle) else {
+        return CLOSED;
+    };
+    let (s, t) = (Vertex(source), Vertex(target));
+    let status = answer_route(alloc, algebra, limit, &mut owner, s, t, code, hops, room);
+    put(handle, owner);
+    status
+}
+
+/// For each vertex the best value from the nearest of some sources, as a code, its least hops and its least parent, by
+/// the algebra of a number.
+///
+/// A vertex that no walk with a value leads to has the code 2^64 - 1; it and each source have parent 0. A list without
+/// places is not wanted.
+#[unsafe(no_mangle)]
+pub extern "C" fn diffuse_graph_tree(
+    alloc: Global,
+    handle: &mut DiffuseGraph,
+    algebra: u32,
+    limit: u64,
+    sources: &[u32],
+    codes: &mut [u64],
+    hops: &mut [u32],
+    parents: &mut [u32],
+) -> i32
+    ensures kept { handle.new.held.roads ≡ handle.old.held.roads }
+    ensures tree { OfGraph handle.old.held.roads (λ g. result ≡ pos 0 → OfAlgebra algebra limit
+        (λ V A. AreWantedLists A g sources.now codes.new hops.new parents.new)) }
+    ensures lists { (result ≡ pos 0 → ⊥) → (codes.new ≡ codes.old) × (hops.new ≡ hops.old) ×
+        (parents.new ≡ parents.old) }
+    ensures refusals { OfGraph handle.old.held.roads (λ g. ReportsTreeRefusals g algebra limit
+        sources.now codes.old hops.old parents.old result) }
+    ensures closed { (result ≡ pos 4) ↔ (handle.old.held.roads ≡ None) }
+    ensures status { IsOneOf (0 ∷ 2 ∷ 3 ∷ 4 ∷ 17 ∷ 43 ∷ []) result }
+{
+    let Some(mut owner) = take(alloc, handle) else {
+        return CLOSED;
+    };
+    let status = answer_tree(
+        alloc, algebra, limit, &mut owner, sources, codes, hops, parents,
+    );
+    put(handle, owner);
+    status
+}
+
+/// Whether these lists are what `diffuse_graph_tree` writes, without solving.
+///
+/// If they are not, the first vertex whose line its neighbours refute is reported, with the number of the first reason.
+#[unsafe(no_mangle)]
+pub extern "C" fn diffuse_graph_check(
+    alloc: Global,
+    handle: &mut DiffuseGraph,
+    algebra: u32,
+    limit: u64,
+    sources: &[u32],
+    codes: &[u64],
+    hops: &[u32],
+    parents: &[u32],
+    vertex: &mut u32,
+    reason: &mut u32,
+) -> i32
+    ensures kept { handle.new.held.roads ≡ handle.old.held.roads }
+    ensures right { OfGraph handle.old.held.roads (λ g. result ≡ pos 0 → OfAlgebra algebra limit
+        (λ V A. AreTreeLists A g sources.now codes.now hops.now parents.now)) }
+    ensures wrong { OfGraph handle.old.held.roads (λ g. result ≡ pos 6 → OfAlgebra algebra limit
+        (λ V A. IsFirstRefuted A g sources.now codes.now hops.now parents.now vertex.new
+        reason.new)) }
+    ensures place { (result ≡ pos 6 → ⊥) → (vertex.new ≡ vertex.old) × (reason.new ≡ reason.old) }
+    ensures refusals { OfGraph handle.old.held.roads (λ g. ReportsRefusals g algebra limit sources.now
+        codes.now hops.now parents.now result) }
+    ensures closed { (result ≡ pos 4) ↔ (handle.old.held.roads ≡ None) }
+    ensures status { IsOneOf (0 ∷ 2 ∷ 3 ∷ 4 ∷ 6 ∷ 17 ∷ 43 ∷ []) result }
+{
+    let Some(mut owner) = take(alloc, handle) else {
+        return CLOSED;
+    };
+    let status = check_tree(
+        alloc, algebra, limit, &mut owner, sources, codes, hops, parents, vertex, reason,
+    );
+    put(handle, owner);
+    status
+}

@@ -1,7 +1,0 @@
-use Rattle.std.proofs.Common.{take}
-use Rattle.std.specs.List.{All}
-use Rattle.libdiffuse.proofs.LentArcs.{FitsIn}
-use Rattle.libdiffuse.proofs.joining.join_vertices.Given as goal
-
-abbrev pub invariant-loop-arc : goal.invariant-loop-arc
-invariant-loop-arc l = All (FitsIn l.n) (take l.arc-index l.arcs)

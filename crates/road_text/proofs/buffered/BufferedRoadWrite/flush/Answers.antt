@@ -1,7 +1,0 @@
--- A must-fail edit breaks this goal: with an answer it is refused at once.
-use Rattle.std.proofs.Common.{arith}
-use Rattle.std.proofs.lemmas.Grind.{common_steps}
-use Rattle.road_text.proofs.buffered.BufferedRoadWrite.flush.Goals as goal
-
-pub returns-clause-empty : goal.returns-clause-empty
-returns-clause-empty g c = grind (arith, common_steps)

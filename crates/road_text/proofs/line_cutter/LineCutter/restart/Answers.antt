@@ -1,5 +1,0 @@
-use Rattle.road_text.proofs.TextLaws.{holds_start}
-use Rattle.road_text.proofs.line_cutter.LineCutter.restart.Goals as goal
-
-pub returns-clause-present : goal.returns-clause-present
-returns-clause-present g c = λ h. rw c.restart.ensures (holds_start (g.T.FieldTaker.so_far c.args.self.now.taker) h)

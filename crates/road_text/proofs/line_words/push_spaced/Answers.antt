@@ -1,7 +1,0 @@
--- A must-fail edit breaks this goal: with an answer it is refused at once.
-use Rattle.std.proofs.Common.{arith}
-use Rattle.std.proofs.lemmas.Grind.{common_steps}
-use Rattle.road_text.proofs.line_words.push_spaced.Goals as goal
-
-pub returns-clause-bytes : goal.returns-clause-bytes
-returns-clause-bytes c = grind (arith, common_steps)

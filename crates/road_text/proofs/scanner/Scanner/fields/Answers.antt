@@ -1,7 +1,0 @@
-use Rattle.std.proofs.Common.{sym}
-use Rattle.std.proofs.lemmas.List.{take-map}
-use Rattle.road_text.specs.Slots.{word_in}
-use Rattle.road_text.proofs.scanner.Scanner.fields.Goals as goal
-
-pub returns : goal.returns
-returns c = sym (take-map word_in c.args.self.now.filled c.args.self.now.slots)

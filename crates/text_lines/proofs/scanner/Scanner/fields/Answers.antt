@@ -1,0 +1,7 @@
+use Rattle.std.proofs.Common.{sym}
+use Rattle.std.proofs.lemmas.List.{take-map}
+use Rattle.text_lines.specs.Slots.{word_in}
+use Rattle.text_lines.proofs.scanner.Scanner.fields.Goals as goal
+
+pub returns : goal.returns
+returns c = sym (take-map word_in c.args.self.now.filled c.args.self.now.slots)

@@ -1,13 +1,13 @@
 -- What a parser of answer texts gives, by the rules.
 use Rattle.std.proofs.Common.{◌≡◌, ℕ, ◌+◌, List, ◌∷◌, Bool, None, Ok, Err, Result, map, sym, ap, ◌∙◌, subst}
-use Rattle.road_text.specs.declared.faults.ReadFault.{ReadFault}
-use Rattle.road_text.specs.declared.faults.Rule.{Rule}
-use Rattle.road_text.specs.declared.slots.Slot.{Slot}
-use Rattle.road_text.specs.Lines.{fields}
-use Rattle.road_text.specs.Rules.{value_of_lines, fault_at}
-use Rattle.road_text.specs.Slots.{word_in}
-use Rattle.road_text.specs.Takes.{ShowsLine, GivesBy}
-use Rattle.road_text.proofs.ParserLaws.{gives_taken, gives_broken}
+use Rattle.text_lines.specs.declared.faults.ReadFault.{ReadFault}
+use Rattle.text_lines.specs.declared.faults.Rule.{Rule}
+use Rattle.text_lines.specs.declared.slots.Slot.{Slot}
+use Rattle.text_lines.specs.Lines.{fields}
+use Rattle.text_lines.specs.Rules.{value_of_lines, fault_at}
+use Rattle.text_lines.specs.Slots.{word_in}
+use Rattle.text_lines.specs.Takes.{ShowsLine, GivesBy}
+use Rattle.text_lines.proofs.ParserLaws.{gives_taken, gives_broken}
 use Rattle.answer_text.specs.declared.answers.Answers.{Answers}
 use Rattle.answer_text.specs.declared.answer_parser.AnswerParser.{AnswerParser}
 use Rattle.answer_text.specs.AnswerData.{answer_list}

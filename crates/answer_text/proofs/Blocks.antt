@@ -1,10 +1,10 @@
 -- Answers in a row, and the last line of one.
 use Rattle.std.proofs.Common.{◌≡◌, ℕ, ◌+◌, ◌<◌, List, [], ◌∷◌, ◌++◌, length, drop, get_or, map, Result, sym, ap, ◌∙◌, drop-cons, add-one, append-nil, subst}
 use Rattle.std.proofs.lemmas.List.{length-map}
-use Rattle.road_text.specs.Texts.{spelled, text_of}
-use Rattle.road_text.specs.Streams.{Output}
-use Rattle.road_text.specs.Written.{WrotePrefix, FailedAfterPrefix, WritesText}
-use Rattle.road_text.proofs.WriteLaws.{wrote_then, left_step, fell_step, fell_first}
+use Rattle.text_lines.specs.Texts.{spelled, text_of}
+use Rattle.text_lines.specs.Streams.{Output}
+use Rattle.text_lines.specs.Written.{WrotePrefix, FailedAfterPrefix, WritesText}
+use Rattle.text_lines.proofs.WriteLaws.{wrote_then, left_step, fell_step, fell_first}
 use Rattle.answer_text.specs.declared.answers.Answer.{Answer}
 use Rattle.answer_text.specs.AnswerText.{answer_text, answers_text, blocks_text, header_text}
 use Rattle.answer_text.specs.declared.answers.Answers.{Answers}

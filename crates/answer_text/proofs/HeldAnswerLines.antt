@@ -1,50 +1,22 @@
 -- What is kept of a line is enough for the rules of an answer text.
-use Rattle.std.proofs.Common.{◌≡◌, ℕ, zero, suc, ◌+◌, ◌<◌, min, List, [], ◌∷◌, length, take, drop, map, Option, Some, None, Result, Bool, true, false, ◌&&◌, eqb, nat_lt, ◌⊎◌, inl, inr, refl, sym, ap, ◌∙◌, arith, lit<, codes}
-use Rattle.std.proofs.lemmas.Bool.{ne_eqb, cases_lt, lt-ltb, le-ltb, or_left, or_right}
+use Rattle.std.proofs.Common.{◌≡◌, ℕ, ◌+◌, ◌<◌, min, List, [], ◌∷◌, length, take, drop, map, Option, Some, None, Result, Bool, true, false, ◌&&◌, nat_lt, ◌⊎◌, inl, inr, refl, sym, ap, ◌∙◌, arith, lit<, codes}
+use Rattle.std.proofs.lemmas.Bool.{cases_lt, lt-ltb, le-ltb, or_left, or_right}
 use Rattle.std.proofs.lemmas.Bool.Decides.{nat_tests}
 use Rattle.std.proofs.lemmas.List.{length-map}
 use Rattle.std.specs.Str.{bytes_eq}
 use Rattle.path_algebra.specs.Names.{name_of_text}
-use Rattle.road_text.specs.declared.slots.Slot.{Slot}
-use Rattle.road_text.specs.Lines.{fields}
-use Rattle.road_text.specs.Slots.{word_in}
-use Rattle.road_text.specs.Takes.{ShowsLine}
-use Rattle.road_text.specs.Words.{Word, word_of, word_at}
-use Rattle.road_text.proofs.WordLaws.{held, held_words, short_word, first_byte, number_held}
+use Rattle.text_lines.specs.declared.slots.Slot.{Slot}
+use Rattle.text_lines.specs.Lines.{fields}
+use Rattle.text_lines.specs.Slots.{word_in}
+use Rattle.text_lines.specs.Takes.{ShowsLine}
+use Rattle.text_lines.specs.Words.{Word, word_of, word_at}
+use Rattle.text_lines.proofs.WordLaws.{Keeps, keeps, short_word, first_byte, number_held}
 use Rattle.road_files.specs.declared.questions.Kind.{Kind}
 use Rattle.road_files.specs.declared.questions.Kind.TheVariants.{Sources, Pairs, Multi}
-use Rattle.road_files.specs.QuestionFiles.{kind_named}
+use Rattle.road_files.proofs.HeldQuestionLines.{kind_held}
 use Rattle.answer_text.specs.declared.present_numbers.PresentNumbers.{PresentNumbers}
 use Rattle.answer_text.specs.AnswerFiles.{Stage, Between, InLines, AfterPair, AfterFound, AnswersSoFar, numbers_in, begins, header_line, source_line, pair_line, list_line, sources_line, route_line, reached_line, unreached_line, vertex_line, value_line, none_line, found_line, heading_line, answer_line, told_after, line_given, line_read}
 use Rattle.answer_text.specs.AnswerTakes.{NumbersSoFar, begins_numbers, begins_route, numbers_given}
-
--- these words are what is kept of those
-pub record Keeps (kept ws : List Word) : Type 0 where
-  pub count : (k : ℕ) → k < 6 → eqb (length kept) k ≡ eqb (length ws) k
-  pub word : (i : ℕ) → i < 6 → word_at i kept ≡ held (word_at i ws)
-
-word_kept : (k i : ℕ) (ws : List Word) → i < k → word_at i (take k (map held ws)) ≡ held (word_at i ws)
-word_kept zero i ws lt = absurd (omega arith)
-word_kept (suc k) i [] lt = refl
-word_kept (suc k) zero (w ∷ ws) lt = refl
-word_kept (suc k) (suc i) (w ∷ ws) lt = word_kept k i ws (omega arith)
-
-length_kept : (k : ℕ) (ws : List Word) → length (take k (map held ws)) ≡ min k (length ws)
-length_kept zero ws = omega arith
-length_kept (suc k) [] = omega arith
-length_kept (suc k) (w ∷ ws) = let more = length_kept k ws in omega (arith, more)
-
-count_kept : (ws : List Word) (k : ℕ) → k < 6 → eqb (length (take 6 (map held ws))) k ≡ eqb (length ws) k
-count_kept ws k lt = elim (cases_lt (length ws) 6) [
-  | inl few ↦ ap (λ n. eqb n k) (let e = length_kept 6 ws in omega (arith, e))
-  | inr many ↦ ne_eqb (length (take 6 (map held ws))) k (λ e. omega (arith, length_kept 6 ws)) ∙ sym (ne_eqb (length ws) k (λ e. omega arith))
-]
-
-keeps : (ws : List Word) → Keeps (take 6 (map held ws)) ws
-keeps ws = record { count = λ k lt. count_kept ws k lt; word = λ i lt. word_kept 6 i ws lt }
-
-kind_held : (w : List ℕ) → kind_named (take 9 w) ≡ kind_named w
-kind_held w = rw (short_word w (codes "ss") (lit< tt), short_word w (codes "p2p") (lit< tt), short_word w (codes "ms") (lit< tt)) refl
 
 name_held : (w : List ℕ) → name_of_text (take 9 w) ≡ name_of_text w
 name_held w = rw (
@@ -231,5 +203,4 @@ line_rule n s l slots line shown h =
     let same : begins_numbers (fields line) ≡ true → (l.is_route ≡ true) ⊎ (length (fields line) < 1026) → numbers_in (drop 1 ws) ≡ numbers_given l = λ on. h.numbers_are (h.letter_is ∙ on) in
     given_same n ws l.count (numbers_in (drop 1 ws)) (numbers_given l) (h.count_is ∙ ap (λ k. min k 1026) (sym many)) (λ on few. same (begun_by_m (fields line) on) (inr (omega (arith, few, many))))
     (λ on. same (begun_by_r (fields line) on) (inl (h.route_is ∙ route_by_r (fields line) on))) s
-    ∙ sym (line_held (take 6 (map held ws)) ws (keeps ws) n l.count (numbers_given l) s)
-    ∙ ap (λ x. line_given n s x l.count (numbers_given l)) (ap (take 6) (held_words (fields line)) ∙ sym shown)
+    ∙ sym (line_held (map word_in slots) ws (keeps (map word_in slots) (fields line) shown) n l.count (numbers_given l) s)

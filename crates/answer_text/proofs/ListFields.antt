@@ -1,9 +1,9 @@
 -- Lists of numbers, field by field.
 use Rattle.std.proofs.Common.{◌≡◌, ◌⊎◌, inl, inr, ℕ, ◌+◌, ◌<◌, min, List, [], ◌∷◌, ◌++◌, length, drop, map, Ok, true, refl, sym, ap, ◌∙◌, arith, length-append}
-use Rattle.road_text.specs.Rules.{◌>>=◌}
-use Rattle.road_text.specs.Words.{Word, word_of, held_word}
-use Rattle.road_text.proofs.ListLaws.{words_push, after_first}
-use Rattle.road_text.proofs.WordLaws.{number_held}
+use Rattle.text_lines.specs.Rules.{◌>>=◌}
+use Rattle.text_lines.specs.Words.{Word, word_of, held_word}
+use Rattle.text_lines.proofs.ListLaws.{words_push, after_first}
+use Rattle.text_lines.proofs.WordLaws.{number_held}
 use Rattle.answer_text.specs.declared.present_numbers.PresentNumbers.{PresentNumbers}
 use Rattle.answer_text.specs.AnswerFiles.{answer_number, numbers_in}
 use Rattle.answer_text.specs.AnswerTakes.{NumbersSoFar, begins_numbers, begins_route, numbers_given, one_number_more}

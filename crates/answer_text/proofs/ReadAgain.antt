@@ -6,12 +6,12 @@ use Rattle.std.specs.List.{AllByRecursion, join_with_byte}
 use Rattle.path_algebra.specs.declared.name.AlgebraName.{AlgebraName}
 use Rattle.path_algebra.specs.declared.name.AlgebraName.TheVariants as names
 use Rattle.path_algebra.specs.Names.{name_text, name_of_text}
-use Rattle.road_text.specs.declared.faults.ReadFault.{ReadFault}
-use Rattle.road_text.specs.Lines.{lines, number}
-use Rattle.road_text.specs.Rules.{value_of_lines, text_value, text_read}
-use Rattle.road_text.specs.Texts.{spelled, text_of, IsWord, list_words}
-use Rattle.road_text.specs.Words.{word_of}
-use Rattle.road_text.proofs.RoundTrip.{decimal_is_number, fields_join, lines_text, word_of_number, word_by_test}
+use Rattle.text_lines.specs.declared.faults.ReadFault.{ReadFault}
+use Rattle.text_lines.specs.Lines.{lines, number}
+use Rattle.text_lines.specs.Rules.{value_of_lines, text_value, text_read}
+use Rattle.text_lines.specs.Texts.{spelled, text_of, IsWord, list_words}
+use Rattle.text_lines.specs.Words.{word_of}
+use Rattle.text_lines.proofs.RoundTrip.{decimal_is_number, fields_join, lines_text, word_of_number, word_by_test}
 use Rattle.road_files.specs.QuestionFiles.{kind_named}
 use Rattle.road_files.specs.WrittenQuestions.{kind_word}
 use Rattle.road_files.specs.declared.questions.Kind.{Kind}

@@ -9,7 +9,7 @@ use Rattle.road_graph.proofs.Lists.{only_element}
 use Rattle.path_algebra.specs.Algebra.{Algebra, IsLawful}
 use Rattle.path_algebra.specs.Walks.{AreHops, IsParent, IsParentChain}
 use Rattle.path_algebra.proofs.Walks.{walk_value_is_value}
-use Rattle.road_text.specs.Rules.{text_read}
+use Rattle.text_lines.specs.Rules.{text_read}
 use Rattle.road_files.specs.declared.questions.Kind.{Kind}
 use Rattle.road_files.specs.declared.questions.Kind.TheVariants.{Sources, Pairs, Multi}
 use Rattle.road_files.specs.declared.questions.Questions.{Questions}

@@ -1,9 +1,9 @@
 -- The lines of vertices, one by one.
 use Rattle.std.proofs.Common.{◌≡◌, ℕ, ◌+◌, ◌<◌, ◌≤◌, List, [], ◌++◌, length, drop, get_or, Option, refl, sym, ap, ◌∙◌, drop-cons, drop_of_length-le, add-one}
-use Rattle.road_text.specs.Texts.{spelled, text_of}
-use Rattle.road_text.specs.Streams.{Output}
-use Rattle.road_text.specs.Written.{WrotePrefix, FailedAfterPrefix}
-use Rattle.road_text.proofs.WriteLaws.{left_step, fell_step}
+use Rattle.text_lines.specs.Texts.{spelled, text_of}
+use Rattle.text_lines.specs.Streams.{Output}
+use Rattle.text_lines.specs.Written.{WrotePrefix, FailedAfterPrefix}
+use Rattle.text_lines.proofs.WriteLaws.{left_step, fell_step}
 use Rattle.answer_text.specs.declared.answers.Reached.{Reached}
 use Rattle.answer_text.specs.AnswerText.{vertex_words, vertex_lines}
 

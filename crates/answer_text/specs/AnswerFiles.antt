@@ -4,8 +4,8 @@
 use Rattle.std.specs.Prelude.{ℕ, ◌+◌, ◌==◌, ◌&&◌, Bool, true, false, List, [], ◌∷◌, ◌++◌, length, drop, map, slice_index, if◌then◌else◌, Option, Some, None, nat_lt, Result, Ok, Err, codes, bytes_eq}
 use Rattle.path_algebra.specs.declared.name.AlgebraName.{AlgebraName}
 use Rattle.path_algebra.specs.Names.{name_of_text}
-use Rattle.road_text.specs.Rules.{◌>>=◌, unless, Rules}
-use Rattle.road_text.specs.Words.{Word, word_of, word_at, number_up_to}
+use Rattle.text_lines.specs.Rules.{◌>>=◌, unless, Rules}
+use Rattle.text_lines.specs.Words.{Word, word_of, word_at, number_up_to}
 use Rattle.road_files.specs.declared.questions.Kind.{Kind}
 use Rattle.road_files.specs.declared.questions.Kind.TheVariants.{Sources, Pairs, Multi}
 use Rattle.road_files.specs.QuestionFiles.{kind_named}

@@ -1,16 +1,16 @@
 -- The state of the parser of an answer text, in the terms of the rules.
 use Rattle.std.specs.Prelude.{◌≡◌, ℕ, ◌<◌, ◌⊎◌, min, ◌||◌, List, [], ◌∷◌, ◌++◌, length, drop, map, Bool, true, false, Option, Some, None, option_map, Result, Ok, Err, codes, bytes_eq}
-use Rattle.road_text.specs.declared.faults.ReadFault.{ReadFault}
-use Rattle.road_text.specs.declared.faults.Rule.{Rule}
-use Rattle.road_text.specs.Rules.{◌>>=◌}
-use Rattle.road_text.specs.Takes.{GivesBy}
-use Rattle.road_text.specs.Meaning.{Meaning}
-use Rattle.road_text.specs.Words.{word_of}
+use Rattle.text_lines.specs.declared.faults.ReadFault.{ReadFault}
+use Rattle.text_lines.specs.declared.faults.Rule.{Rule}
+use Rattle.text_lines.specs.Rules.{◌>>=◌}
+use Rattle.text_lines.specs.Takes.{GivesBy}
+use Rattle.text_lines.specs.Meaning.{Meaning}
+use Rattle.text_lines.specs.Words.{word_of}
 use Rattle.answer_text.specs.declared.answers.Answers.{Answers}
 use Rattle.answer_text.specs.declared.present_numbers.PresentNumbers.{PresentNumbers}
-use Rattle.answer_text.specs.declared.taken_answers.Awaited.{Awaited}
-use Rattle.answer_text.specs.declared.taken_answers.Awaited.TheVariants as awaits
-use Rattle.answer_text.specs.declared.taken_answers.TakenAnswers.{TakenAnswers}
+use Rattle.answer_text.specs.declared.answers_builder.Awaited.{Awaited}
+use Rattle.answer_text.specs.declared.answers_builder.Awaited.TheVariants as awaits
+use Rattle.answer_text.specs.declared.answers_builder.AnswersBuilder.{AnswersBuilder}
 use Rattle.answer_text.specs.declared.answer_parser.AnswerParser.{AnswerParser}
 use Rattle.answer_text.specs.AnswerData.{answer_data, answer_list}
 use Rattle.answer_text.specs.AnswerFiles.{Stage, Between, InLines, AfterPair, AfterFound, OneSource, ManySources, AnswersSoFar, answer_number, numbers_in, answer_rules}
@@ -46,7 +46,7 @@ pub record NumbersSoFar (l : PresentNumbers) (fs : List (List ℕ)) : Type 0 whe
   pub numbers_are : l.is_list ≡ true → (l.is_route ≡ true) ⊎ (length fs < 1026) → numbers_in (drop 1 (map word_of fs)) ≡ numbers_given l
 
 -- which line is expected
-abbrev pub stage_at : TakenAnswers → Awaited → Stage
+abbrev pub stage_at : AnswersBuilder → Awaited → Stage
 stage_at t awaits.Between = Between
 stage_at t (awaits.Source source) = InLines (OneSource source) t.lines.items
 stage_at t awaits.Sources = InLines (ManySources t.sources.items) t.lines.items
@@ -54,7 +54,7 @@ stage_at t (awaits.Pair source target) = AfterPair source target
 stage_at t (awaits.Found source target code hops) = AfterFound source target code hops
 
 -- the answers that were taken, and the line that is expected
-abbrev pub answers_so_far : TakenAnswers → AnswersSoFar
+abbrev pub answers_so_far : AnswersBuilder → AnswersSoFar
 answers_so_far t = record { kind = t.kind; name = t.name; announced = t.announced; list = map answer_data t.list.items; stage = stage_at t t.awaited }
 
 -- the same, if a header was read

@@ -1,6 +1,6 @@
 -- The one written spelling of answers, by lines of words.
 use Rattle.std.specs.Prelude.{ℕ, ◌+◌, List, [], ◌∷◌, ◌++◌, Option, Some, None, codes, decimal, length}
-use Rattle.road_text.specs.Texts.{spelled, text_of, list_words}
+use Rattle.text_lines.specs.Texts.{spelled, text_of, list_words}
 use Rattle.path_algebra.specs.declared.name.AlgebraName.{AlgebraName}
 use Rattle.path_algebra.specs.Names.{name_text}
 use Rattle.road_files.specs.declared.questions.Kind.{Kind}

@@ -1,8 +1,8 @@
 //! The lines of an answer text that have few fields, read from what is kept of them.
 ghost use Rattle.std.specs.Prelude.{ℕ, ◌+◌, ◌≡◌, map};
 ghost use Rattle.path_algebra.specs.Names.{name_of_text};
-ghost use Rattle.road_text.specs.Slots.{word_in};
-ghost use Rattle.road_text.specs.Takes.{Agrees};
+ghost use Rattle.text_lines.specs.Slots.{word_in};
+ghost use Rattle.text_lines.specs.Takes.{Agrees};
 ghost use Rattle.road_files.specs.QuestionFiles.{kind_named};
 ghost use Rattle.answer_text.specs.AnswerFiles.{begins, found_line, known, none_line, pair_line, reached_line, source_line, unreached_line, value_line, vertex_line};
 
@@ -12,7 +12,7 @@ use crate::rules::{BAD_HEADER, FIELDS, MISPLACED};
 use path_algebra::AlgebraName;
 use road_files::Kind;
 use road_graph::Vertex;
-use road_text::{LineFault, Slot};
+use text_lines::{LineFault, Slot};
 
 /// Whether the line begins with this word.
 pub fn begins(slots: &[Slot], word: &[u8]) -> bool

@@ -1,25 +1,25 @@
-//! Takes the lines of an answer text.
+//! Parses the lines of an answer text.
 ghost use Rattle.std.specs.Prelude.{◌≡◌, ℕ, [], List, None, Some, map, refl, MatchResult, Ok};
-ghost use Rattle.road_text.specs.Slots.{word_in};
-ghost use Rattle.road_text.specs.Takes.{Breaks, Leaves};
+ghost use Rattle.text_lines.specs.Slots.{word_in};
+ghost use Rattle.text_lines.specs.Takes.{Breaks, Leaves};
 ghost use Rattle.answer_text.specs.AnswerFiles.{end_read, line_given, told_after};
 ghost use Rattle.answer_text.specs.AnswerTakes.{NumbersSoFar, answers_so_far, numbers_given};
 ghost use Rattle.answer_text.specs.AnswerData.{answer_list};
 
 use crate::answers::Answers;
+use crate::answers_builder::{AnswersBuilder, Awaited, first_in};
 use crate::present_numbers::PresentNumbers;
 use crate::rules::{CUT_OFF, NO_HEADER};
-use crate::taken_answers::{Awaited, TakenAnswers, first_in};
-use road_text::{LineFault, LineParser, Slot};
 use std::alloc::Global;
+use text_lines::{LineFault, LineParser, Slot};
 
-/// Takes the lines of an answer text over a graph with `n` vertices.
+/// Parses the lines of an answer text over a graph with `n` vertices.
 #[derive(Drop)]
 pub struct AnswerParser {
     pub alloc: Global,
     pub n: u32,
     /// What was read since the header, if there was one.
-    pub begun: Option<TakenAnswers>,
+    pub begun: Option<AnswersBuilder>,
     /// The fields of the present line.
     pub present: PresentNumbers,
 }
@@ -41,7 +41,7 @@ impl AnswerParser {
         }
     }
 
-    /// Takes the header.
+    /// Parses the header.
     fn begin(&mut self, slots: &[Slot]) -> Result<(), LineFault>
         ensures rule { Leaves (told_after self.old.n None (map word_in slots.now) 0 (Ok [])) result
             (answers_begun self.new) }
@@ -52,22 +52,22 @@ impl AnswerParser {
         Ok(())
     }
 
-    /// Takes a line that is neither blank nor a comment.
-    fn told(&mut self, slots: &[Slot]) -> Result<(), LineFault>
+    /// Parses a line that is neither blank nor a comment.
+    fn parse_content(&mut self, slots: &[Slot]) -> Result<(), LineFault>
         ensures rule { Leaves (told_after self.old.n (answers_begun self.old)
             (map word_in slots.now) self.old.present.count (numbers_given self.old.present)) result
             (answers_begun self.new) }
         ensures n { self.new.n ≡ self.old.n }
     {
         match &mut self.begun {
-            Some(begun) => begun.take(self.n, slots, &mut self.present),
+            Some(begun) => begun.add_line(self.n, slots, &mut self.present),
             None => self.begin(slots),
         }
     }
 
-    /// Takes a line by its first six fields. The numbers of a list were taken before.
+    /// Parses a line by its first six fields. The numbers of a list were taken before.
     #[tactic(auto, unfolding(crate::specs::AnswerFiles::line_given))]
-    pub fn take(&mut self, slots: &[Slot]) -> Result<(), LineFault>
+    pub fn parse_line(&mut self, slots: &[Slot]) -> Result<(), LineFault>
         ensures rule { Leaves (line_given self.old.n (answers_begun self.old)
             (map word_in slots.now) self.old.present.count (numbers_given self.old.present)) result
             (answers_begun self.new) }
@@ -76,12 +76,12 @@ impl AnswerParser {
         if slots.is_empty() || slots[0].begins_with(b'c') {
             return Ok(());
         }
-        self.told(slots)
+        self.parse_content(slots)
     }
 }
 
-/// The answers after a header, if the last of them is whole.
-fn whole(n: u32, begun: TakenAnswers) -> Result<Answers, LineFault>
+/// The answers after a header, if the last of them is complete.
+fn complete(n: u32, begun: AnswersBuilder) -> Result<Answers, LineFault>
     ensures { MatchResult result (λ a. end_read n (Some (answers_so_far begun)) ≡ Ok
         (answer_list a)) (Breaks (end_read n (Some (answers_so_far begun)))) }
 {
@@ -108,7 +108,7 @@ impl LineParser for AnswerParser {
     }
 
     fn line(&mut self, slots: &[Slot]) -> Result<(), LineFault> {
-        match self.take(slots) {
+        match self.parse_line(slots) {
             Ok(()) => {}
             Err(fault) => return Err(fault),
         }
@@ -124,7 +124,7 @@ impl LineParser for AnswerParser {
         let AnswerParser { n, begun, .. } = self;
         match begun {
             None => Err(LineFault::Broken(NO_HEADER)),
-            Some(begun) => whole(n, begun),
+            Some(begun) => complete(n, begun),
         }
     }
 

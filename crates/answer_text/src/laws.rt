@@ -8,7 +8,7 @@ ghost use Rattle.answer_text.specs.IsAnswer.{AreAnswers, IsAnswer, IsAnswerList}
 ghost use Rattle.answer_text.specs.AnswerFiles.{answer_rules};
 ghost use Rattle.answer_text.specs.AnswerData.{AnswerData, AnswerList};
 ghost use Rattle.answer_text.specs.Writable.{AreWritable};
-ghost use Rattle.road_text.specs.Rules.{text_read};
+ghost use Rattle.text_lines.specs.Rules.{text_read};
 
 use path_algebra::{PathAlgebra, laws_hold};
 

@@ -4,13 +4,13 @@
 mod answer_lines;
 mod answer_parser;
 mod answers;
+mod answers_builder;
 mod laws;
 mod lines;
 mod number_fields;
 mod present_numbers;
 mod reading;
 pub mod rules;
-mod taken_answers;
 mod vertex_lines;
 mod writing;
 

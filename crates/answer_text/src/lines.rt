@@ -1,15 +1,15 @@
 //! Lines of an answer text, each built before it is written.
 ghost use Rattle.std.specs.Prelude.{◌≡◌};
-ghost use Rattle.road_text.specs.Texts.{spelled};
+ghost use Rattle.text_lines.specs.Texts.{spelled};
 ghost use Rattle.answer_text.specs.AnswerText.{found_words, header_words, pair_words, source_words};
 
 use path_algebra::AlgebraName;
 use road_files::Kind;
 use road_graph::Vertex;
-use road_text::{Line, push_number, push_spaced};
+use text_lines::{Line, push_number, push_spaced};
 
 /// The header before `count` answers.
-#[tactic(auto, unfolding(road_text::specs::Texts::spelled))]
+#[tactic(auto, unfolding(text_lines::specs::Texts::spelled))]
 pub fn line_of_header(kind: Kind, count: u32, name: AlgebraName) -> Line
     ensures { result.bytes ≡ spelled (header_words kind count name) }
 {
@@ -24,7 +24,7 @@ pub fn line_of_header(kind: Kind, count: u32, name: AlgebraName) -> Line
 }
 
 /// The line that names a question from one source.
-#[tactic(auto, unfolding(road_text::specs::Texts::spelled))]
+#[tactic(auto, unfolding(text_lines::specs::Texts::spelled))]
 pub fn line_of_source(source: Vertex) -> Line
     ensures { result.bytes ≡ spelled (source_words source) }
 {
@@ -36,7 +36,7 @@ pub fn line_of_source(source: Vertex) -> Line
 }
 
 /// The line that names a pair.
-#[tactic(auto, unfolding(road_text::specs::Texts::spelled))]
+#[tactic(auto, unfolding(text_lines::specs::Texts::spelled))]
 pub fn line_of_pair(source: Vertex, target: Vertex) -> Line
     ensures { result.bytes ≡ spelled (pair_words source target) }
 {
@@ -49,7 +49,7 @@ pub fn line_of_pair(source: Vertex, target: Vertex) -> Line
 }
 
 /// The line of a pair's value.
-#[tactic(auto, unfolding(road_text::specs::Texts::spelled))]
+#[tactic(auto, unfolding(text_lines::specs::Texts::spelled))]
 pub fn line_of_found(code: u64, hops: u32) -> Line
     ensures { result.bytes ≡ spelled (found_words code hops) }
 {

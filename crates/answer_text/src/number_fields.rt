@@ -1,11 +1,11 @@
 //! Numbers in the fields of an answer text.
 ghost use Rattle.std.specs.Prelude.{ℕ};
-ghost use Rattle.road_text.specs.Slots.{word_in};
-ghost use Rattle.road_text.specs.Takes.{Agrees};
+ghost use Rattle.text_lines.specs.Slots.{word_in};
+ghost use Rattle.text_lines.specs.Takes.{Agrees};
 ghost use Rattle.answer_text.specs.AnswerFiles.{answer_number};
 
 use crate::rules::{NOT_A_NUMBER, TOO_LARGE};
-use road_text::{LineFault, Slot, limited_number};
+use text_lines::{LineFault, Slot, limited_number};
 
 /// The number in a field, up to a limit.
 pub fn number_up_to(slot: &Slot, limit: u32) -> Result<u32, LineFault>

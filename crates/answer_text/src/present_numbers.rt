@@ -1,8 +1,8 @@
 //! What is kept of the fields of the present line: if it begins with `r` or `m`, also its numbers.
 ghost use Rattle.std.specs.Prelude.{◌≡◌, ℕ, ◌+◌, ◌≤◌, ◌<◌, ◌&&◌, nat_lt, min, map, codes, false, ◌++◌, ◌∷◌, [], List, OnOk, IfErr, MatchResult, Ok};
-ghost use Rattle.road_text.specs.Slots.{word_in};
-ghost use Rattle.road_text.specs.Takes.{Breaks};
-ghost use Rattle.road_text.specs.Words.{held_word};
+ghost use Rattle.text_lines.specs.Slots.{word_in};
+ghost use Rattle.text_lines.specs.Takes.{Breaks};
+ghost use Rattle.text_lines.specs.Words.{held_word};
 ghost use Rattle.answer_text.specs.AnswerFiles.{begins, list_line, route_line, sources_line};
 ghost use Rattle.answer_text.specs.AnswerTakes.{NumbersSoFar, numbers_given, one_number_more};
 
@@ -10,8 +10,8 @@ use crate::answer_lines::begins;
 use crate::number_fields::number_of;
 use crate::rules::{FIELDS, MISPLACED};
 use road_graph::Vertex;
-use road_text::{LineFault, Rule, Slot};
 use std::alloc::Global;
+use text_lines::{LineFault, Rule, Slot, push_item};
 
 /// The most fields of a line of sources: its letter and 1,024 numbers.
 const MAX_FIELDS: u32 = 1_025;
@@ -76,10 +76,7 @@ impl PresentNumbers {
             return Ok(());
         }
         match number_of(slot) {
-            Ok(number) => match self.numbers.push(Vertex(number)) {
-                Ok(()) => Ok(()),
-                Err(_) => Err(LineFault::Memory),
-            },
+            Ok(number) => push_item(&mut self.numbers, Vertex(number)),
             Err(LineFault::Memory) => Err(LineFault::Memory),
             Err(LineFault::Broken(rule)) => {
                 self.broken = Some(rule);
@@ -113,7 +110,12 @@ impl PresentNumbers {
 
     /// The numbers of the present line; `letter` says whether its letter belongs here, `enough` whether its number of
     /// fields is right.
-    fn whole(&mut self, alloc: Global, letter: bool, enough: bool) -> Result<Vec<Vertex>, LineFault>
+    fn complete(
+        &mut self,
+        alloc: Global,
+        letter: bool,
+        enough: bool,
+    ) -> Result<Vec<Vertex>, LineFault>
         ensures { MatchResult result (λ v. list_line letter enough (numbers_given self.old) ≡ Ok
             v.items) (Breaks (list_line letter enough (numbers_given self.old))) }
     {
@@ -137,7 +139,7 @@ impl PresentNumbers {
             (Breaks (sources_line (map word_in slots.now) self.old.count (numbers_given self.old))) }
     {
         let enough = 1 < self.count && self.count <= MAX_FIELDS;
-        self.whole(alloc, begins(slots, b"m"), enough)
+        self.complete(alloc, begins(slots, b"m"), enough)
     }
 
     /// The vertices of `r V1 ..`.
@@ -147,6 +149,6 @@ impl PresentNumbers {
             (Breaks (route_line (map word_in slots.now) self.old.count (numbers_given self.old))) }
     {
         let enough = 1 < self.count;
-        self.whole(alloc, begins(slots, b"r"), enough)
+        self.complete(alloc, begins(slots, b"r"), enough)
     }
 }

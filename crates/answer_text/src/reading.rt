@@ -1,12 +1,12 @@
 //! Reads answer texts.
-ghost use Rattle.road_text.specs.Reads.{ReadsText};
+ghost use Rattle.text_lines.specs.Reads.{ReadsText};
 ghost use Rattle.answer_text.specs.AnswerFiles.{answer_rules};
 ghost use Rattle.answer_text.specs.AnswerData.{answer_list};
 
 use crate::answer_parser::AnswerParser;
 use crate::answers::Answers;
-use road_text::{ReadFault, RoadRead, read_whole};
 use std::alloc::Global;
+use text_lines::{ReadFault, RoadRead, read_whole};
 
 /// The answers of an answer text over a graph with `n` vertices. Whether they are right for the graph is not checked
 /// here.

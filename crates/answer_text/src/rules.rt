@@ -1,5 +1,5 @@
 //! The rules of answer texts, each by its number.
-use road_text::Rule;
+use text_lines::Rule;
 
 /// A text that does not begin with a header.
 pub const NO_HEADER: Rule = Rule { number: 30 };

@@ -1,6 +1,6 @@
 //! The line of a vertex, built from its end to its start, so that no number has to be moved.
 ghost use Rattle.std.specs.Prelude.{◌≡◌, ℕ, ◌+◌, ◌<◌, ◌≤◌, ◌++◌, ◌∷◌, [], codes, decimal, length};
-ghost use Rattle.road_text.specs.Texts.{spelled};
+ghost use Rattle.text_lines.specs.Texts.{spelled};
 ghost use Rattle.answer_text.specs.AnswerText.{vertex_words};
 
 use crate::answers::Reached;
@@ -79,7 +79,7 @@ impl VertexLine {
         self.start = write_digits(n, &mut self.bytes, self.start);
     }
 
-    #[tactic(auto, unfolding(road_text::specs::Texts::spelled))]
+    #[tactic(auto, unfolding(text_lines::specs::Texts::spelled))]
     fn fill_reached(&mut self, vertex: u64, reached: Reached)
         ensures { self.new ≡ spelled (codes "d" ∷ decimal vertex ∷ decimal reached.code ∷ decimal
             reached.hops ∷ decimal reached.parent ∷ []) }
@@ -93,7 +93,7 @@ impl VertexLine {
         self.put(b'd');
     }
 
-    #[tactic(auto, unfolding(road_text::specs::Texts::spelled))]
+    #[tactic(auto, unfolding(text_lines::specs::Texts::spelled))]
     fn fill_unreached(&mut self, vertex: u64)
         ensures { self.new ≡ spelled (codes "u" ∷ decimal vertex ∷ []) }
     {

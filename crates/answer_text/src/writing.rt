@@ -1,7 +1,7 @@
 //! Writes answers, line by line. Nothing here allocates memory.
 ghost use Rattle.std.specs.Prelude.{◌≡◌, ◌≤◌, ◌<◌, ◌^◌, ◌++◌, ◌∷◌, [], codes, length, map, option_map};
-ghost use Rattle.road_text.specs.Texts.{list_words, spelled, text_of};
-ghost use Rattle.road_text.specs.Written.{WritesText};
+ghost use Rattle.text_lines.specs.Texts.{list_words, spelled, text_of};
+ghost use Rattle.text_lines.specs.Written.{WritesText};
 ghost use Rattle.answer_text.specs.AnswerText.{answer_text, answers_text, blocks_text, found_lines, found_words, header_text, pair_words, source_words, vertex_lines, vertex_words};
 ghost use Rattle.answer_text.specs.AnswerData.{found_of, answer_list, answer_data};
 
@@ -11,7 +11,7 @@ use crate::vertex_lines::VertexLine;
 use path_algebra::AlgebraName;
 use road_files::{Kind, write_list};
 use road_graph::Vertex;
-use road_text::{RoadWrite, WriteFault, write_bytes};
+use text_lines::{RoadWrite, WriteFault, write_bytes};
 
 /// The most answers that a text may have.
 pub const MAX_ANSWERS: u32 = 1_048_576;
@@ -72,7 +72,7 @@ fn write_vertices<W: RoadWrite>(to: &mut W, lines: &[Option<Reached>]) -> Result
 }
 
 /// Writes an answer whose first line names one source.
-#[tactic(auto, using(road_text::proofs::WriteLaws::wrote_then, road_text::proofs::WriteLaws::fell_first))]
+#[tactic(auto, using(text_lines::proofs::WriteLaws::wrote_then, text_lines::proofs::WriteLaws::fell_first))]
 fn write_source<W: RoadWrite>(
     to: &mut W,
     source: Vertex,
@@ -86,7 +86,7 @@ fn write_source<W: RoadWrite>(
 }
 
 /// Writes an answer whose first line names several sources.
-#[tactic(auto, using(road_text::proofs::WriteLaws::wrote_then, road_text::proofs::WriteLaws::fell_first))]
+#[tactic(auto, using(text_lines::proofs::WriteLaws::wrote_then, text_lines::proofs::WriteLaws::fell_first))]
 fn write_multi<W: RoadWrite>(
     to: &mut W,
     sources: &[Vertex],
@@ -116,14 +116,14 @@ fn write_found_line<W: RoadWrite>(to: &mut W, code: u64, hops: u32) -> Result<()
     write_bytes(to, line_of_found(code, hops).as_str().as_bytes())
 }
 
-#[tactic(auto, unfolding(road_text::specs::Texts::spelled))]
+#[tactic(auto, unfolding(text_lines::specs::Texts::spelled))]
 fn write_unreached<W: RoadWrite>(to: &mut W) -> Result<(), WriteFault>
     ensures { WritesText (W.seen to.old) (W.seen to.new) (text_of ((codes "u" ∷ []) ∷ [])) result }
 {
     write_bytes(to, b"u\n")
 }
 
-#[tactic(auto, using(road_text::proofs::WriteLaws::wrote_then, road_text::proofs::WriteLaws::fell_first))]
+#[tactic(auto, using(text_lines::proofs::WriteLaws::wrote_then, text_lines::proofs::WriteLaws::fell_first))]
 fn write_found<W: RoadWrite>(
     to: &mut W,
     code: u64,
@@ -183,7 +183,7 @@ fn write_blocks<W: RoadWrite>(to: &mut W, answers: &[Answer]) -> Result<(), Writ
 }
 
 /// Writes a list of answers: the header, and then each answer.
-#[tactic(auto, using(road_text::proofs::WriteLaws::wrote_then, road_text::proofs::WriteLaws::fell_first))]
+#[tactic(auto, using(text_lines::proofs::WriteLaws::wrote_then, text_lines::proofs::WriteLaws::fell_first))]
 pub fn write_answers<W: RoadWrite>(to: &mut W, answers: &Answers) -> Result<(), WriteFault>
     requires { length answers.now.list.items ≤ MAX_ANSWERS }
     ensures { WritesText (W.seen to.old) (W.seen to.new) (answers_text (answer_list answers.now))

@@ -1,16 +1,16 @@
 -- A graph's line, as its parser takes it.
 use Rattle.std.proofs.Common.{◌≡◌, ℕ, List, [], ◌∷◌, ◌++◌, length, take, map, Bool, refl, sym, ap, ◌∙◌, Option, Some, None, option_map, Ok, Err, arith, subst}
 use Rattle.road_graph.specs.GraphData.{GraphData}
-use Rattle.road_text.specs.declared.faults.ReadFault.{ReadFault}
-use Rattle.road_text.specs.declared.slots.Slot.{Slot}
-use Rattle.road_text.specs.Lines.{fields}
-use Rattle.road_text.specs.Rules.{value_of_lines}
-use Rattle.road_text.specs.Slots.{word_in}
-use Rattle.road_text.specs.Takes.{ShowsLine}
-use Rattle.road_text.specs.ShortLines.{HasShortFields}
-use Rattle.road_text.specs.Words.{Word, word_of, held_word}
+use Rattle.text_lines.specs.declared.faults.ReadFault.{ReadFault}
+use Rattle.text_lines.specs.declared.slots.Slot.{Slot}
+use Rattle.text_lines.specs.Lines.{fields}
+use Rattle.text_lines.specs.Rules.{value_of_lines}
+use Rattle.text_lines.specs.Slots.{word_in}
+use Rattle.text_lines.specs.Takes.{ShowsLine}
+use Rattle.text_lines.specs.ShortLines.{HasShortFields}
+use Rattle.text_lines.specs.Words.{Word, word_of, held_word}
 use Rattle.std.proofs.lemmas.Bool.{ne_eqb, lt-ltb, le-ltb}
-use Rattle.graph_text.specs.declared.taken_roads.TakenRoads.{TakenRoads}
+use Rattle.graph_text.specs.declared.graph_builder.GraphBuilder.{GraphBuilder}
 use Rattle.graph_text.specs.declared.graph_parser.GraphParser.{GraphParser}
 use Rattle.graph_text.specs.GraphFiles.{RoadsSoFar, gr_arc, gr_line, gr_rules, one_arc}
 use Rattle.graph_text.specs.GraphTakes.{roads_so_far, taken_of, GivesRoads, FitsArc}
@@ -50,7 +50,7 @@ arc_of_numbers s a b c d tail head weight p q r fits = rw (
 ) refl
 
 -- the rule of a line of the letter `a` and three numbers
-pub short_rule : (s : GraphParser) (t new : TakenRoads) (l : List ℕ) (letter tail head weight : ℕ) → s.taken ≡ Some t → letter ≡ 97 → HasShortFields l letter tail head weight →
+pub short_rule : (s : GraphParser) (t new : GraphBuilder) (l : List ℕ) (letter tail head weight : ℕ) → s.taken ≡ Some t → letter ≡ 97 → HasShortFields l letter tail head weight →
     FitsArc (roads_so_far t) tail head weight
     → roads_so_far new ≡ record (roads_so_far t) { arcs = t.arcs.items ++ record { tail = tail; head = head; weight = weight } ∷ [] }
     → gr_line (taken_of s) (map word_of (fields l)) ≡ Ok (Some (roads_so_far new))

@@ -1,16 +1,15 @@
 -- The rules of numbers, vertices and graph lines: what is kept of a line is enough for them, and their faults have
 -- the numbers 10 to 19.
-use Rattle.std.proofs.Common.{◌≡◌, ℕ, ◌<◌, min, Option, Some, None, option_map, refl, arith, List, [], ◌∷◌, length, take, map, sym, ap, ◌∙◌, lit<, codes, if◌then◌else◌, ◌≤◌, Bool, Result, Ok, Err}
+use Rattle.std.proofs.Common.{◌≡◌, ℕ, ◌<◌, min, Option, Some, None, option_map, refl, arith, List, take, map, sym, lit<, codes, if◌then◌else◌, ◌≤◌, Bool, Result, Ok, Err}
 use Rattle.std.proofs.lemmas.Grind.{common_steps}
-use Rattle.std.proofs.lemmas.Bool.{ne_eqb}
 use Rattle.std.specs.Option.{IfSome}
-use Rattle.road_text.specs.Words.{Word, word_of, held_word}
-use Rattle.road_text.proofs.WordLaws.{held, held_words, short_word, first_byte, number_held}
-use Rattle.road_text.specs.Rules.{◌>>=◌, unless}
-use Rattle.road_text.proofs.ParserLaws.{IsOwn, own_then, own_unless, own_if, own_up_to}
+use Rattle.text_lines.specs.Words.{Word, word_of, word_at, held_word}
+use Rattle.text_lines.proofs.WordLaws.{Keeps, keeps, short_word, first_byte, number_held}
+use Rattle.text_lines.specs.Rules.{◌>>=◌, unless}
+use Rattle.text_lines.proofs.ParserLaws.{IsOwn, own_then, own_unless, own_if, own_up_to}
 use Rattle.graph_text.specs.Numbers.{vertex_in, up_to}
 use Rattle.graph_text.specs.GraphFiles.{RoadsSoFar, one_arc, gr_arc, gr_problem, gr_line, roads_before, gr_whole, gr_rules}
-use Rattle.graph_text.specs.declared.taken_roads.TakenRoads.{TakenRoads}
+use Rattle.graph_text.specs.declared.graph_builder.GraphBuilder.{GraphBuilder}
 use Rattle.graph_text.specs.GraphTakes.{roads_so_far}
 
 -- what is kept of a number is enough for a vertex
@@ -19,51 +18,54 @@ vertex_held n None h = refl
 vertex_held n (Some v) h = grind (arith, common_steps)
 
 -- what is kept of a line is enough for the rules of a graph file
-arc_held : (r : RoadsSoFar) (ws : List Word) → r.vertices < 18446744073709551616 → one_arc r (take 6 (map held ws)) ≡ one_arc r ws
-unfolding one_arc
-arc_held r [] h = refl
-arc_held r (a ∷ []) h = refl
-arc_held r (a ∷ b ∷ []) h = refl
-arc_held r (a ∷ b ∷ c ∷ []) h = refl
-arc_held r (a ∷ b ∷ c ∷ d ∷ []) h = rw (vertex_held r.vertices b.number h, vertex_held r.vertices c.number h, number_held 15 16 4294967295 d.number (lit< tt)) refl
-arc_held r (a ∷ b ∷ c ∷ d ∷ e ∷ []) h = refl
-arc_held r (a ∷ b ∷ c ∷ d ∷ e ∷ f ∷ ws) h = rw (ne_eqb (length (a ∷ b ∷ c ∷ d ∷ e ∷ f ∷ ws)) 4 (λ e. omega arith)) refl
+module _ (kept ws : List Word) (k : Keeps kept ws) where
+  arc_held : (r : RoadsSoFar) → r.vertices < 18446744073709551616 → one_arc r kept ≡ one_arc r ws
+  unfolding one_arc
+  arc_held r small = rw (
+    k.count 4 (lit< tt),
+    k.word 1 (lit< tt),
+    k.word 2 (lit< tt),
+    k.word 3 (lit< tt),
+    vertex_held r.vertices (word_at 1 ws).number small,
+    vertex_held r.vertices (word_at 2 ws).number small,
+    number_held 15 16 4294967295 (word_at 3 ws).number (lit< tt),
+  ) refl
 
-problem_held : (s : Option RoadsSoFar) (ws : List Word) → gr_problem s (take 6 (map held ws)) ≡ gr_problem s ws
-unfolding gr_problem
-problem_held (Some r) ws = refl
-problem_held None [] = refl
-problem_held None (a ∷ []) = refl
-problem_held None (a ∷ b ∷ []) = refl
-problem_held None (a ∷ b ∷ c ∷ []) = refl
-problem_held None (a ∷ b ∷ c ∷ d ∷ []) = rw (short_word b.text (codes "sp") (lit< tt), number_held 15 16 33554432 c.number (lit< tt), number_held 15 16 134217728 d.number (lit< tt)) refl
-problem_held None (a ∷ b ∷ c ∷ d ∷ e ∷ []) = refl
-problem_held None (a ∷ b ∷ c ∷ d ∷ e ∷ f ∷ ws) = rw (ne_eqb (length (a ∷ b ∷ c ∷ d ∷ e ∷ f ∷ ws)) 4 (λ e. omega arith)) refl
+  problem_held : (s : Option RoadsSoFar) → gr_problem s kept ≡ gr_problem s ws
+  unfolding gr_problem
+  problem_held s = rw (
+    k.count 4 (lit< tt),
+    k.word 1 (lit< tt),
+    k.word 2 (lit< tt),
+    k.word 3 (lit< tt),
+    short_word (word_at 1 ws).text (codes "sp") (lit< tt),
+    number_held 15 16 33554432 (word_at 2 ws).number (lit< tt),
+    number_held 15 16 134217728 (word_at 3 ws).number (lit< tt),
+  ) refl
 
-gr_arc_held : (s : Option RoadsSoFar) (ws : List Word) → IfSome s (λ r. r.vertices < 18446744073709551616) → gr_arc s (take 6 (map held ws)) ≡ gr_arc s ws
-gr_arc_held None ws h = refl
-gr_arc_held (Some r) ws h = rw (arc_held r ws h) refl
+  gr_arc_held : (s : Option RoadsSoFar) → IfSome s (λ r. r.vertices < 18446744073709551616) → gr_arc s kept ≡ gr_arc s ws
+  gr_arc_held None small = refl
+  gr_arc_held (Some r) small = rw (arc_held r small) refl
 
-pub line_held : (s : Option RoadsSoFar) (ws : List Word) → IfSome s (λ r. r.vertices < 18446744073709551616) → gr_line s (take 6 (map held ws)) ≡ gr_line s ws
-unfolding gr_line
-line_held s [] h = refl
-line_held s (a ∷ ws) h = rw (
-  problem_held s (a ∷ ws),
-  gr_arc_held s (a ∷ ws) h,
-  short_word a.text (codes "p") (lit< tt),
-  short_word a.text (codes "a") (lit< tt),
-  first_byte a.text,
-  ne_eqb (length (take 6 (map held (a ∷ ws)))) 0 (λ e. omega arith),
-  ne_eqb (length (a ∷ ws)) 0 (λ e. omega arith),
-) refl
+  pub line_held : (s : Option RoadsSoFar) → IfSome s (λ r. r.vertices < 18446744073709551616) → gr_line s kept ≡ gr_line s ws
+  unfolding gr_line
+  line_held s small = rw (
+    k.count 0 (lit< tt),
+    k.word 0 (lit< tt),
+    problem_held s,
+    gr_arc_held s small,
+    short_word (word_at 0 ws).text (codes "p") (lit< tt),
+    short_word (word_at 0 ws).text (codes "a") (lit< tt),
+    first_byte (word_at 0 ws).text,
+  ) refl
 
 -- the rule gives the same of the words and of what is kept of the fields
 pub gr_line_kept : (s : Option RoadsSoFar) (kept : List Word) (fs : List (List ℕ)) → IfSome s (λ r. r.vertices < 18446744073709551616) → kept ≡ take 6 (map held_word fs) →
     gr_line s (map word_of fs) ≡ gr_line s kept
-gr_line_kept s kept fs h e = sym (line_held s (map word_of fs) h) ∙ ap (gr_line s) (ap (take 6) (held_words fs) ∙ sym e)
+gr_line_kept s kept fs h e = sym (line_held kept (map word_of fs) (keeps kept fs e) s h)
 
 -- the vertices of a graph that is read are few
-pub few : (o : Option TakenRoads) → IfSome (option_map roads_so_far o) (λ r. r.vertices < 18446744073709551616)
+pub few : (o : Option GraphBuilder) → IfSome (option_map roads_so_far o) (λ r. r.vertices < 18446744073709551616)
 few None = tt
 few (Some t) = omega (arith, t.graph.few_vertices)
 

@@ -7,13 +7,13 @@ use Rattle.std.proofs.lemmas.Fmt.{length-decimal-le}
 use Rattle.std.proofs.lemmas.List.Elements.{recursion_from_All}
 use Rattle.road_graph.specs.GraphData.{GraphData, arc_of, IsGraph, JoinsVertices}
 use Rattle.road_graph.specs.declared.RoadArc.{RoadArc}
-use Rattle.road_text.specs.Texts.{text_of, spelled, AreLines}
-use Rattle.road_text.specs.Streams.{Output}
-use Rattle.road_text.specs.Written.{WrotePrefix, FailedAfterPrefix, WritesText}
-use Rattle.road_text.proofs.WriteLaws.{wrote_then, fell_first}
-use Rattle.road_text.specs.Rules.{text_read}
-use Rattle.road_text.proofs.RoundTrip.{after, value_again, read_again, decimal_is_number, word_of_number, word_by_test}
-use Rattle.road_text.specs.Words.{word_of}
+use Rattle.text_lines.specs.Texts.{text_of, spelled, AreLines}
+use Rattle.text_lines.specs.Streams.{Output}
+use Rattle.text_lines.specs.Written.{WrotePrefix, FailedAfterPrefix, WritesText}
+use Rattle.text_lines.proofs.WriteLaws.{wrote_then, fell_first}
+use Rattle.text_lines.specs.Rules.{text_read}
+use Rattle.text_lines.proofs.RoundTrip.{after, value_again, read_again, decimal_is_number, word_of_number, word_by_test}
+use Rattle.text_lines.specs.Words.{word_of}
 use Rattle.graph_text.specs.WrittenGraphs.{graph_words, arc_words, gr_text, graph_lines}
 use Rattle.graph_text.specs.GraphFiles.{gr_problem, one_arc, gr_line, gr_rules, gr_end}
 

@@ -2,8 +2,8 @@
 use Rattle.std.specs.Prelude.{ℕ, ◌==◌, not, List, [], ◌∷◌, ◌++◌, length, map, slice_index, if◌then◌else◌, Option, Some, None, nat_lt, is_none, Result, Ok, Err, codes, bytes_eq}
 use Rattle.road_graph.specs.declared.RoadArc.{RoadArc}
 use Rattle.road_graph.specs.GraphData.{GraphData}
-use Rattle.road_text.specs.Rules.{◌>>=◌, unless, Rules}
-use Rattle.road_text.specs.Words.{Word, word_of, word_at}
+use Rattle.text_lines.specs.Rules.{◌>>=◌, unless, Rules}
+use Rattle.text_lines.specs.Words.{Word, word_of, word_at}
 use Rattle.graph_text.specs.Numbers.{up_to, vertex_in}
 
 -- what the problem line announces, and the arcs so far

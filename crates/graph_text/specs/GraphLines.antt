@@ -2,7 +2,7 @@
 use Rattle.std.specs.Prelude.{◌≡◌, ℕ, Bool, List, [], ◌∷◌, length, filter, Some, ⊤, codes, bytes_eq}
 use Rattle.road_graph.specs.declared.RoadArc.{RoadArc}
 use Rattle.road_graph.specs.GraphData.{GraphData}
-use Rattle.road_text.specs.Lines.{fields, number}
+use Rattle.text_lines.specs.Lines.{fields, number}
 
 -- the first field of a line, empty if it has none
 abbrev pub first_field : List (List ℕ) → List ℕ

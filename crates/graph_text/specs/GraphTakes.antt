@@ -1,15 +1,15 @@
 -- The state of the parser of a graph file, in the terms of the rules.
 use Rattle.std.specs.Prelude.{◌≡◌, ℕ, ◌<◌, ◌≤◌, length, List, Option, option_map, IfSome, Result, Bool}
 use Rattle.road_graph.specs.GraphData.{GraphData}
-use Rattle.road_text.specs.declared.faults.ReadFault.{ReadFault}
-use Rattle.road_text.specs.Takes.{GivesBy}
-use Rattle.road_text.specs.Meaning.{Meaning}
-use Rattle.graph_text.specs.declared.taken_roads.TakenRoads.{TakenRoads}
+use Rattle.text_lines.specs.declared.faults.ReadFault.{ReadFault}
+use Rattle.text_lines.specs.Takes.{GivesBy}
+use Rattle.text_lines.specs.Meaning.{Meaning}
+use Rattle.graph_text.specs.declared.graph_builder.GraphBuilder.{GraphBuilder}
 use Rattle.graph_text.specs.declared.graph_parser.GraphParser.{GraphParser}
 use Rattle.graph_text.specs.GraphFiles.{RoadsSoFar, gr_rules}
 
 -- what was announced, and the arcs that were taken
-abbrev pub roads_so_far : TakenRoads → RoadsSoFar
+abbrev pub roads_so_far : GraphBuilder → RoadsSoFar
 roads_so_far t = record { vertices = t.vertices; announced = t.announced; arcs = t.arcs.items }
 
 -- one more arc is announced, and this one breaks no rule
@@ -24,7 +24,7 @@ abbrev pub taken_of : GraphParser → Option RoadsSoFar
 taken_of s = option_map roads_so_far s.taken
 
 -- no memory is reserved for arcs before the first of them is read, whatever was announced
-abbrev pub HoldsNoRoom : Option TakenRoads → Type 0
+abbrev pub HoldsNoRoom : Option GraphBuilder → Type 0
 HoldsNoRoom taken = IfSome taken (λ t. t.arcs.cap ≡ 0)
 
 -- the lines from a line number on give this, where `roads` is the data of a graph

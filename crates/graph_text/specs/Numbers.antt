@@ -1,6 +1,6 @@
 -- Numbers and vertices in fields.
 use Rattle.std.specs.Prelude.{ℕ, ◌||◌, ◌==◌, if◌then◌else◌, Option, Some, None, nat_lt, Result, Ok, Err}
-use Rattle.road_text.specs.Words.{number_up_to}
+use Rattle.text_lines.specs.Words.{number_up_to}
 
 -- a number up to a limit: 15 if it is none, 16 above the limit
 abbrev pub up_to : ℕ → Option ℕ → Result ℕ ℕ

@@ -2,7 +2,7 @@
 use Rattle.std.specs.Prelude.{ℕ, List, [], ◌∷◌, length, map, codes, decimal}
 use Rattle.road_graph.specs.declared.RoadArc.{RoadArc}
 use Rattle.road_graph.specs.GraphData.{GraphData}
-use Rattle.road_text.specs.Texts.{text_of}
+use Rattle.text_lines.specs.Texts.{text_of}
 
 -- `p sp N M`
 abbrev pub graph_words : ℕ → ℕ → List (List ℕ)

@@ -1,12 +1,12 @@
 //! Reads graph files.
-ghost use Rattle.road_text.specs.Reads.{ReadsText};
+ghost use Rattle.text_lines.specs.Reads.{ReadsText};
 ghost use Rattle.graph_text.specs.GraphFiles.{gr_rules};
 
 use crate::from_arcs::FromArcs;
 use crate::graph_maker::GraphMaker;
 use road_graph::Graph;
-use road_text::{ReadFault, RoadRead, read_whole};
 use std::alloc::Global;
+use text_lines::{ReadFault, RoadRead, read_whole};
 
 /// The graph of a graph file. `G` is any type of graph.
 pub fn read_gr_as<R: RoadRead, G: FromArcs>(alloc: Global, from: &mut R) -> Result<G, ReadFault>

@@ -2,13 +2,13 @@
 ghost use Rattle.std.specs.Prelude.{◌≡◌, None, refl};
 
 use crate::from_arcs::FromArcs;
+use crate::graph_builder::GraphBuilder;
 use crate::graph_parser::GraphParser;
-use crate::taken_roads::TakenRoads;
-use road_text::{LineFault, LineParser, Slot};
 use std::alloc::Global;
 use std::marker::PhantomData;
+use text_lines::{LineFault, LineParser, Slot};
 
-/// Takes the lines of a graph file, and builds the graph that they describe.
+/// Parses the lines of a graph file, and builds the graph that they describe.
 #[derive(Drop)]
 pub struct GraphMaker<G> {
     pub parser: GraphParser,
@@ -41,7 +41,7 @@ impl<G: FromArcs> LineParser for GraphMaker<G> {
     }
 
     fn line(&mut self, slots: &[Slot]) -> Result<(), LineFault> {
-        self.parser.take(slots)
+        self.parser.parse_line(slots)
     }
 
     fn short_line(&mut self, letter: u8, numbers: (u64, u64, u64)) -> bool {
@@ -50,7 +50,7 @@ impl<G: FromArcs> LineParser for GraphMaker<G> {
 
     fn finish(self) -> Result<G, LineFault> {
         let parser = self.parser;
-        let roads = TakenRoads::whole(parser.taken)?;
+        let roads = GraphBuilder::complete(parser.taken)?;
         roads.build(parser.alloc)
     }
 

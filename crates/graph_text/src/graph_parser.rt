@@ -1,18 +1,18 @@
-//! Takes the lines of a graph file.
+//! Parses the lines of a graph file.
 ghost use Rattle.std.specs.Prelude.{◌≡◌, ◌<◌, ◌≤◌, ◌++◌, ◌∷◌, [], None, length, map, refl, OnOk, IfOk, IfErr, MatchResult, option_map, true, false, ℕ, List, Ok};
-ghost use Rattle.road_text.specs.Slots.{word_in};
-ghost use Rattle.road_text.specs.Lines.{fields};
-ghost use Rattle.road_text.specs.ShortLines.{HasShortFields};
-ghost use Rattle.road_text.specs.Takes.{Leaves, Breaks};
-ghost use Rattle.road_text.specs.Words.{word_of};
+ghost use Rattle.text_lines.specs.Slots.{word_in};
+ghost use Rattle.text_lines.specs.Lines.{fields};
+ghost use Rattle.text_lines.specs.ShortLines.{HasShortFields};
+ghost use Rattle.text_lines.specs.Takes.{Leaves, Breaks};
+ghost use Rattle.text_lines.specs.Words.{word_of};
 ghost use Rattle.graph_text.specs.GraphFiles.{one_arc, gr_problem, gr_arc, gr_line, gr_whole, graph_read};
 ghost use Rattle.graph_text.specs.GraphTakes.{roads_so_far, FitsArc, HoldsNoRoom};
 
+use crate::graph_builder::GraphBuilder;
 use crate::number_fields::number_up_to;
 use crate::rules::{BAD_PROBLEM, NO_PROBLEM, SECOND_PROBLEM, UNKNOWN_LINE};
-use crate::taken_roads::TakenRoads;
-use road_text::{LineFault, Slot};
 use std::alloc::Global;
+use text_lines::{LineFault, Slot};
 
 /// The most vertices of a graph.
 const MAX_VERTICES: u32 = 33_554_432;
@@ -20,11 +20,11 @@ const MAX_VERTICES: u32 = 33_554_432;
 /// The most arcs of a graph.
 const MAX_ARCS: u32 = 134_217_728;
 
-/// Takes the lines of a graph file.
+/// Parses the lines of a graph file.
 #[derive(Drop)]
 pub struct GraphParser {
     pub alloc: Global,
-    pub taken: Option<TakenRoads>,
+    pub taken: Option<GraphBuilder>,
 }
 
 impl GraphParser {
@@ -52,7 +52,7 @@ impl GraphParser {
         }
         let vertices = number_up_to(&slots[2], MAX_VERTICES)?;
         let announced = number_up_to(&slots[3], MAX_ARCS)?;
-        self.taken = Some(TakenRoads {
+        self.taken = Some(GraphBuilder {
             vertices,
             announced,
             arcs: Vec::new(self.alloc),
@@ -87,9 +87,9 @@ impl GraphParser {
         }
     }
 
-    /// Takes a line by its first six fields.
+    /// Parses a line by its first six fields.
     #[tactic(auto, unfolding(crate::specs::GraphFiles::gr_line))]
-    pub fn take(&mut self, slots: &[Slot]) -> Result<(), LineFault>
+    pub fn parse_line(&mut self, slots: &[Slot]) -> Result<(), LineFault>
         ensures line { Leaves (gr_line (taken_of self.old) (map word_in slots.now)) result
             (taken_of self.new) }
         ensures unreserved { OnOk result (self.old.taken ≡ None → HoldsNoRoom self.new.taken) }

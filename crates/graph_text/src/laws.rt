@@ -2,8 +2,8 @@
 //! graph is.
 ghost use Rattle.std.specs.Prelude.{◌≡◌, ℕ, List, Ok, false};
 ghost use Rattle.road_graph.specs.GraphData.{GraphData, IsGraph};
-ghost use Rattle.road_text.specs.Lines.{lines};
-ghost use Rattle.road_text.specs.Rules.{text_read};
+ghost use Rattle.text_lines.specs.Lines.{lines};
+ghost use Rattle.text_lines.specs.Rules.{text_read};
 ghost use Rattle.graph_text.specs.GraphFiles.{gr_rules};
 ghost use Rattle.graph_text.specs.GraphLines.{SayGraph};
 ghost use Rattle.graph_text.specs.WrittenGraphs.{gr_text};

@@ -1,13 +1,13 @@
 //! Numbers and vertices in fields.
 ghost use Rattle.std.specs.Prelude.{ℕ, ◌≤◌, IfOk};
-ghost use Rattle.road_text.specs.Slots.{word_in};
-ghost use Rattle.road_text.specs.Takes.{Agrees};
+ghost use Rattle.text_lines.specs.Slots.{word_in};
+ghost use Rattle.text_lines.specs.Takes.{Agrees};
 ghost use Rattle.graph_text.specs.Vertices.{IsVertexOf};
 ghost use Rattle.graph_text.specs.Numbers.{up_to, vertex_in};
 
 use crate::rules::{NO_VERTEX, NOT_A_NUMBER, TOO_LARGE};
 use road_graph::Vertex;
-use road_text::{LineFault, Slot, limited_number};
+use text_lines::{LineFault, Slot, limited_number};
 
 /// The number in a field, up to a limit.
 pub fn number_up_to(slot: &Slot, limit: u32) -> Result<u32, LineFault>

@@ -1,5 +1,5 @@
 //! The rules of graph files, question files and bundles, each by its number.
-use road_text::Rule;
+use text_lines::Rule;
 
 /// A line that comes before the problem line, or no problem line at all.
 pub const NO_PROBLEM: Rule = Rule { number: 10 };

@@ -1,15 +1,15 @@
 //! Writes graph files, each graph in its one spelling. No writer allocates memory.
 ghost use Rattle.std.specs.Prelude.{◌≡◌, ◌≤◌, ◌+◌, ◌∷◌, ℕ, List, [], codes, decimal, length, map};
 ghost use Rattle.road_graph.specs.GraphData.{GraphData};
-ghost use Rattle.road_text.specs.Texts.{spelled, text_of};
-ghost use Rattle.road_text.specs.Written.{WritesText};
+ghost use Rattle.text_lines.specs.Texts.{spelled, text_of};
+ghost use Rattle.text_lines.specs.Written.{WritesText};
 ghost use Rattle.graph_text.specs.WrittenGraphs.{gr_text, graph_words, arc_words};
 
 use road_graph::{ArcNo, Graph, RoadArc};
-use road_text::{Line, RoadWrite, WriteFault, push_spaced, write_bytes};
+use text_lines::{Line, RoadWrite, WriteFault, push_spaced, write_bytes};
 
 /// The problem line of a graph file.
-#[tactic(auto, unfolding(road_text::specs::Texts::spelled))]
+#[tactic(auto, unfolding(text_lines::specs::Texts::spelled))]
 fn line_of_graph(vertices: u32, arcs: u64) -> Line
     ensures { result.bytes ≡ spelled (graph_words vertices arcs) }
 {
@@ -22,7 +22,7 @@ fn line_of_graph(vertices: u32, arcs: u64) -> Line
 }
 
 /// The line of an arc.
-#[tactic(auto, unfolding(road_text::specs::Texts::spelled))]
+#[tactic(auto, unfolding(text_lines::specs::Texts::spelled))]
 fn fill_arc(line: &mut Line, arc: RoadArc)
     ensures { line.new.bytes ≡ spelled (arc_words arc) }
 {

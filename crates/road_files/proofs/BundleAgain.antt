@@ -5,12 +5,12 @@ use Rattle.std.proofs.lemmas.Bool.{le-ltb}
 use Rattle.std.proofs.lemmas.Grind.{flat_map-append}
 use Rattle.road_graph.specs.declared.RoadArc.{RoadArc}
 use Rattle.road_graph.specs.GraphData.{GraphData, IsGraph}
-use Rattle.road_text.specs.Rules.{◌>>=◌, text_value, text_read}
-use Rattle.road_text.specs.Texts.{text_of, spelled, AreLines}
-use Rattle.road_text.specs.Words.{word_of}
+use Rattle.text_lines.specs.Rules.{◌>>=◌, text_value, text_read}
+use Rattle.text_lines.specs.Texts.{text_of, spelled, AreLines}
+use Rattle.text_lines.specs.Words.{word_of}
 use Rattle.graph_text.specs.GraphFiles.{RoadsSoFar, gr_line, gr_rules}
 use Rattle.graph_text.specs.WrittenGraphs.{arc_words, graph_lines, gr_text}
-use Rattle.road_text.proofs.RoundTrip.{after, after_append, first_step, value_again, read_again}
+use Rattle.text_lines.proofs.RoundTrip.{after, after_append, first_step, value_again, read_again}
 use Rattle.graph_text.proofs.WrittenGraphs.{graph_after, graph_are_lines, graph_length}
 use Rattle.road_files.specs.declared.questions.Kind.{Kind}
 use Rattle.road_files.specs.declared.questions.Kind.TheVariants.{Multi}
@@ -54,7 +54,7 @@ question_part roads s t (l ∷ ls) e =
 turn : (roads : RoadsSoFar) (kind : Kind) (k : ℕ) → length roads.arcs ≡ roads.announced → k ≤ 1048576
     → bundle_rules.line (InGraph (Some roads)) (problem_words kind k) ≡ Ok (InQuestions roads (Some (record { kind = kind; announced = k; questions = [] })))
 unfolding begins_questions
-turn roads kind k whole small = rw (le-ltb (length roads.arcs) roads.announced (omega arith), problem_step None kind k refl small) refl
+turn roads kind k complete small = rw (le-ltb (length roads.arcs) roads.announced (omega arith), problem_step None kind k refl small) refl
 
 both_lines : (ls more : List (List (List ℕ))) → AreLines ls → AreLines more → AreLines (ls ++ more)
 both_lines [] more h k = k

@@ -1,17 +1,16 @@
 -- A bundle's line, as its parser takes it.
-use Rattle.std.proofs.Common.{◌≡◌, ℕ, ◌<◌, List, [], ◌∷◌, length, take, map, Bool, false, Option, None, Ok, Err, refl, sym, ap, ◌∙◌, arith, lit<, codes, subst}
-use Rattle.std.proofs.lemmas.Bool.{lt-ltb}
+use Rattle.std.proofs.Common.{◌≡◌, ℕ, ◌<◌, List, [], ◌∷◌, map, Bool, false, Option, None, Ok, Err, refl, sym, ap, ◌∙◌, lit<, codes, subst}
 use Rattle.std.specs.Option.{IfSome}
 use Rattle.road_graph.specs.GraphData.{GraphData}
-use Rattle.road_text.specs.declared.faults.ReadFault.{ReadFault}
-use Rattle.road_text.specs.declared.slots.Slot.{Slot}
-use Rattle.road_text.specs.Lines.{fields}
-use Rattle.road_text.specs.Rules.{◌>>=◌, value_of_lines}
-use Rattle.road_text.specs.ShortLines.{HasShortFields}
-use Rattle.road_text.specs.Slots.{word_in}
-use Rattle.road_text.specs.Takes.{ShowsLine}
-use Rattle.road_text.specs.Words.{Word, word_of}
-use Rattle.road_text.proofs.WordLaws.{held, held_words, short_word}
+use Rattle.text_lines.specs.declared.faults.ReadFault.{ReadFault}
+use Rattle.text_lines.specs.declared.slots.Slot.{Slot}
+use Rattle.text_lines.specs.Lines.{fields}
+use Rattle.text_lines.specs.Rules.{◌>>=◌, value_of_lines}
+use Rattle.text_lines.specs.ShortLines.{HasShortFields}
+use Rattle.text_lines.specs.Slots.{word_in}
+use Rattle.text_lines.specs.Takes.{ShowsLine}
+use Rattle.text_lines.specs.Words.{Word, word_of, word_at}
+use Rattle.text_lines.proofs.WordLaws.{Keeps, keeps, short_word}
 use Rattle.graph_text.specs.declared.graph_parser.GraphParser.{GraphParser}
 use Rattle.graph_text.specs.GraphFiles.{RoadsSoFar, gr_line}
 use Rattle.graph_text.specs.GraphTakes.{roads_so_far, taken_of}
@@ -27,25 +26,25 @@ use Rattle.road_files.specs.BundleTakes.{bundle_so_far, kept_line, PartSoFar, Gi
 use Rattle.road_files.proofs.HeldQuestionLines.{problem_held}
 use Rattle.road_files.proofs.QuestionParserLaws.{list_rule}
 
-begins_held : (ws : List Word) → begins_questions (take 6 (map held ws)) ≡ begins_questions ws
-unfolding begins_questions
-begins_held [] = refl
-begins_held (a ∷ []) = refl
-begins_held (a ∷ b ∷ ws) = rw (
-  short_word a.text (codes "p") (lit< tt),
-  short_word b.text (codes "aux") (lit< tt),
-  lt-ltb 1 (length (take 6 (map held (a ∷ b ∷ ws)))) (omega arith),
-  lt-ltb 1 (length (a ∷ b ∷ ws)) (omega arith),
-) refl
+module _ (kept ws : List Word) (k : Keeps kept ws) where
+  begins_held : begins_questions kept ≡ begins_questions ws
+  unfolding begins_questions
+  begins_held = rw (
+    k.more 1 (lit< tt),
+    k.word 0 (lit< tt),
+    k.word 1 (lit< tt),
+    short_word (word_at 0 ws).text (codes "p") (lit< tt),
+    short_word (word_at 1 ws).text (codes "aux") (lit< tt),
+  ) refl
 
-graph_held : (s : Option RoadsSoFar) (ws : List Word) → IfSome s (λ r. r.vertices < 18446744073709551616) → bundle_line (InGraph s) (take 6 (map held ws)) ≡ bundle_line (InGraph s) ws
-graph_held s ws h = rw (begins_held ws, problem_held None None ws, line_held s ws h) refl
+  graph_held : (s : Option RoadsSoFar) → IfSome s (λ r. r.vertices < 18446744073709551616) → bundle_line (InGraph s) kept ≡ bundle_line (InGraph s) ws
+  graph_held s small = rw (begins_held, problem_held kept ws k None None, line_held kept ws k s small) refl
 
 -- the rule of the line is that of what is kept
 pub kept_rule : (p : BundlePart) (slots : List Slot) (l : List ℕ) → ShowsLine slots l → PartSoFar p (fields l) →
     bundle_line (bundle_so_far p) (map word_of (fields l)) ≡ kept_line p (map word_in slots)
 kept_rule (parts.Graph g) slots l shown h =
-    sym (graph_held (taken_of g) (map word_of (fields l)) (few g.taken)) ∙ ap (bundle_line (InGraph (taken_of g))) (ap (take 6) (held_words (fields l)) ∙ sym shown)
+    sym (graph_held (map word_in slots) (map word_of (fields l)) (keeps (map word_in slots) (fields l) shown) (taken_of g) (few g.taken))
 kept_rule (parts.Questions p) slots l shown h =
     let list = p.questions.list in
     let same : question_line p.roads.vertices None (questions_begun p.questions) (map word_of (fields l)) ≡ question_line_of p.roads.vertices None

@@ -1,5 +1,5 @@
 mod ListFields
-mod HeldQuestionLines
+pub mod HeldQuestionLines
 mod QuestionParserLaws
 mod BundleParserLaws
 mod WrittenQuestions

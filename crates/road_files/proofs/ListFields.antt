@@ -1,9 +1,9 @@
 -- The fields of a list, one after the other.
 use Rattle.std.proofs.Common.{◌≡◌, ℕ, ◌+◌, ◌<◌, ◌≤◌, List, [], ◌∷◌, ◌++◌, length, drop, map, Ok, Err, Result, true, refl, sym, ap, ◌∙◌, arith, length-append}
 use Rattle.std.specs.Result.{OnOk}
-use Rattle.road_text.specs.Rules.{◌>>=◌}
-use Rattle.road_text.specs.Words.{Word, word_of, held_word}
-use Rattle.road_text.proofs.ListLaws.{words_push, after_first}
+use Rattle.text_lines.specs.Rules.{◌>>=◌}
+use Rattle.text_lines.specs.Words.{Word, word_of, held_word}
+use Rattle.text_lines.proofs.ListLaws.{words_push, after_first}
 use Rattle.graph_text.specs.Numbers.{vertex_in}
 use Rattle.graph_text.proofs.RuleLaws.{vertex_held}
 use Rattle.road_files.specs.declared.present_list.PresentList.{PresentList}

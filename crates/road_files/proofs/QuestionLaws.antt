@@ -5,10 +5,10 @@ use Rattle.std.proofs.lemmas.List.Elements.{All-nil, All-cons, recursion_from_Al
 use Rattle.std.proofs.lemmas.List.{get_or-map, length-map}
 use Rattle.std.proofs.lemmas.Bool.{ne_eqb, lt-ltb, le-ltb}
 use Rattle.std.proofs.lemmas.Fmt.{length-decimal-le}
-use Rattle.road_text.specs.Rules.{◌>>=◌, text_value, text_read}
-use Rattle.road_text.specs.Texts.{text_of, spelled, AreLines, IsWord, list_words}
-use Rattle.road_text.specs.Words.{word_of}
-use Rattle.road_text.proofs.RoundTrip.{decimal_is_number, word_of_number, word_by_test, after, value_again, read_again}
+use Rattle.text_lines.specs.Rules.{◌>>=◌, text_value, text_read}
+use Rattle.text_lines.specs.Texts.{text_of, spelled, AreLines, IsWord, list_words}
+use Rattle.text_lines.specs.Words.{word_of}
+use Rattle.text_lines.proofs.RoundTrip.{decimal_is_number, word_of_number, word_by_test, after, value_again, read_again}
 use Rattle.graph_text.specs.Vertices.{IsVertexOf}
 use Rattle.graph_text.specs.Numbers.{vertex_in}
 use Rattle.road_files.specs.Asked.{AskWithin, Question, asked_of, of_source, of_pair, of_list, sources_of, FromSource, BetweenPair, FromSources, AreQuestionsOf}
@@ -17,7 +17,7 @@ use Rattle.road_files.specs.declared.questions.Kind.{Kind}
 use Rattle.road_files.specs.declared.questions.Kind.TheVariants.{Sources, Pairs, Multi}
 use Rattle.road_files.specs.Vertices.{IsVertexPairOf, AreSourcesOf}
 use Rattle.road_files.specs.QuestionFiles.{may_be, question_problem, vertices_in, source_of_line, pair_of_line, sources_of_line, question_line_of, question_rules, question_end}
-use Rattle.road_files.specs.WrittenQuestions.{problem_words, question_words, question_lines, questions_text}
+use Rattle.road_files.specs.WrittenQuestions.{kind_word, problem_words, question_words, question_lines, questions_text}
 use Rattle.road_files.specs.declared.questions.Questions.TheVariants as variants
 
 -- the sources of a question
@@ -160,26 +160,17 @@ pub questions_are_lines : (n : ℕ) (kind : Kind) (qs : List Question) → n ≤
 questions_are_lines n kind [] small h = tt
 questions_are_lines n kind (q ∷ qs) small h = (question_is_line n kind q small h.0, questions_are_lines n kind qs small h.1)
 
+kind_is_word : (kind : Kind) → IsWord (kind_word kind)
+kind_is_word Sources = word_by_test (codes "ss") refl
+kind_is_word Pairs = word_by_test (codes "p2p") refl
+kind_is_word Multi = word_by_test (codes "ms") refl
+
 pub problem_is_line : (kind : Kind) (k : ℕ) → k ≤ 1048576 → AllByRecursion IsWord (problem_words kind k)
-problem_is_line Sources k small = (
+problem_is_line kind k small = (
   word_by_test (codes "p") refl,
   (
     word_by_test (codes "aux") refl,
-    (word_by_test (codes "sp") refl, (word_by_test (codes "ss") refl, (word_of_number k (omega arith), tt))),
-  ),
-)
-problem_is_line Pairs k small = (
-  word_by_test (codes "p") refl,
-  (
-    word_by_test (codes "aux") refl,
-    (word_by_test (codes "sp") refl, (word_by_test (codes "p2p") refl, (word_of_number k (omega arith), tt))),
-  ),
-)
-problem_is_line Multi k small = (
-  word_by_test (codes "p") refl,
-  (
-    word_by_test (codes "aux") refl,
-    (word_by_test (codes "sp") refl, (word_by_test (codes "ms") refl, (word_of_number k (omega arith), tt))),
+    (word_by_test (codes "sp") refl, (kind_is_word kind, (word_of_number k (omega arith), tt))),
   ),
 )
 

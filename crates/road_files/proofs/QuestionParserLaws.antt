@@ -1,15 +1,15 @@
 -- A question's line, as its parser takes it.
 use Rattle.std.proofs.Common.{◌≡◌, ℕ, ◌+◌, List, ◌∷◌, map, Bool, Option, None, Result, Ok, Err, ◌∙◌, arith, subst}
 use Rattle.std.specs.Result.{IfOk}
-use Rattle.road_text.specs.declared.faults.ReadFault.{ReadFault}
-use Rattle.road_text.specs.declared.faults.Rule.{Rule}
-use Rattle.road_text.specs.declared.slots.Slot.{Slot}
-use Rattle.road_text.specs.Lines.{fields}
-use Rattle.road_text.specs.Rules.{value_of_lines, fault_at}
-use Rattle.road_text.specs.Slots.{word_in}
-use Rattle.road_text.specs.Takes.{ShowsLine, GivesBy}
-use Rattle.road_text.specs.Words.{word_of}
-use Rattle.road_text.proofs.ParserLaws.{gives_taken, gives_broken}
+use Rattle.text_lines.specs.declared.faults.ReadFault.{ReadFault}
+use Rattle.text_lines.specs.declared.faults.Rule.{Rule}
+use Rattle.text_lines.specs.declared.slots.Slot.{Slot}
+use Rattle.text_lines.specs.Lines.{fields}
+use Rattle.text_lines.specs.Rules.{value_of_lines, fault_at}
+use Rattle.text_lines.specs.Slots.{word_in}
+use Rattle.text_lines.specs.Takes.{ShowsLine, GivesBy}
+use Rattle.text_lines.specs.Words.{word_of}
+use Rattle.text_lines.proofs.ParserLaws.{gives_taken, gives_broken}
 use Rattle.road_files.specs.declared.questions.Kind.{Kind}
 use Rattle.road_files.specs.declared.questions.Questions.{Questions}
 use Rattle.road_files.specs.declared.present_list.PresentList.{PresentList}

@@ -1,9 +1,9 @@
 -- A service's line, as its parser takes it.
 use Rattle.std.proofs.Common.{◌≡◌, ℕ, List, [], ◌∷◌, map, Option, None, Ok, Err, sym, ap, ◌∙◌, inl}
-use Rattle.road_text.specs.declared.slots.Slot.{Slot}
-use Rattle.road_text.specs.Lines.{fields}
-use Rattle.road_text.specs.Slots.{word_in}
-use Rattle.road_text.specs.Takes.{ShowsLine}
+use Rattle.text_lines.specs.declared.slots.Slot.{Slot}
+use Rattle.text_lines.specs.Lines.{fields}
+use Rattle.text_lines.specs.Slots.{word_in}
+use Rattle.text_lines.specs.Takes.{ShowsLine}
 use Rattle.road_files.specs.declared.question_parser.QuestionParser.{QuestionParser}
 use Rattle.road_files.specs.QuestionFiles.{AskedSoFar, question_line_of, question_rules, question_end}
 use Rattle.road_files.specs.QuestionTakes.{ListSoFar, sources_given, questions_begun}

@@ -1,6 +1,6 @@
 -- Questions and bundles have faults of the numbers 10 to 19 alone, as graphs do.
 use Rattle.std.proofs.Common.{ℕ, List, ◌∷◌, [], length, drop, map, Bool, Option, Some, None, Result, arith}
-use Rattle.road_text.specs.Words.{Word, word_of}
+use Rattle.text_lines.specs.Words.{Word, word_of}
 use Rattle.graph_text.specs.Numbers.{vertex_in}
 use Rattle.graph_text.proofs.RuleLaws.{IsRoad, fine, wrong, step, test, either, number, vertex, graph_line, whole}
 use Rattle.road_files.specs.declared.questions.Kind.{Kind}

@@ -1,9 +1,9 @@
 -- A problem line and then the lines of questions, as they are written.
 use Rattle.std.proofs.Common.{◌≡◌, ℕ, List, [], length, map, Result, subst}
-use Rattle.road_text.specs.Texts.{text_of, spelled}
-use Rattle.road_text.specs.Streams.{Output}
-use Rattle.road_text.specs.Written.{WrotePrefix, FailedAfterPrefix, WritesText}
-use Rattle.road_text.proofs.WriteLaws.{wrote_then, fell_first}
+use Rattle.text_lines.specs.Texts.{text_of, spelled}
+use Rattle.text_lines.specs.Streams.{Output}
+use Rattle.text_lines.specs.Written.{WrotePrefix, FailedAfterPrefix, WritesText}
+use Rattle.text_lines.proofs.WriteLaws.{wrote_then, fell_first}
 use Rattle.road_files.specs.Asked.{Asked}
 use Rattle.road_files.specs.WrittenQuestions.{problem_words, question_words, questions_text}
 

@@ -1,8 +1,8 @@
 -- Bundles, by their lines: a graph part and then a question part, which begins at a problem line with `aux`.
 use Rattle.std.specs.Prelude.{ℕ, ◌&&◌, List, length, map, if◌then◌else◌, Option, None, Result, Ok, Err, codes, bytes_eq, Bool, nat_lt, drop}
 use Rattle.road_graph.specs.GraphData.{GraphData}
-use Rattle.road_text.specs.Rules.{◌>>=◌, Rules}
-use Rattle.road_text.specs.Words.{Word, word_of, word_at}
+use Rattle.text_lines.specs.Rules.{◌>>=◌, Rules}
+use Rattle.text_lines.specs.Words.{Word, word_of, word_at}
 use Rattle.graph_text.specs.GraphFiles.{RoadsSoFar, gr_line, gr_whole, graph_read}
 use Rattle.road_files.specs.Asked.{Asked, asked_of}
 use Rattle.road_files.specs.declared.questions.Questions.{Questions}

@@ -1,10 +1,10 @@
 -- The state of the parser of a bundle, in the terms of the rules.
 use Rattle.std.specs.Prelude.{ℕ, ⊤, if◌then◌else◌, List, Result, Bool, IfOk}
 use Rattle.road_graph.specs.GraphData.{GraphData}
-use Rattle.road_text.specs.declared.faults.ReadFault.{ReadFault}
-use Rattle.road_text.specs.Takes.{GivesBy}
-use Rattle.road_text.specs.Meaning.{Meaning}
-use Rattle.road_text.specs.Words.{Word}
+use Rattle.text_lines.specs.declared.faults.ReadFault.{ReadFault}
+use Rattle.text_lines.specs.Takes.{GivesBy}
+use Rattle.text_lines.specs.Meaning.{Meaning}
+use Rattle.text_lines.specs.Words.{Word}
 use Rattle.graph_text.specs.GraphTakes.{roads_so_far, taken_of}
 use Rattle.road_files.specs.declared.questions.Questions.{Questions}
 use Rattle.road_files.specs.declared.bundle_part.BundlePart.{BundlePart}

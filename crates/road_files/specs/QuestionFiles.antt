@@ -1,8 +1,8 @@
 -- Question files, by their lines: comments, a problem line `p aux sp KIND K`, and K lines of that kind:
 -- `s SOURCE` for `ss`, `q SOURCE TARGET` for `p2p`, `m SOURCE ..` with 1 to 1,024 sources for `ms`.
 use Rattle.std.specs.Prelude.{ℕ, ◌==◌, ◌&&◌, not, Bool, true, false, List, [], ◌∷◌, ◌++◌, length, drop, map, slice_index, if◌then◌else◌, Option, Some, None, nat_lt, is_none, Result, Ok, Err, codes, bytes_eq}
-use Rattle.road_text.specs.Rules.{◌>>=◌, unless, Rules}
-use Rattle.road_text.specs.Words.{Word, word_of, word_at}
+use Rattle.text_lines.specs.Rules.{◌>>=◌, unless, Rules}
+use Rattle.text_lines.specs.Words.{Word, word_of, word_at}
 use Rattle.graph_text.specs.Numbers.{up_to, vertex_in}
 use Rattle.road_files.specs.declared.questions.Kind.{Kind}
 use Rattle.road_files.specs.declared.questions.Kind.TheVariants.{Sources, Pairs, Multi}

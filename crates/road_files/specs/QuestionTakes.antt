@@ -1,14 +1,14 @@
 -- The state of the parser of a question file, in the terms of the rules.
 use Rattle.std.specs.Prelude.{◌≡◌, ℕ, ◌≤◌, min, List, [], ◌∷◌, length, drop, map, Bool, true, Option, Some, None, option_map, Result, Ok, Err, IfOk}
-use Rattle.road_text.specs.declared.faults.ReadFault.{ReadFault}
-use Rattle.road_text.specs.declared.faults.Rule.{Rule}
-use Rattle.road_text.specs.Takes.{GivesBy}
-use Rattle.road_text.specs.Meaning.{Meaning}
-use Rattle.road_text.specs.Words.{word_of}
+use Rattle.text_lines.specs.declared.faults.ReadFault.{ReadFault}
+use Rattle.text_lines.specs.declared.faults.Rule.{Rule}
+use Rattle.text_lines.specs.Takes.{GivesBy}
+use Rattle.text_lines.specs.Meaning.{Meaning}
+use Rattle.text_lines.specs.Words.{word_of}
 use Rattle.road_files.specs.declared.questions.Kind.{Kind}
 use Rattle.road_files.specs.declared.questions.Questions.{Questions}
 use Rattle.road_files.specs.declared.present_list.PresentList.{PresentList}
-use Rattle.road_files.specs.declared.taken_questions.TakenQuestions.{TakenQuestions}
+use Rattle.road_files.specs.declared.questions_builder.QuestionsBuilder.{QuestionsBuilder}
 use Rattle.road_files.specs.declared.question_parser.QuestionParser.{QuestionParser}
 use Rattle.road_files.specs.Asked.{Asked, asked_of, AreQuestionsOf}
 use Rattle.road_files.specs.QuestionFiles.{AskedSoFar, vertices_in, begins_list, may_be, question_rules}
@@ -29,7 +29,7 @@ pub record ListSoFar (l : PresentList) (fs : List (List ℕ)) : Type 0 where
   pub sources : l.is_list ≡ true → length fs ≤ 1025 → vertices_in l.vertices (drop 1 (map word_of fs)) ≡ sources_given l
 
 -- what was announced, and the questions that were taken
-abbrev pub asked_so_far : TakenQuestions → AskedSoFar
+abbrev pub asked_so_far : QuestionsBuilder → AskedSoFar
 asked_so_far t = record { kind = (asked_of t.questions).kind; announced = t.announced; questions = (asked_of t.questions).questions }
 
 -- the same, if a problem line was read

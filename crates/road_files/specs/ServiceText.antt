@@ -1,8 +1,8 @@
 -- The text of a service: requests one after the other, each a question text.
 use Rattle.std.specs.Prelude.{◌≡◌, ℕ, ◌+◌, ◌⊎◌, Bool, false, List, [], ◌∷◌, ◌++◌, map, if◌then◌else◌, Option, None, Some, Result, Ok, Err, codes, bytes_eq}
-use Rattle.road_text.specs.declared.faults.ReadFault.{ReadFault}
-use Rattle.road_text.specs.Lines.{lines, fields}
-use Rattle.road_text.specs.Rules.{at_line}
+use Rattle.text_lines.specs.declared.faults.ReadFault.{ReadFault}
+use Rattle.text_lines.specs.Lines.{lines, fields}
+use Rattle.text_lines.specs.Rules.{at_line}
 use Rattle.road_files.specs.Asked.{Asked}
 use Rattle.road_files.specs.QuestionFiles.{AskedSoFar, question_rules, question_end}
 

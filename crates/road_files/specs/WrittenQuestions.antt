@@ -1,6 +1,6 @@
 -- The one written spelling of questions: lines of words.
 use Rattle.std.specs.Prelude.{ℕ, List, [], ◌∷◌, length, map, codes, decimal}
-use Rattle.road_text.specs.Texts.{text_of, list_words}
+use Rattle.text_lines.specs.Texts.{text_of, list_words}
 use Rattle.road_files.specs.declared.questions.Kind.{Kind}
 use Rattle.road_files.specs.declared.questions.Kind.TheVariants.{Sources, Pairs, Multi}
 use Rattle.road_files.specs.Asked.{Question, FromSource, BetweenPair, FromSources, Asked}

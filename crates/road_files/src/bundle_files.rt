@@ -1,6 +1,6 @@
 //! Reads bundles.
 ghost use Rattle.std.specs.Prelude.{IfOk};
-ghost use Rattle.road_text.specs.Reads.{ReadsText};
+ghost use Rattle.text_lines.specs.Reads.{ReadsText};
 ghost use Rattle.road_files.specs.Asked.{AreQuestionsOf};
 ghost use Rattle.road_files.specs.BundleFiles.{bundle_of, bundle_with, bundle_rules};
 
@@ -8,8 +8,8 @@ use crate::bundle_parser::BundleParser;
 use crate::questions::Questions;
 use graph_text::FromArcs;
 use road_graph::Graph;
-use road_text::{ReadFault, RoadRead, read_whole};
 use std::alloc::Global;
+use text_lines::{ReadFault, RoadRead, read_whole};
 
 /// The graph and the questions of a bundle. `G` is any type of graph.
 pub fn read_bundle_as<R: RoadRead, G: FromArcs>(

@@ -1,9 +1,9 @@
-//! Takes the lines of a bundle.
+//! Parses the lines of a bundle.
 ghost use Rattle.std.specs.Prelude.{◌≡◌, ℕ, ◌++◌, ◌∷◌, [], List, map, refl, OnOk, IfOk, IfErr, MatchResult, Ok, None};
 ghost use Rattle.road_graph.specs.GraphData.{GraphData};
-ghost use Rattle.road_text.specs.Slots.{word_in};
-ghost use Rattle.road_text.specs.Takes.{Leaves, Breaks};
-ghost use Rattle.road_text.specs.Words.{held_word};
+ghost use Rattle.text_lines.specs.Slots.{word_in};
+ghost use Rattle.text_lines.specs.Takes.{Leaves, Breaks};
+ghost use Rattle.text_lines.specs.Words.{held_word};
 ghost use Rattle.graph_text.specs.GraphTakes.{roads_so_far, taken_of};
 ghost use Rattle.road_files.specs.Asked.{asked_of, AreQuestionsOf};
 ghost use Rattle.road_files.specs.BundleFiles.{InGraph, InQuestions, begins_questions, first_question_line, question_part_line, bundle_end};
@@ -12,10 +12,10 @@ ghost use Rattle.road_files.specs.QuestionTakes.{ListSoFar, sources_given, quest
 use crate::bundle_part::{BundlePart, QuestionPart};
 use crate::questions::Questions;
 use graph_text::rules::NO_PROBLEM;
-use graph_text::{FromArcs, GraphParser, TakenRoads};
-use road_text::{LineFault, LineParser, Slot};
+use graph_text::{FromArcs, GraphBuilder, GraphParser};
 use std::alloc::Global;
 use std::marker::PhantomData;
+use text_lines::{LineFault, LineParser, Slot};
 
 /// Whether a line ends the graph part.
 #[tactic(auto, unfolding(crate::specs::BundleFiles::begins_questions))]
@@ -29,13 +29,13 @@ fn ends_graph(slots: &[Slot]) -> bool
 fn no_questions(graph: GraphParser) -> LineFault
     ensures { Breaks (bundle_end (InGraph (taken_of graph))) result }
 {
-    match TakenRoads::whole(graph.taken) {
+    match GraphBuilder::complete(graph.taken) {
         Ok(_) => LineFault::Broken(NO_PROBLEM),
         Err(fault) => fault,
     }
 }
 
-/// Takes the lines of a bundle, and makes the graph and the questions that they describe.
+/// Parses the lines of a bundle, and makes the graph and the questions that they describe.
 #[derive(Drop)]
 pub struct BundleParser<G> {
     pub alloc: Global,
@@ -58,16 +58,16 @@ impl<G: FromArcs> BundleParser<G> {
         }
     }
 
-    fn take(&mut self, slots: &[Slot]) -> Result<(), LineFault>
+    fn parse_line(&mut self, slots: &[Slot]) -> Result<(), LineFault>
         ensures rule { Leaves (kept_line self.old.part (map word_in slots.now)) result
             (bundle_so_far self.new.part) }
         ensures ready { OnOk result (PartSoFar self.new.part []) }
     {
         match &mut self.part {
-            BundlePart::Questions(part) => part.take(slots),
+            BundlePart::Questions(part) => part.parse_line(slots),
             BundlePart::Graph(graph) => {
                 if !ends_graph(slots) {
-                    return graph.take(slots);
+                    return graph.parse_line(slots);
                 }
                 let part = QuestionPart::begin(graph, slots)?;
                 self.part = BundlePart::Questions(part);
@@ -92,7 +92,7 @@ impl<G: FromArcs> LineParser for BundleParser<G> {
     }
 
     fn line(&mut self, slots: &[Slot]) -> Result<(), LineFault> {
-        self.take(slots)
+        self.parse_line(slots)
     }
 
     fn short_line(&mut self, letter: u8, numbers: (u64, u64, u64)) -> bool {
@@ -106,7 +106,7 @@ impl<G: FromArcs> LineParser for BundleParser<G> {
         let part = self.part;
         match part {
             BundlePart::Graph(graph) => Err(no_questions(graph)),
-            BundlePart::Questions(part) => part.whole(self.alloc),
+            BundlePart::Questions(part) => part.complete(self.alloc),
         }
     }
 

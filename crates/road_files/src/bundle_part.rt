@@ -1,21 +1,21 @@
 //! The part of a bundle that is being read.
 ghost use Rattle.std.specs.Prelude.{◌≡◌, [], map, OnOk, IfOk, MatchResult, Ok};
 ghost use Rattle.std.specs.Option.{ForSome};
-ghost use Rattle.road_text.specs.Slots.{word_in};
-ghost use Rattle.road_text.specs.Takes.{Leaves, Breaks};
+ghost use Rattle.text_lines.specs.Slots.{word_in};
+ghost use Rattle.text_lines.specs.Takes.{Leaves, Breaks};
 ghost use Rattle.road_files.specs.Asked.{asked_of, AreQuestionsOf};
 ghost use Rattle.road_files.specs.BundleFiles.{InGraph, InQuestions, first_question_line, question_part_line, bundle_end};
 
 use crate::question_parser::QuestionParser;
 use crate::questions::Questions;
-use graph_text::{FromArcs, GraphParser, TakenRoads};
-use road_text::{LineFault, Slot};
+use graph_text::{FromArcs, GraphBuilder, GraphParser};
 use std::alloc::Global;
+use text_lines::{LineFault, Slot};
 
 /// All the arcs of the graph, and the questions so far, of any kind.
 #[derive(Drop)]
 pub struct QuestionPart {
-    pub roads: TakenRoads,
+    pub roads: GraphBuilder,
     pub questions: QuestionParser,
     ghost same: { questions.list.vertices ≡ roads.vertices },
     ghost any: { ForSome questions.only (λ _. ⊥) },
@@ -25,7 +25,7 @@ impl QuestionPart {
     ghost use Rattle.graph_text.specs.GraphTakes.{roads_so_far, taken_of};
     ghost use Rattle.road_files.specs.QuestionTakes.{ListSoFar, sources_given, questions_begun};
 
-    /// The question part that begins at this line. The graph must be whole before it.
+    /// The question part that begins at this line. The graph must be complete before it.
     pub fn begin(graph: &mut GraphParser, slots: &[Slot]) -> Result<QuestionPart, LineFault>
         ensures rule { MatchResult result (λ p. first_question_line (taken_of graph.old)
             (map word_in slots.now) ≡ Ok (InQuestions (roads_so_far p.roads)
@@ -33,14 +33,14 @@ impl QuestionPart {
             (Breaks (first_question_line (taken_of graph.old) (map word_in slots.now))) }
         ensures ready { IfOk result (λ p. ListSoFar p.questions.list []) }
     {
-        let roads = TakenRoads::whole(graph.taken.take())?;
+        let roads = GraphBuilder::complete(graph.taken.take())?;
         let mut questions = QuestionParser::new(graph.alloc, roads.vertices, None);
         questions.problem(slots)?;
         Ok(QuestionPart { roads, questions })
     }
 
-    /// Takes a line by its first six fields.
-    pub fn take(&mut self, slots: &[Slot]) -> Result<(), LineFault>
+    /// Parses a line by its first six fields.
+    pub fn parse_line(&mut self, slots: &[Slot]) -> Result<(), LineFault>
         ensures rule { Leaves (question_part_line (roads_so_far self.old.roads)
             (questions_begun self.old.questions) (map word_in slots.now)
             self.old.questions.list.is_list self.old.questions.list.count
@@ -48,13 +48,13 @@ impl QuestionPart {
             (InQuestions (roads_so_far self.new.roads) (questions_begun self.new.questions)) }
         ensures ready { OnOk result (ListSoFar self.new.questions.list []) }
     {
-        self.questions.take(slots)?;
+        self.questions.parse_line(slots)?;
         self.questions.list.restart();
         Ok(())
     }
 
     /// The graph and the questions, if all announced ones are there.
-    pub fn whole<G: FromArcs>(self, alloc: Global) -> Result<(G, Questions), LineFault>
+    pub fn complete<G: FromArcs>(self, alloc: Global) -> Result<(G, Questions), LineFault>
         ensures rule { MatchResult result (λ b. bundle_end (InQuestions (roads_so_far self.roads)
             (questions_begun self.questions)) ≡ Ok (G.roads b.0, asked_of b.1))
             (Breaks (bundle_end (InQuestions (roads_so_far self.roads)
@@ -62,7 +62,7 @@ impl QuestionPart {
         ensures fit { IfOk result (λ b. AreQuestionsOf (G.roads b.0).vertices b.1) }
     {
         let QuestionPart { roads, questions } = self;
-        let questions = questions.whole()?;
+        let questions = questions.complete()?;
         let graph = roads.build(alloc)?;
         Ok((graph, questions))
     }

@@ -1,7 +1,7 @@
 //! Theorems about the definitions: what is written is read back.
 ghost use Rattle.std.specs.Prelude.{◌≡◌, ◌≢◌, ℕ, ◌≤◌, ◌++◌, List, Ok, length, Option, true, false};
 ghost use Rattle.road_graph.specs.GraphData.{GraphData, IsGraph};
-ghost use Rattle.road_text.specs.Rules.{text_read};
+ghost use Rattle.text_lines.specs.Rules.{text_read};
 ghost use Rattle.graph_text.specs.WrittenGraphs.{gr_text};
 ghost use Rattle.road_files.specs.declared.questions.Questions.{Questions};
 ghost use Rattle.road_files.specs.Asked.{asked_of, AreQuestionsOf};

@@ -10,8 +10,8 @@ mod present_list;
 mod question_files;
 mod question_parser;
 mod questions;
+mod questions_builder;
 mod request_parser;
-mod taken_questions;
 mod writing;
 mod written_lines;
 

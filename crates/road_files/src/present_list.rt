@@ -1,8 +1,8 @@
 //! What is kept of the fields of the present line: if it begins with `m`, also the vertices of its list.
 ghost use Rattle.std.specs.Prelude.{◌≡◌, ℕ, ◌+◌, ◌<◌, ◌≤◌, ◌++◌, ◌∷◌, [], List, length, All, OnOk, IfOk, IfErr, MatchResult, true, None, Ok};
-ghost use Rattle.road_text.specs.Slots.{word_in};
-ghost use Rattle.road_text.specs.Takes.{Breaks};
-ghost use Rattle.road_text.specs.Words.{held_word};
+ghost use Rattle.text_lines.specs.Slots.{word_in};
+ghost use Rattle.text_lines.specs.Takes.{Breaks};
+ghost use Rattle.text_lines.specs.Words.{held_word};
 ghost use Rattle.graph_text.specs.Vertices.{IsVertexOf};
 ghost use Rattle.road_files.specs.Asked.{FromSources};
 ghost use Rattle.road_files.specs.QuestionFiles.{one_vertex_more, sources_of_line};
@@ -11,8 +11,8 @@ ghost use Rattle.road_files.specs.Vertices.{AreSourcesOf};
 use graph_text::rules::FIELDS;
 use graph_text::vertex_of;
 use road_graph::Vertex;
-use road_text::{LineFault, Rule, Slot};
 use std::alloc::Global;
+use text_lines::{LineFault, Rule, Slot, push_item};
 
 /// The most fields of a line with a list: its letter and 1,024 sources.
 const MAX_FIELDS: u32 = 1_025;
@@ -76,11 +76,7 @@ impl PresentList {
             return Ok(());
         }
         match vertex_of(slot, self.vertices) {
-            Ok(vertex) => {
-                let Ok(()) = self.sources.push(vertex) else {
-                    return Err(LineFault::Memory);
-                };
-            }
+            Ok(vertex) => push_item(&mut self.sources, vertex)?,
             Err(LineFault::Memory) => return Err(LineFault::Memory),
             Err(LineFault::Broken(rule)) => self.broken = Some(rule),
         }
@@ -114,7 +110,7 @@ impl PresentList {
 
     /// The sources of the present list, at the end of its line. The list is empty after a success.
     #[tactic(auto, unfolding(crate::specs::QuestionFiles::sources_of_line))]
-    pub fn whole(&mut self, alloc: Global) -> Result<Vec<Vertex>, LineFault>
+    pub fn complete(&mut self, alloc: Global) -> Result<Vec<Vertex>, LineFault>
         requires { self.old.is_list ≡ true }
         ensures rule { MatchResult result (λ v. sources_of_line self.old.count
             (sources_given self.old) ≡ Ok (FromSources v.items))

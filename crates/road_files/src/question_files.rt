@@ -1,6 +1,6 @@
 //! Reads question files.
 ghost use Rattle.std.specs.Prelude.{◌≡◌, IfOk, Some, None, true};
-ghost use Rattle.road_text.specs.Reads.{ReadsText};
+ghost use Rattle.text_lines.specs.Reads.{ReadsText};
 ghost use Rattle.road_files.specs.Asked.{asked_of, asked_of_sources, asked_of_pairs, asked_of_lists, AreQuestionsOf};
 ghost use Rattle.road_files.specs.QuestionFiles.{question_rules, may_be};
 ghost use Rattle.road_files.specs.QuestionTakes.{FitsFile};
@@ -8,8 +8,8 @@ ghost use Rattle.road_files.specs.QuestionTakes.{FitsFile};
 use crate::question_parser::QuestionParser;
 use crate::questions::{Kind, Questions};
 use road_graph::Vertex;
-use road_text::{ReadFault, RoadRead, read_whole};
 use std::alloc::Global;
+use text_lines::{ReadFault, RoadRead, read_whole};
 
 /// The questions of a file, which may be restricted to one kind.
 fn read_asked<R: RoadRead>(

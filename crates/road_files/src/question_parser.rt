@@ -1,18 +1,18 @@
-//! Takes the lines of a question file.
+//! Parses the lines of a question file.
 ghost use Rattle.std.specs.Prelude.{◌≡◌, ℕ, [], List, map, refl, true, IfOk, Some, None, option_map, IfSome, MatchResult, Ok};
 ghost use Rattle.std.specs.Option.{ForSome};
-ghost use Rattle.road_text.specs.Slots.{word_in};
-ghost use Rattle.road_text.specs.Takes.{Agrees, Leaves, Breaks};
+ghost use Rattle.text_lines.specs.Slots.{word_in};
+ghost use Rattle.text_lines.specs.Takes.{Agrees, Leaves, Breaks};
 ghost use Rattle.road_files.specs.Asked.{asked_of, AskWithin};
 ghost use Rattle.road_files.specs.QuestionFiles.{accepted, may_be, source_of_line, pair_of_line, sources_of_line, one_question, question_problem, question_line_of, question_end};
 
 use crate::present_list::PresentList;
 use crate::questions::{Kind, Questions};
-use crate::taken_questions::TakenQuestions;
+use crate::questions_builder::QuestionsBuilder;
 use graph_text::number_up_to;
 use graph_text::rules::{BAD_PROBLEM, NO_PROBLEM, SECOND_PROBLEM, UNKNOWN_LINE};
-use road_text::{LineFault, LineParser, Slot};
 use std::alloc::Global;
+use text_lines::{LineFault, LineParser, Slot};
 
 /// The most questions of a file.
 const MAX_QUESTIONS: u32 = 1_048_576;
@@ -44,14 +44,14 @@ fn none_of(alloc: Global, kind: Kind) -> Questions
     }
 }
 
-/// Takes the lines of a question file.
+/// Parses the lines of a question file.
 #[derive(Drop)]
 pub struct QuestionParser {
     pub alloc: Global,
     /// The one kind that the file may be of, or any.
     pub only: Option<Kind>,
     /// What was read, once the problem line was read.
-    pub begun: Option<TakenQuestions>,
+    pub begun: Option<QuestionsBuilder>,
     /// The fields of the present line.
     pub list: PresentList,
     ghost graph: { ForSome begun (λ b. b.vertices ≡ list.vertices) },
@@ -79,7 +79,7 @@ impl QuestionParser {
         }
     }
 
-    /// Takes the problem line.
+    /// Parses the problem line.
     #[tactic(auto, unfolding(crate::specs::QuestionFiles::question_problem))]
     pub fn problem(&mut self, slots: &[Slot]) -> Result<(), LineFault>
         ensures rule { Leaves (question_problem self.old.only (questions_begun self.old)
@@ -96,7 +96,7 @@ impl QuestionParser {
         }
         let kind = accept(self.only, Kind::named(&slots[3]))?;
         let announced = number_up_to(&slots[4], MAX_QUESTIONS)?;
-        self.begun = Some(TakenQuestions {
+        self.begun = Some(QuestionsBuilder {
             vertices: self.list.vertices,
             announced,
             questions: none_of(self.alloc, kind),
@@ -144,9 +144,9 @@ impl QuestionParser {
         }
     }
 
-    /// Takes a line by its first six fields.
+    /// Parses a line by its first six fields.
     #[tactic(auto, unfolding(crate::specs::QuestionFiles::question_line_of))]
-    pub fn take(&mut self, slots: &[Slot]) -> Result<(), LineFault>
+    pub fn parse_line(&mut self, slots: &[Slot]) -> Result<(), LineFault>
         ensures rule { Leaves (question_line_of self.old.list.vertices self.old.only
             (questions_begun self.old) (map word_in slots.now) self.old.list.is_list
             self.old.list.count (sources_given self.old.list)) result (questions_begun self.new) }
@@ -172,7 +172,7 @@ impl QuestionParser {
     }
 
     /// The questions, if all announced ones are there. Other questions may begin then.
-    pub fn take_whole(&mut self) -> Option<Questions>
+    pub fn take_complete(&mut self) -> Option<Questions>
         ensures step { whole_or_on (questions_begun self.old)
             (question_end (questions_begun self.old)) ≡ record {
               ended = asked_list result;
@@ -195,7 +195,7 @@ impl QuestionParser {
     }
 
     /// The questions, if all announced ones are there.
-    pub fn whole(self) -> Result<Questions, LineFault>
+    pub fn complete(self) -> Result<Questions, LineFault>
         ensures rule { MatchResult result (λ q. question_end (questions_begun self) ≡ Ok
             (asked_of q)) (Breaks (question_end (questions_begun self))) }
         ensures fit { IfOk result (FitsFile self.list.vertices self.only) }
@@ -203,7 +203,7 @@ impl QuestionParser {
         let begun = self.begun;
         match begun {
             None => Err(LineFault::Broken(NO_PROBLEM)),
-            Some(begun) => begun.whole(),
+            Some(begun) => begun.complete(),
         }
     }
 }
@@ -220,7 +220,7 @@ impl LineParser for QuestionParser {
     }
 
     fn line(&mut self, slots: &[Slot]) -> Result<(), LineFault> {
-        match self.take(slots) {
+        match self.parse_line(slots) {
             Ok(()) => {}
             Err(fault) => return Err(fault),
         }
@@ -233,7 +233,7 @@ impl LineParser for QuestionParser {
     }
 
     fn finish(self) -> Result<Questions, LineFault> {
-        self.whole()
+        self.complete()
     }
 
     ghost stops_short = { λ s at. (refl, tt) };

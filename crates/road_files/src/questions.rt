@@ -2,7 +2,7 @@
 ghost use Rattle.std.specs.Prelude.{◌≡◌, ◌↔◌, IsTrue};
 
 use road_graph::Vertex;
-use road_text::Slot;
+use text_lines::Slot;
 
 /// What kind of questions a file has.
 #[derive(Clone, Copy, Debug, PartialEq, Eq)]
@@ -17,7 +17,7 @@ pub enum Kind {
 
 impl Kind {
     ghost use Rattle.std.specs.Prelude.{◌≡◌, ◌≤◌, length};
-    ghost use Rattle.road_text.specs.Slots.{word_in};
+    ghost use Rattle.text_lines.specs.Slots.{word_in};
     ghost use Rattle.road_files.specs.QuestionFiles.{kind_named};
     ghost use Rattle.road_files.specs.WrittenQuestions.{kind_word};
 

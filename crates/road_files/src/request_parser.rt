@@ -1,16 +1,16 @@
-//! Takes the lines of a service, whose requests are question texts one after the other.
+//! Parses the lines of a service, whose requests are question texts one after the other.
 ghost use Rattle.std.specs.Prelude.{◌≡◌, ℕ, ◌∷◌, [], List, true, false, None, Some, Ok, Err, IfSome, refl, ◌⊎◌};
 ghost use Rattle.std.proofs.Common.{◌∙◌};
-ghost use Rattle.road_text.specs.Lines.{fields};
-ghost use Rattle.road_text.specs.Takes.{ShowsLine};
+ghost use Rattle.text_lines.specs.Lines.{fields};
+ghost use Rattle.text_lines.specs.Takes.{ShowsLine};
 ghost use Rattle.road_files.specs.Asked.{AreQuestionsOf};
 ghost use Rattle.road_files.specs.QuestionTakes.{questions_begun};
 ghost use Rattle.road_files.specs.ServiceText.{ServiceState, Gives, Passes, begins_request, GiveMay, LineMay, service_end};
 
 use crate::question_parser::QuestionParser;
 use crate::questions::Questions;
-use road_text::{FieldTaker, LineFault, MEMORY, Slot};
 use std::alloc::Global;
+use text_lines::{FieldTaker, LineFault, MEMORY, Slot};
 
 /// The result of a request that has ended: its questions, or the number of its fault.
 #[derive(Drop)]
@@ -28,7 +28,7 @@ pub struct LineDone {
     pub ended: Option<Ended>,
 }
 
-/// Takes the lines of a service.
+/// Parses the lines of a service.
 #[derive(Drop)]
 pub struct RequestParser {
     pub questions: QuestionParser,
@@ -63,7 +63,7 @@ impl RequestParser {
     }
 
     /// Ends the request with this fault, and skips lines from here on.
-    fn fall(&mut self, number: u8) -> Option<Ended>
+    fn fail(&mut self, number: u8) -> Option<Ended>
         ensures ended { result ≡ Some (Ended.Fault number) }
         ensures state { parser_state self.new ≡ Passes }
         ensures rest { (self.new.questions.list ≡ self.old.questions.list) ×
@@ -85,14 +85,14 @@ impl RequestParser {
         ensures any { self.new.questions.only ≡ None }
     {
         if self.refused {
-            return self.fall(MEMORY);
+            return self.fail(MEMORY);
         }
-        match self.questions.take(slots) {
-            Err(LineFault::Memory) => self.fall(MEMORY),
-            Err(LineFault::Broken(rule)) => self.fall(rule.number),
+        match self.questions.parse_line(slots) {
+            Err(LineFault::Memory) => self.fail(MEMORY),
+            Err(LineFault::Broken(rule)) => self.fail(rule.number),
             Ok(()) => {
                 self.passing = false;
-                match self.questions.take_whole() {
+                match self.questions.take_complete() {
                     Some(asked) => Some(Ended::Asked(asked)),
                     None => None,
                 }
@@ -100,8 +100,8 @@ impl RequestParser {
         }
     }
 
-    /// Takes a line; `begins` says whether it begins a request.
-    fn take(&mut self, slots: &[Slot], begins: bool) -> LineDone
+    /// Parses a line; `begins` says whether it begins a request.
+    fn parse_line(&mut self, slots: &[Slot], begins: bool) -> LineDone
         requires any { self.old.questions.only ≡ None }
         ensures step { (l : List ℕ) → ShowsLine slots.now l → begins ≡ begins_request (fields l) →
             RequestSoFar self.old (fields l) → LineMay self.old.questions.list.vertices
@@ -156,7 +156,7 @@ impl RequestParser {
         ensures vertices { self.new.questions.list.vertices ≡ self.old.questions.list.vertices }
         ensures any { self.new.questions.only ≡ None }
     {
-        let done = self.take(slots, begins(slots));
+        let done = self.parse_line(slots, begins(slots));
         self.questions.list.restart();
         self.refused = false;
         done

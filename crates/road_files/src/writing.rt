@@ -1,14 +1,14 @@
 //! Writes questions, each file in its one spelling. No writer allocates memory.
 ghost use Rattle.std.specs.Prelude.{◌≡◌, ◌≤◌, ◌+◌, ◌∷◌, ℕ, List, length, map};
-ghost use Rattle.road_text.specs.Texts.{spelled, list_words, spaced, text_of};
-ghost use Rattle.road_text.specs.Written.{WritesText};
+ghost use Rattle.text_lines.specs.Texts.{spelled, list_words, spaced, text_of};
+ghost use Rattle.text_lines.specs.Written.{WritesText};
 ghost use Rattle.road_files.specs.Asked.{of_source, of_pair, of_list};
 ghost use Rattle.road_files.specs.WrittenQuestions.{questions_text, question_words};
 
 use crate::questions::Kind;
 use crate::written_lines::{fill_pair, fill_source, fill_vertex, line_of_problem};
 use road_graph::Vertex;
-use road_text::{Line, RoadWrite, WriteFault, write_bytes};
+use text_lines::{Line, RoadWrite, WriteFault, write_bytes};
 
 fn write_sources<W: RoadWrite>(to: &mut W, sources: &[Vertex]) -> Result<(), WriteFault>
     ensures { WritesText (W.seen to.old) (W.seen to.new)
@@ -69,7 +69,7 @@ fn write_vertices<W: RoadWrite>(to: &mut W, vertices: &[Vertex]) -> Result<(), W
 
 /// Writes a line of a word and vertices, or a prefix of it if a write fails. It allocates no memory, however long the
 /// list is.
-#[tactic(auto, using(road_text::proofs::ListLaws::list_then, road_text::proofs::ListLaws::list_fell))]
+#[tactic(auto, using(text_lines::proofs::ListLaws::list_then, text_lines::proofs::ListLaws::list_fell))]
 pub fn write_list<W: RoadWrite>(
     to: &mut W,
     word: &[u8],

@@ -1,15 +1,15 @@
 //! Lines of question files, each built before it is written.
 ghost use Rattle.std.specs.Prelude.{◌≡◌, ◌∷◌, ◌≤◌, [], codes, decimal, length};
-ghost use Rattle.road_text.specs.Texts.{spelled};
+ghost use Rattle.text_lines.specs.Texts.{spelled};
 ghost use Rattle.road_files.specs.WrittenQuestions.{problem_words, question_words};
 ghost use Rattle.road_files.specs.Asked.{FromSource, BetweenPair};
 
 use crate::questions::Kind;
 use road_graph::Vertex;
-use road_text::{Line, push_spaced};
+use text_lines::{Line, push_spaced};
 
 /// The problem line of a question file.
-#[tactic(auto, unfolding(road_text::specs::Texts::spelled))]
+#[tactic(auto, unfolding(text_lines::specs::Texts::spelled))]
 pub fn line_of_problem(kind: Kind, count: u64) -> Line
     ensures { result.bytes ≡ spelled (problem_words kind count) }
 {

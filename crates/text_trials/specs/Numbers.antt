@@ -1,7 +1,7 @@
 -- A small kind of text, for the tests: each line is `n NUMBER`, and the value is the list of the numbers.
 use Rattle.std.specs.Prelude.{ℕ, ◌==◌, List, [], ◌∷◌, ◌++◌, length, map, if◌then◌else◌, Option, Some, None, nat_lt, Result, Ok, Err, codes, bytes_eq}
-use Rattle.road_text.specs.Rules.{◌>>=◌, unless, Rules}
-use Rattle.road_text.specs.Words.{Word, word_of, word_at}
+use Rattle.text_lines.specs.Rules.{◌>>=◌, unless, Rules}
+use Rattle.text_lines.specs.Words.{Word, word_of, word_at}
 
 -- a number below 2 ^ 64
 abbrev pub below_top : Option ℕ → Result ℕ ℕ

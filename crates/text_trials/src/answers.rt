@@ -1,19 +1,18 @@
 //! Worked answers written and read, faults by their lines, and a writer that fails at each byte.
 ghost use Rattle.std.specs.Prelude.{◌≡◌, ◌<◌, ◌≤◌, Some, length, refl, []};
 
+use crate::pages::Page;
 use answer_text::{
     Answer, Answers, Found, Reached, VertexLine, read_answers, write_answer, write_answers,
     write_header, write_source_line, write_sources_line, write_vertex_line,
 };
-use arrayvec::ArrayVec;
-use ghost_count::Count;
 use path_algebra::AlgebraName;
 use road_files::Kind;
 use road_graph::Vertex;
-use road_text::{Line, Plain, RoadWrite, WriteFault};
 use std::alloc::Global;
 use std::process::Abort;
 use std::test::Fail;
+use text_lines::{Line, Plain, WriteFault};
 
 const SHORTEST: &[u8] =
     b"p ans ss 1 shortest\ns 1\nd 1 0 0 0\nd 2 3 2 3\nd 3 1 1 1\nd 4 8 3 2\nu 5\n";
@@ -25,64 +24,6 @@ const PAIRS: &[u8] =
 
 const SEVERAL: &[u8] =
     b"p ans ms 2 shortest\nm 4 5\nd 1 3 1 5\nd 2 6 3 3\nd 3 4 2 1\nd 4 0 0 0\nd 5 0 0 0\nm 5 2\nd 1 3 1 5\nd 2 0 0 0\nd 3 4 2 1\nd 4 5 1 2\nd 5 0 0 0\n";
-
-/// Takes pieces of some size as long as there is room, and then fails.
-#[derive(Drop)]
-struct Sheet {
-    bytes: ArrayVec<u8, 256>,
-    room: usize,
-    piece: usize,
-    failed: Count,
-    ghost fits: { room ≤ 256 },
-    ghost some: { 0 < piece },
-}
-
-impl Sheet {
-    fn new(room: usize, piece: usize) -> Self
-        requires room { room ≤ 256 }
-        requires piece { 0 < piece }
-    {
-        Sheet {
-            bytes: ArrayVec::new(),
-            room,
-            piece,
-            failed: Count::new(),
-        }
-    }
-}
-
-impl RoadWrite for Sheet {
-    ghost seen = { λ s. record {
-      state = s;
-      written = Some s.bytes.items;
-      held = [];
-      failures = s.failed.total;
-    } };
-
-    fn write(&mut self, buf: &[u8]) -> Result<usize, WriteFault> {
-        let mut taken = self.room.saturating_sub(self.bytes.len());
-        if self.piece < taken {
-            taken = self.piece;
-        }
-        if buf.len() < taken {
-            taken = buf.len();
-        }
-        if taken == 0 && !buf.is_empty() {
-            self.failed = self.failed.next();
-            return Err(WriteFault);
-        }
-        let Ok(()) = self.bytes.try_extend_from_slice(&buf[..taken]) else {
-            unreachable!()
-        };
-        Ok(taken)
-    }
-
-    fn flush(&mut self) -> Result<(), WriteFault> {
-        Ok(())
-    }
-
-    ghost itself = { λ _. refl };
-}
 
 fn reached(code: u64, hops: u32, parent: u32) -> Option<Reached> {
     Some(Reached { code, hops, parent })
@@ -146,12 +87,12 @@ fn pair_answers(alloc: Global) -> Result<Answers, Fail> {
 }
 
 /// The text of these answers, in pieces of one byte.
-fn sheet_of(answers: &Answers) -> Sheet {
-    let mut sheet = Sheet::new(256, 1);
+fn page_of(answers: &Answers) -> Page {
+    let mut page = Page::new(256, 1);
     if answers.list.len() <= 2 + 1 {
-        let _ = write_answers(&mut sheet, answers);
+        let _ = write_answers(&mut page, answers);
     }
-    sheet
+    page
 }
 
 /// The number and the line of the fault, or 0 and 0.
@@ -163,31 +104,31 @@ fn outcome(alloc: Global, bytes: &[u8], n: u32) -> (u8, u64) {
 }
 
 /// What is written after a text was read.
-fn read_and_written(alloc: Global, bytes: &[u8], n: u32) -> Sheet {
+fn read_and_written(alloc: Global, bytes: &[u8], n: u32) -> Page {
     match read_answers(alloc, &mut Plain::new(bytes), n) {
-        Ok(answers) => sheet_of(&answers),
-        Err(_) => Sheet::new(0, 1),
+        Ok(answers) => page_of(&answers),
+        Err(_) => Page::new(0, 1),
     }
 }
 
 #[test]
 fn five_vertices_shortest(rt: HostRuntime) -> Result<(), Fail> {
-    let sheet = sheet_of(&shortest_answers(rt.alloc())?);
-    assert_eq!(rt; sheet.bytes.as_slice(), SHORTEST);
+    let page = page_of(&shortest_answers(rt.alloc())?);
+    assert_eq!(rt; page.bytes.as_slice(), SHORTEST);
     Ok(())
 }
 
 #[test]
 fn pairs_with_routes(rt: HostRuntime) -> Result<(), Fail> {
-    let sheet = sheet_of(&pair_answers(rt.alloc())?);
-    assert_eq!(rt; sheet.bytes.as_slice(), PAIRS);
+    let page = page_of(&pair_answers(rt.alloc())?);
+    assert_eq!(rt; page.bytes.as_slice(), PAIRS);
     Ok(())
 }
 
 #[test]
 fn several_sources(rt: HostRuntime) -> Result<(), Fail> {
     let alloc = rt.alloc();
-    let mut sheet = Sheet::new(256, 3);
+    let mut page = Page::new(256, 3);
     let lines = vec![in alloc;
         reached(3, 1, 5),
         reached(6, 3, 3),
@@ -200,12 +141,12 @@ fn several_sources(rt: HostRuntime) -> Result<(), Fail> {
         lines,
     };
     assert_eq!(rt;
-        write_header(&mut sheet, Kind::Multi, 2, AlgebraName::Shortest),
+        write_header(&mut page, Kind::Multi, 2, AlgebraName::Shortest),
         Ok(())
     );
-    assert_eq!(rt; write_answer(&mut sheet, &first), Ok(()));
+    assert_eq!(rt; write_answer(&mut page, &first), Ok(()));
     assert_eq!(rt;
-        write_sources_line(&mut sheet, &[Vertex(5), Vertex(2)]),
+        write_sources_line(&mut page, &[Vertex(5), Vertex(2)]),
         Ok(())
     );
     let mut line = VertexLine::new();
@@ -220,19 +161,19 @@ fn several_sources(rt: HostRuntime) -> Result<(), Fail> {
     for reached in last {
         vertex = u64::wrapping_add(vertex, 1);
         assert_eq!(rt;
-            write_vertex_line(&mut sheet, &mut line, vertex, reached),
+            write_vertex_line(&mut page, &mut line, vertex, reached),
             Ok(())
         );
     }
-    assert_eq!(rt; sheet.bytes.as_slice(), SEVERAL);
-    assert_eq!(rt; write_source_line(&mut sheet, Vertex(7)), Ok(()));
+    assert_eq!(rt; page.bytes.as_slice(), SEVERAL);
+    assert_eq!(rt; write_source_line(&mut page, Vertex(7)), Ok(()));
     Ok(())
 }
 
 /// The longest line of a vertex: each number is the greatest of its type.
 #[test]
 fn the_longest_line_of_a_vertex(rt: HostRuntime) {
-    let mut sheet = Sheet::new(256, 7);
+    let mut page = Page::new(256, 7);
     let mut line = VertexLine::new();
     let longest = Some(Reached {
         code: u64::MAX,
@@ -240,11 +181,11 @@ fn the_longest_line_of_a_vertex(rt: HostRuntime) {
         parent: u32::MAX,
     });
     assert_eq!(rt;
-        write_vertex_line(&mut sheet, &mut line, u64::MAX, longest),
+        write_vertex_line(&mut page, &mut line, u64::MAX, longest),
         Ok(())
     );
-    assert_eq!(rt; write_vertex_line(&mut sheet, &mut line, 10, None), Ok(()));
-    assert_eq!(rt; sheet.bytes.as_slice(), LONGEST);
+    assert_eq!(rt; write_vertex_line(&mut page, &mut line, 10, None), Ok(()));
+    assert_eq!(rt; page.bytes.as_slice(), LONGEST);
 }
 
 #[test]
@@ -252,10 +193,10 @@ fn a_writer_that_fails_at_each_byte(rt: HostRuntime) -> Result<(), Fail> {
     let answers = pair_answers(rt.alloc())?;
     for room in 0..PAIRS.len() {
         for piece in [1, 256] {
-            let mut sheet = Sheet::new(room.min(256), piece);
+            let mut page = Page::new(room.min(256), piece);
             assert!(rt; answers.list.len() == 3);
-            assert_eq!(rt; write_answers(&mut sheet, &answers), Err(WriteFault));
-            assert_eq!(rt; sheet.bytes.as_slice(), &PAIRS[..room]);
+            assert_eq!(rt; write_answers(&mut page, &answers), Err(WriteFault));
+            assert_eq!(rt; page.bytes.as_slice(), &PAIRS[..room]);
         }
     }
     Ok(())

@@ -3,10 +3,10 @@ ghost use Rattle.std.specs.Prelude.{◌<◌};
 
 use crate::ends::Pieces;
 use graph_text::{read_gr, write_gr};
-use road_text::Plain;
 use std::alloc::{AllocError, Global};
 use std::process::Abort;
 use std::test::Fail;
+use text_lines::Plain;
 
 /// Weights of one to twenty-one digits, each with what is written after it was read.
 const WEIGHTS: [(&str, &str); 21] = [

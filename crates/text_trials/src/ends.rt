@@ -2,8 +2,8 @@
 ghost use Rattle.std.specs.Prelude.{◌≡◌, ◌<◌, ◌≤◌, Some, refl, []};
 
 use ghost_count::Count;
-use road_text::{ReadFailed, RoadRead, RoadWrite, WriteFault};
 use std::alloc::Global;
+use text_lines::{ReadFailed, RoadRead, RoadWrite, WriteFault};
 
 /// Gives its bytes in pieces. After them it fails if `fails` is set.
 #[derive(Drop)]

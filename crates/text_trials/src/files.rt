@@ -7,10 +7,10 @@ use road_files::{
     Kind, Questions, read_bundle, read_ms, read_p2p, read_questions, read_ss, write_ms, write_p2p,
     write_ss,
 };
-use road_text::{Plain, ReadFailed, RoadRead};
 use std::alloc::{AllocError, Global};
 use std::process::Abort;
 use std::test::Fail;
+use text_lines::{Plain, ReadFailed, RoadRead};
 
 const BUNDLE: &[u8] =
     b"p sp 5 7\na 1 2 4\na 1 3 1\na 3 2 2\na 2 4 5\na 3 4 8\na 4 4 0\na 5 1 3\np aux sp ss 1\ns 1\n";

@@ -1,26 +1,25 @@
 //! A small kind of text, read in pieces and with failures, and the writers over an output that fills up.
 ghost use Rattle.std.specs.Prelude.{◌≡◌, ◌<◌, ◌≤◌, ◌+◌, ◌^◌, ℕ, List, Some, Ok, length, map, refl, IfOk, IfErr, IfSome, []};
 ghost use Rattle.text_trials.specs.Numbers.{below_top, numbers_line, numbers_rules};
-ghost use Rattle.road_text.specs.Reads.{ReadsValue, ReadsFault, TellsFailure, TellsNoOther, IsReadNumber};
-ghost use Rattle.road_text.specs.Slots.{word_in};
-ghost use Rattle.road_text.specs.Takes.{Agrees, Leaves, GivesBy};
+ghost use Rattle.text_lines.specs.Reads.{ReadsValue, ReadsFault, TellsFailure, TellsNoOther, IsReadNumber};
+ghost use Rattle.text_lines.specs.Slots.{word_in};
+ghost use Rattle.text_lines.specs.Takes.{Agrees, Leaves, GivesBy};
 
 use crate::ends::Pieces;
-use arrayvec::ArrayVec;
-use ghost_count::Count;
+use crate::pages::Page;
 use road_files::rules::{FIELDS, NOT_A_NUMBER, TOO_LARGE, UNKNOWN_LINE};
 use road_files::write_list;
 use road_graph::Vertex;
-use road_text::{
-    Buffered, Line, LineFault, LineParser, Plain, ReadFailed, ReadFault, RoadRead, RoadWrite, Slot,
-    WriteFault, push_spaced, read_whole, write_bytes,
-};
 use std::alloc::Global;
 use std::io::{self, Write};
 use std::process::Abort;
 use std::test::Fail;
+use text_lines::{
+    Buffered, Line, LineFault, LineParser, Plain, ReadFailed, ReadFault, RoadRead, RoadWrite, Slot,
+    WriteFault, push_item, push_spaced, read_whole, write_bytes,
+};
 
-/// Takes lines `n NUMBER`.
+/// Parses lines `n NUMBER`.
 #[derive(Drop)]
 struct NumberParser {
     numbers: Vec<u64>,
@@ -38,7 +37,7 @@ fn below_top(slot: &Slot) -> Result<u64, LineFault>
 
 impl NumberParser {
     #[tactic(auto, unfolding(crate::specs::Numbers::numbers_line))]
-    fn take(&mut self, slots: &[Slot]) -> Result<(), LineFault>
+    fn parse_line(&mut self, slots: &[Slot]) -> Result<(), LineFault>
         ensures { Leaves (numbers_line self.old.numbers.items (map word_in slots.now)) result
             self.new.numbers.items }
     {
@@ -52,10 +51,7 @@ impl NumberParser {
             return Err(LineFault::Broken(FIELDS));
         }
         let number = below_top(&slots[1])?;
-        match self.numbers.push(number) {
-            Ok(()) => Ok(()),
-            Err(_) => Err(LineFault::Memory),
-        }
+        push_item(&mut self.numbers, number)
     }
 }
 
@@ -73,7 +69,7 @@ impl LineParser for NumberParser {
     }
 
     fn line(&mut self, slots: &[Slot]) -> Result<(), LineFault> {
-        self.take(slots)
+        self.parse_line(slots)
     }
 
     fn finish(self) -> Result<Vec<u64>, LineFault> {
@@ -97,52 +93,6 @@ fn read_numbers<R: RoadRead>(alloc: Global, from: &mut R) -> Result<Vec<u64>, Re
             numbers: Vec::new(alloc),
         },
     )
-}
-
-/// Takes what it has room for, and then fails.
-#[derive(Drop)]
-struct Sheet {
-    bytes: ArrayVec<u8, 32>,
-    failed: Count,
-}
-
-impl Sheet {
-    fn new() -> Self {
-        Sheet {
-            bytes: ArrayVec::new(),
-            failed: Count::new(),
-        }
-    }
-}
-
-impl RoadWrite for Sheet {
-    ghost seen = { λ s. record {
-      state = s;
-      written = Some s.bytes.items;
-      held = [];
-      failures = s.failed.total;
-    } };
-
-    fn write(&mut self, buf: &[u8]) -> Result<usize, WriteFault> {
-        let mut taken = 32 - self.bytes.len();
-        if buf.len() < taken {
-            taken = buf.len();
-        }
-        if taken == 0 && !buf.is_empty() {
-            self.failed = self.failed.next();
-            return Err(WriteFault);
-        }
-        let Ok(()) = self.bytes.try_extend_from_slice(&buf[..taken]) else {
-            unreachable!()
-        };
-        Ok(taken)
-    }
-
-    fn flush(&mut self) -> Result<(), WriteFault> {
-        Ok(())
-    }
-
-    ghost itself = { λ _. refl };
 }
 
 /// The sum of the numbers, or the fault's number and line.
@@ -278,39 +228,39 @@ fn carriage_returns_and_odd_bytes(rt: HostRuntime) {
     assert_eq!(rt; outcome(rt.alloc(), b"\xff\n", 1, false), Err((13, 1)));
 }
 
-/// Asserts how a write or a flush ended, and what is on the sheet afterwards.
+/// Asserts how a write or a flush ended, and what is on the page afterwards.
 fn assert_wrote(
     rt: &impl Abort,
     ended: Result<(), WriteFault>,
     wanted: Result<(), WriteFault>,
-    sheet: &Sheet,
+    page: &Page,
     text: &[u8],
 ) {
     assert_eq!(rt; ended, wanted);
-    assert_eq!(rt; sheet.bytes.as_slice(), text);
+    assert_eq!(rt; page.bytes.as_slice(), text);
 }
 
 #[test]
 fn writers_of_lines(rt: HostRuntime) {
-    let mut sheet = Sheet::new();
+    let mut page = Page::new(32, 256);
     let mut line = Line::new();
     line.push_str("d");
     push_spaced(&mut line, 18_446_744_073_709_551_615);
-    let ended = write_bytes(&mut sheet, line.as_str().as_bytes());
-    assert_wrote(&rt, ended, Ok(()), &sheet, b"d 18446744073709551615");
-    let ended = write_list(&mut sheet, b"r", &[Vertex(0), Vertex(70), Vertex(5)]);
+    let ended = write_bytes(&mut page, line.as_str().as_bytes());
+    assert_wrote(&rt, ended, Ok(()), &page, b"d 18446744073709551615");
+    let ended = write_list(&mut page, b"r", &[Vertex(0), Vertex(70), Vertex(5)]);
     let both = b"d 18446744073709551615r 0 70 5\n";
-    assert_wrote(&rt, ended, Ok(()), &sheet, both);
-    let ended = write_list(&mut sheet, b"m", &[Vertex(1)]);
+    assert_wrote(&rt, ended, Ok(()), &page, both);
+    let ended = write_list(&mut page, b"m", &[Vertex(1)]);
     let full = b"d 18446744073709551615r 0 70 5\nm";
-    assert_wrote(&rt, ended, Err(WriteFault), &sheet, full);
-    let ended = write_bytes(&mut sheet, b"");
-    assert_wrote(&rt, ended, Ok(()), &sheet, full);
+    assert_wrote(&rt, ended, Err(WriteFault), &page, full);
+    let ended = write_bytes(&mut page, b"");
+    assert_wrote(&rt, ended, Ok(()), &page, full);
 }
 
 #[test]
 fn gathers_and_passes_on(rt: HostRuntime) -> Result<(), Fail> {
-    let mut buffered = Buffered::new(rt.alloc(), Sheet::new())?;
+    let mut buffered = Buffered::new(rt.alloc(), Page::new(32, 256))?;
     for _ in 0..3 {
         let ended = write_bytes(&mut buffered, b"0123456789");
         assert_wrote(&rt, ended, Ok(()), buffered.inner(), b"");

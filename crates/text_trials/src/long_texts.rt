@@ -4,9 +4,9 @@ ghost use Rattle.std.specs.Prelude.{refl, None};
 
 use ghost_count::Count;
 use graph_text::read_gr;
-use road_text::{Plain, ReadFailed, RoadRead};
 use std::alloc::Global;
 use std::io::{self, Read};
+use text_lines::{Plain, ReadFailed, RoadRead};
 
 /// Gives this many pieces, each as long as is asked for, of the letter that begins a comment line.
 #[derive(Drop)]

@@ -4,15 +4,15 @@ ghost use Rattle.road_files.specs.Asked.{AskWithin};
 
 use answer_check::{Reason, Verdict, check, right_lines_are_certified};
 use answer_text::{Answers, read_answers};
-use graph_text::read_gr;
+use graph_text::read_gr_as;
 use path_algebra::{PathAlgebra, Reach, Shortest, Widest, Within};
 use road_files::{Questions, read_questions};
-use road_graph::Graph;
-use road_text::Plain;
+use road_graph::OutGraph;
 use std::alloc::Global;
 use std::process::Abort;
 use std::test::Fail;
 use std::thread::Threads;
+use text_lines::Plain;
 
 /// Five vertices. No arc leads to the last.
 const FIVE: &str = "p sp 5 7\na 1 2 4\na 1 3 1\na 3 2 2\na 2 4 5\na 3 4 8\na 4 4 0\na 5 1 3\n";
@@ -24,8 +24,8 @@ const FROM_ONE: &str = "p aux sp ss 1\ns 1\n";
 const LINES: &str = "d 1 0 0 0\nd 2 3 2 3\nd 3 1 1 1\nd 4 8 3 2\nu 5\n";
 
 /// The graph of a text that has no fault.
-fn graph_of(rt: &(impl Abort + AllocGlobal), text: &str) -> Graph {
-    match read_gr(rt.alloc(), &mut Plain::new(text.as_bytes())) {
+fn graph_of(rt: &(impl Abort + AllocGlobal), text: &str) -> OutGraph {
+    match read_gr_as(rt.alloc(), &mut Plain::new(text.as_bytes())) {
         Ok(graph) => graph,
         Err(_) => panic!(rt; "no graph"),
     }

@@ -1,4 +1,4 @@
-use Rattle.road_text.proofs.ParserLaws.{reads_text}
+use Rattle.text_lines.proofs.ParserLaws.{reads_text}
 use Rattle.answer_text.specs.AnswerData.{answer_list}
 use Rattle.answer_text.specs.AnswerFiles.{answer_rules}
 use Rattle.answer_text.specs.AnswerTakes.{answer_meaning}

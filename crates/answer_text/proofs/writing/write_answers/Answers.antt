@@ -1,5 +1,5 @@
 use Rattle.std.proofs.Common.{arith}
-use Rattle.road_text.proofs.WriteLaws.{fell_out}
+use Rattle.text_lines.proofs.WriteLaws.{fell_out}
 use Rattle.answer_text.proofs.Blocks.{header_then, header_fell}
 use Rattle.answer_text.proofs.writing.write_answers.Goals as goal
 

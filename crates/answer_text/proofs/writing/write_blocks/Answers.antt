@@ -2,7 +2,7 @@ use Rattle.std.proofs.Common.{ap}
 use Rattle.answer_text.specs.AnswerText.{answer_text}
 use Rattle.answer_text.specs.AnswerData.{answer_data}
 use Rattle.answer_text.proofs.Blocks.{answer_left, answer_fell}
-use Rattle.road_text.proofs.WriteLaws.{fell_out}
+use Rattle.text_lines.proofs.WriteLaws.{fell_out}
 use Rattle.answer_text.proofs.writing.write_blocks.Goals as goal
 
 pub loop-answer-preserved : goal.loop-answer-preserved

@@ -1,5 +1,5 @@
 use Rattle.std.proofs.Common.{drop, map}
-use Rattle.road_text.specs.Written.{WrotePrefix}
+use Rattle.text_lines.specs.Written.{WrotePrefix}
 use Rattle.answer_text.specs.AnswerText.{blocks_text}
 use Rattle.answer_text.specs.AnswerData.{answer_data}
 use Rattle.answer_text.proofs.writing.write_blocks.Given as goal

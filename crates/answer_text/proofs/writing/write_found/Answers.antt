@@ -1,4 +1,4 @@
-use Rattle.road_text.proofs.WriteLaws.{fell_first, fell_out}
+use Rattle.text_lines.proofs.WriteLaws.{fell_first, fell_out}
 use Rattle.answer_text.proofs.Blocks.{list_last}
 use Rattle.answer_text.proofs.writing.write_found.Goals as goal
 

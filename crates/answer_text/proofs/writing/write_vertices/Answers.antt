@@ -1,6 +1,6 @@
 use Rattle.std.proofs.Common.{refl, subst, sym, arith}
-use Rattle.road_text.specs.Written.{WrotePrefix}
-use Rattle.road_text.proofs.WriteLaws.{left_start, left_end, fell_out}
+use Rattle.text_lines.specs.Written.{WrotePrefix}
+use Rattle.text_lines.proofs.WriteLaws.{left_start, left_end, fell_out}
 use Rattle.answer_text.proofs.VertexLines.{vertices_start, vertices_end, vertex_left, vertex_fell}
 use Rattle.answer_text.proofs.writing.write_vertices.Goals as goal
 

@@ -1,6 +1,6 @@
 use Rattle.std.proofs.Common.{map}
-use Rattle.road_text.specs.Words.{word_of}
-use Rattle.road_text.proofs.ParserLaws.{reads_text}
+use Rattle.text_lines.specs.Words.{word_of}
+use Rattle.text_lines.proofs.ParserLaws.{reads_text}
 use Rattle.graph_text.specs.GraphFiles.{gr_rules}
 use Rattle.graph_text.specs.GraphTakes.{graph_meaning}
 use Rattle.graph_text.proofs.GraphParserLaws.{by_value, by_fault}

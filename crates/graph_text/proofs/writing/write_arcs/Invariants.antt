@@ -1,8 +1,8 @@
 use Rattle.std.proofs.Common.{map}
-use Rattle.road_text.specs.Texts.{text_of}
-use Rattle.road_text.specs.Written.{WrotePrefix}
+use Rattle.text_lines.specs.Texts.{text_of}
+use Rattle.text_lines.specs.Written.{WrotePrefix}
 use Rattle.graph_text.specs.WrittenGraphs.{arc_words}
-use Rattle.road_text.proofs.WriteLaws.{lines_from}
+use Rattle.text_lines.proofs.WriteLaws.{lines_from}
 use Rattle.graph_text.proofs.writing.write_arcs.Given as goal
 
 abbrev pub invariant-loop-number : goal.invariant-loop-number

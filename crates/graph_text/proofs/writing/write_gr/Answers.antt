@@ -1,8 +1,8 @@
 use Rattle.std.proofs.Common.{◌∙◌, ℕ, ap}
-use Rattle.road_text.specs.Texts.{spelled}
+use Rattle.text_lines.specs.Texts.{spelled}
 use Rattle.graph_text.specs.WrittenGraphs.{graph_words}
 use Rattle.graph_text.proofs.WrittenGraphs.{graph_then, graph_fell}
-use Rattle.road_text.proofs.WriteLaws.{fell_out}
+use Rattle.text_lines.proofs.WriteLaws.{fell_out}
 use Rattle.graph_text.proofs.writing.write_gr.Goals as goal
 
 pub returns : goal.returns

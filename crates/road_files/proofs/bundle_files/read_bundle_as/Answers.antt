@@ -1,6 +1,6 @@
 use Rattle.std.proofs.Common.{map}
-use Rattle.road_text.specs.Words.{word_of}
-use Rattle.road_text.proofs.ParserLaws.{reads_text, reads_sure}
+use Rattle.text_lines.specs.Words.{word_of}
+use Rattle.text_lines.proofs.ParserLaws.{reads_text, reads_sure}
 use Rattle.road_files.specs.Asked.{AreQuestionsOf}
 use Rattle.road_files.specs.BundleFiles.{bundle_with, bundle_rules}
 use Rattle.road_files.specs.BundleTakes.{bundle_meaning}

@@ -1,4 +1,4 @@
-use Rattle.road_text.proofs.ParserLaws.{reads_text, reads_sure}
+use Rattle.text_lines.proofs.ParserLaws.{reads_text, reads_sure}
 use Rattle.road_files.specs.Asked.{asked_of}
 use Rattle.road_files.specs.QuestionFiles.{question_rules}
 use Rattle.road_files.specs.QuestionTakes.{question_meaning, FitsFile}

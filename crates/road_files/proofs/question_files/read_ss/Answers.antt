@@ -1,6 +1,6 @@
 use Rattle.std.proofs.Common.{Some}
 use Rattle.std.proofs.lemmas.Result.{err_from_is_err_and}
-use Rattle.road_text.proofs.ParserLaws.{reads_part, reads_no_part}
+use Rattle.text_lines.proofs.ParserLaws.{reads_part, reads_no_part}
 use Rattle.road_files.specs.declared.questions.Kind.TheVariants as kinds
 use Rattle.road_files.specs.declared.questions.Questions.TheVariants.{Sources}
 use Rattle.road_files.specs.Asked.{asked_of}

@@ -1,5 +1,5 @@
 use Rattle.std.proofs.Common.{arith}
-use Rattle.road_text.proofs.ListLaws.{list_then, list_fell}
+use Rattle.text_lines.proofs.ListLaws.{list_then, list_fell}
 use Rattle.road_files.proofs.writing.write_list.Goals as goal
 
 pub returns : goal.returns

@@ -1,7 +1,7 @@
 use Rattle.std.proofs.Common.{map}
-use Rattle.road_text.specs.Texts.{text_of}
-use Rattle.road_text.specs.Written.{WrotePrefix}
-use Rattle.road_text.proofs.WriteLaws.{lines_from}
+use Rattle.text_lines.specs.Texts.{text_of}
+use Rattle.text_lines.specs.Written.{WrotePrefix}
+use Rattle.text_lines.proofs.WriteLaws.{lines_from}
 use Rattle.road_files.specs.Asked.{of_source}
 use Rattle.road_files.specs.WrittenQuestions.{question_words}
 use Rattle.road_files.proofs.writing.write_sources.Given as goal

@@ -1,8 +1,8 @@
 use Rattle.std.proofs.Common.{◌∙◌, ◌∷◌, ℕ, decimal, ap, sym, drop_of_length-le}
 use Rattle.std.proofs.lemmas.List.{get_or_default}
-use Rattle.road_text.specs.Texts.{spaced}
-use Rattle.road_text.proofs.ListLaws.{number_left, number_fell}
-use Rattle.road_text.proofs.WriteLaws.{wrote_last, fell_out}
+use Rattle.text_lines.specs.Texts.{spaced}
+use Rattle.text_lines.proofs.ListLaws.{number_left, number_fell}
+use Rattle.text_lines.proofs.WriteLaws.{wrote_last, fell_out}
 use Rattle.road_files.proofs.writing.write_vertices.Goals as goal
 
 pub loop-vertex-preserved : goal.loop-vertex-preserved

@@ -1,6 +1,6 @@
 use Rattle.std.proofs.Common.{drop}
-use Rattle.road_text.specs.Texts.{spaced}
-use Rattle.road_text.specs.Written.{WrotePrefix}
+use Rattle.text_lines.specs.Texts.{spaced}
+use Rattle.text_lines.specs.Written.{WrotePrefix}
 use Rattle.road_files.proofs.writing.write_vertices.Given as goal
 
 abbrev pub invariant-loop-vertex : goal.invariant-loop-vertex

@@ -1,6 +1,6 @@
 use Rattle.std.proofs.Common.{arith}
 use Rattle.std.proofs.lemmas.Grind.{common_steps}
-use Rattle.road_text.specs.Texts.{spelled}
+use Rattle.text_lines.specs.Texts.{spelled}
 use Rattle.road_files.proofs.written_lines.fill_source.Goals as goal
 
 pub returns : goal.returns

@@ -1,10 +1,10 @@
 use Rattle.std.proofs.Common.{◌≡◌, ℕ, List, [], Bool, Vec, Ok, Err, subst}
 use Rattle.std.specs.declared.alloc.Global.{Global}
-use Rattle.road_text.specs.declared.faults.ReadFault.{ReadFault}
-use Rattle.road_text.specs.Rules.{value_of_lines}
-use Rattle.road_text.specs.Takes.{GivesBy}
-use Rattle.road_text.specs.Meaning.{Meaning}
-use Rattle.road_text.proofs.ParserLaws.{reads_value, reads_fault}
+use Rattle.text_lines.specs.declared.faults.ReadFault.{ReadFault}
+use Rattle.text_lines.specs.Rules.{value_of_lines}
+use Rattle.text_lines.specs.Takes.{GivesBy}
+use Rattle.text_lines.specs.Meaning.{Meaning}
+use Rattle.text_lines.proofs.ParserLaws.{reads_value, reads_fault}
 use Rattle.text_trials.specs.Numbers.{numbers_rules}
 use Rattle.text_trials.proofs.lines.read_numbers.Goals as goal
 

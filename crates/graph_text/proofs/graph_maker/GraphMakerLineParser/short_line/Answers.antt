@@ -1,4 +1,4 @@
-use Rattle.road_text.proofs.ParserLaws.{gives_taken}
+use Rattle.text_lines.proofs.ParserLaws.{gives_taken}
 use Rattle.graph_text.specs.GraphFiles.{gr_rules}
 use Rattle.graph_text.specs.GraphTakes.{taken_of}
 use Rattle.graph_text.proofs.graph_maker.GraphMakerLineParser.short_line.Goals as goal

@@ -1,21 +1,21 @@
 use Rattle.std.proofs.Common.{◌∙◌}
-use Rattle.road_text.proofs.ParserLaws.{on_ok, gives_taken, gives_broken}
+use Rattle.text_lines.proofs.ParserLaws.{on_ok, gives_taken, gives_broken}
 use Rattle.road_files.specs.BundleFiles.{bundle_with, bundle_rules}
 use Rattle.road_files.specs.BundleTakes.{bundle_so_far}
 use Rattle.road_files.proofs.BundleParserLaws.{kept_rule}
 use Rattle.road_files.proofs.bundle_parser.BundleParserLineParser.line.Goals as goal
 
 pub returns-clause-ok : goal.returns-clause-ok
-returns-clause-ok g c = on_ok c.take.result _ _ c.take.ensures.rule
+returns-clause-ok g c = on_ok c.parse_line.result _ _ c.parse_line.ensures.rule
     (λ e cut at l rest r shown so h. (
       gives_taken bundle_rules (bundle_with g.G.FromArcs.roads) (bundle_so_far c.args.self.now.part)
-          (bundle_so_far c.take.new.self.part) cut at l rest r (kept_rule c.args.self.now.part c.args.slots.now l shown so ∙ e) h.0,
+          (bundle_so_far c.parse_line.new.self.part) cut at l rest r (kept_rule c.args.self.now.part c.args.slots.now l shown so ∙ e) h.0,
       h.1,
     ))
 
 pub returns-clause-broken : goal.returns-clause-broken
 returns-clause-broken g c = λ rule is cut at l rest shown so. (
   gives_broken bundle_rules (bundle_with g.G.FromArcs.roads) (bundle_so_far c.args.self.now.part) cut at l rest rule.number
-      (kept_rule c.args.self.now.part c.args.slots.now l shown so ∙ (rw is at c.take.ensures.rule)),
+      (kept_rule c.args.self.now.part c.args.slots.now l shown so ∙ (rw is at c.parse_line.ensures.rule)),
   tt,
 )

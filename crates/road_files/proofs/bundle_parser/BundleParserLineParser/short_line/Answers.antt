@@ -1,5 +1,5 @@
 use Rattle.std.proofs.Common.{rules, ◌≡◌}
-use Rattle.road_text.proofs.ParserLaws.{gives_taken}
+use Rattle.text_lines.proofs.ParserLaws.{gives_taken}
 use Rattle.graph_text.specs.GraphTakes.{taken_of}
 use Rattle.road_files.specs.BundleFiles.{InGraph, bundle_with, bundle_rules}
 use Rattle.road_files.specs.BundleTakes.{bundle_so_far}

@@ -1,5 +1,5 @@
 use Rattle.std.proofs.Common.{◌<◌, ◌∙◌, ap, arith}
-use Rattle.road_text.specs.Words.{Word}
+use Rattle.text_lines.specs.Words.{Word}
 use Rattle.road_files.specs.QuestionFiles.{one_vertex_more}
 use Rattle.road_files.specs.QuestionTakes.{sources_given}
 use Rattle.road_files.proofs.ListFields.{next_field, on_both}

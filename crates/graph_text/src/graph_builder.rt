@@ -1,23 +1,23 @@
 //! The arcs of a graph file so far.
 ghost use Rattle.std.specs.Prelude.{◌≡◌, ◌<◌, ◌≤◌, ◌++◌, ◌∷◌, [], length, map, IfOk, IfErr, OnOk, MatchResult, option_map, true, false, Ok};
 ghost use Rattle.road_graph.specs.GraphData.{JoinsVertices, IsGraph};
-ghost use Rattle.road_text.specs.Slots.{word_in};
-ghost use Rattle.road_text.specs.Takes.{Leaves, Breaks};
+ghost use Rattle.text_lines.specs.Slots.{word_in};
+ghost use Rattle.text_lines.specs.Takes.{Leaves, Breaks};
 ghost use Rattle.graph_text.specs.GraphFiles.{one_arc, gr_whole, graph_read};
 
 use crate::from_arcs::FromArcs;
 use crate::number_fields::{number_up_to, vertex_of};
 use crate::rules::{FIELDS, NO_PROBLEM, TOO_FEW, TOO_MANY};
 use road_graph::{RoadArc, Vertex};
-use road_text::{LineFault, Slot};
 use std::alloc::Global;
+use text_lines::{LineFault, Slot, push_item};
 
 /// The greatest weight of an arc.
 const MAX_WEIGHT: u32 = 4_294_967_295;
 
 /// What the problem line announced, and the arcs so far.
 #[derive(Drop)]
-pub struct TakenRoads {
+pub struct GraphBuilder {
     pub vertices: u32,
     pub announced: u32,
     pub arcs: Vec<RoadArc>,
@@ -27,7 +27,7 @@ pub struct TakenRoads {
     ghost graph: { IsGraph (record { vertices = vertices; arcs = arcs.items }) },
 }
 
-impl TakenRoads {
+impl GraphBuilder {
     ghost use Rattle.graph_text.specs.GraphTakes.{roads_so_far, FitsArc};
 
     fn push(&mut self, arc: RoadArc) -> Result<(), LineFault>
@@ -37,13 +37,10 @@ impl TakenRoads {
             { arcs = self.old.arcs.items ++ arc ∷ [] }) }
         ensures err { IfErr result (λ e. e ≡ LineFault.Memory) }
     {
-        match self.arcs.push(arc) {
-            Ok(()) => Ok(()),
-            Err(_) => Err(LineFault::Memory),
-        }
+        push_item(&mut self.arcs, arc)
     }
 
-    /// Takes the arc of these numbers if it breaks no rule and there is room for it. Else it changes nothing.
+    /// Adds the arc of these numbers if it breaks no rule and there is room for it. Else it changes nothing.
     #[tactic(auto, unfolding(crate::specs::GraphFiles::one_arc))]
     pub fn short_arc(&mut self, numbers: (u64, u64, u64)) -> bool
         ensures left { result ≡ false → self.new ≡ self.old }
@@ -76,7 +73,7 @@ impl TakenRoads {
         true
     }
 
-    /// Takes the arc of a line after the problem line.
+    /// Adds the arc of a line after the problem line.
     #[tactic(auto, unfolding(crate::specs::GraphFiles::one_arc))]
     pub fn add(&mut self, slots: &[Slot]) -> Result<(), LineFault>
         ensures { Leaves (one_arc (roads_so_far self.old) (map word_in slots.now)) result
@@ -95,7 +92,7 @@ impl TakenRoads {
     }
 
     /// All announced arcs, if they are there.
-    pub fn whole(taken: Option<TakenRoads>) -> Result<TakenRoads, LineFault>
+    pub fn complete(taken: Option<GraphBuilder>) -> Result<GraphBuilder, LineFault>
         ensures { MatchResult result (λ t. gr_whole (option_map roads_so_far taken) ≡ Ok
             (roads_so_far t)) (Breaks (gr_whole (option_map roads_so_far taken))) }
     {
@@ -108,7 +105,7 @@ impl TakenRoads {
         }
     }
 
-    /// The graph of the arcs that were taken.
+    /// The graph of these arcs.
     pub fn build<G: FromArcs>(self, alloc: Global) -> Result<G, LineFault>
         ensures graph { IfOk result (λ g. G.roads g ≡ graph_read (roads_so_far self)) }
         ensures memory { IfErr result (λ e. e ≡ LineFault.Memory) }

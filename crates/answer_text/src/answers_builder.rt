@@ -1,7 +1,7 @@
 //! The answers of a text so far.
 ghost use Rattle.std.specs.Prelude.{◌≡◌, ◌+◌, ◌<◌, ◌&&◌, ℕ, List, map, nat_lt, length, OnOk, IfErr, MatchResult, Ok, [], Some, codes};
-ghost use Rattle.road_text.specs.Slots.{word_in};
-ghost use Rattle.road_text.specs.Takes.{Breaks, Leaves};
+ghost use Rattle.text_lines.specs.Slots.{word_in};
+ghost use Rattle.text_lines.specs.Takes.{Breaks, Leaves};
 ghost use Rattle.answer_text.specs.AnswerFiles.{AfterFound, AfterPair, Between, InLines, ManySources, OneSource, answer_line, begins, first_line, header_line, heading_line, route_line, sources_line, with_answer, with_lines};
 ghost use Rattle.answer_text.specs.AnswerTakes.{answers_so_far, numbers_given};
 ghost use Rattle.answer_text.specs.AnswerData.{answer_data};
@@ -15,8 +15,8 @@ use crate::writing::MAX_ANSWERS;
 use path_algebra::AlgebraName;
 use road_files::Kind;
 use road_graph::Vertex;
-use road_text::{LineFault, Slot};
 use std::alloc::Global;
+use text_lines::{LineFault, Slot, push_item};
 
 /// Which line comes next, by what was read of the present answer.
 #[derive(Clone, Copy)]
@@ -33,15 +33,15 @@ pub enum Awaited {
     Found(Vertex, Vertex, u64, u32),
 }
 
-/// What the header says, the answers that are whole, and the present one.
+/// What the header says, the complete answers, and the present one.
 #[derive(Drop)]
-pub struct TakenAnswers {
+pub struct AnswersBuilder {
     pub alloc: Global,
     pub kind: Kind,
     pub name: AlgebraName,
     /// How many answers the header announces.
     pub announced: u32,
-    /// The answers that are whole.
+    /// The complete answers.
     pub list: Vec<Answer>,
     pub awaited: Awaited,
     /// The sources of the present answer, if it has several.
@@ -52,7 +52,7 @@ pub struct TakenAnswers {
 
 /// `p ans KIND K NAME`.
 #[tactic(auto, unfolding(crate::specs::AnswerFiles::header_line))]
-fn header_in(alloc: Global, slots: &[Slot]) -> Result<TakenAnswers, LineFault>
+fn header_in(alloc: Global, slots: &[Slot]) -> Result<AnswersBuilder, LineFault>
     ensures { MatchResult result (λ t. header_line (map word_in slots.now) ≡ Ok (answers_so_far t))
         (Breaks (header_line (map word_in slots.now))) }
 {
@@ -62,7 +62,7 @@ fn header_in(alloc: Global, slots: &[Slot]) -> Result<TakenAnswers, LineFault>
     let kind = kind_of(&slots[2])?;
     let name = name_of(&slots[4])?;
     let announced = number_up_to(&slots[3], MAX_ANSWERS)?;
-    Ok(TakenAnswers {
+    Ok(AnswersBuilder {
         alloc,
         kind,
         name,
@@ -75,7 +75,7 @@ fn header_in(alloc: Global, slots: &[Slot]) -> Result<TakenAnswers, LineFault>
 }
 
 /// The first line that is neither blank nor a comment: the header.
-pub fn first_in(alloc: Global, slots: &[Slot]) -> Result<TakenAnswers, LineFault>
+pub fn first_in(alloc: Global, slots: &[Slot]) -> Result<AnswersBuilder, LineFault>
     ensures { MatchResult result (λ t. first_line (map word_in slots.now) ≡ Ok (answers_so_far t))
         (Breaks (first_line (map word_in slots.now))) }
 {
@@ -85,21 +85,18 @@ pub fn first_in(alloc: Global, slots: &[Slot]) -> Result<TakenAnswers, LineFault
     header_in(alloc, slots)
 }
 
-impl TakenAnswers {
-    /// Adds an answer that is whole.
+impl AnswersBuilder {
+    /// Adds a complete answer.
     fn push(&mut self, answer: Answer) -> Result<(), LineFault>
         ensures pushed { OnOk result (answers_so_far self.new ≡ with_answer
             (answers_so_far self.old) (answer_data answer)) }
         ensures memory { IfErr result (λ e. e ≡ LineFault.Memory) }
     {
         self.awaited = Awaited::Between;
-        match self.list.push(answer) {
-            Ok(()) => Ok(()),
-            Err(_) => Err(LineFault::Memory),
-        }
+        push_item(&mut self.list, answer)
     }
 
-    /// Makes the present answer one from this source with the lines so far. It is whole if there are `n` lines.
+    /// Makes the present answer one from this source with the lines so far. It is complete if there are `n` lines.
     fn set_source(&mut self, n: u32, source: Vertex) -> Result<(), LineFault>
         ensures set { OnOk result (answers_so_far self.new ≡ with_lines n (answers_so_far self.old)
             (OneSource source) self.old.lines.items) }
@@ -113,7 +110,7 @@ impl TakenAnswers {
         self.push(Answer::Source { source, lines })
     }
 
-    /// Makes the present answer one from the sources with the lines so far. It is whole if there are `n` lines.
+    /// Makes the present answer one from the sources with the lines so far. It is complete if there are `n` lines.
     fn set_sources(&mut self, n: u32) -> Result<(), LineFault>
         ensures set { OnOk result (answers_so_far self.new ≡ with_lines n (answers_so_far self.old)
             (ManySources self.old.sources.items) self.old.lines.items) }
@@ -128,7 +125,7 @@ impl TakenAnswers {
         self.push(Answer::Multi { sources, lines })
     }
 
-    /// Takes the line of a question from one source.
+    /// Adds the line of a question from one source.
     fn question_from(&mut self, n: u32, slots: &[Slot]) -> Result<(), LineFault>
         ensures { Leaves (heading_line n (answers_so_far self.old) (map word_in slots.now) 0 (Ok [])
             Kind.Sources) result (answers_so_far self.new) }
@@ -138,7 +135,7 @@ impl TakenAnswers {
         self.set_source(n, source)
     }
 
-    /// Takes the line of a question about a pair.
+    /// Adds the line of a question about a pair.
     fn question_between(&mut self, slots: &[Slot]) -> Result<(), LineFault>
         ensures { Leaves (heading_line 0 (answers_so_far self.old) (map word_in slots.now) 0 (Ok [])
             Kind.Pairs) result (answers_so_far self.new) }
@@ -148,7 +145,7 @@ impl TakenAnswers {
         Ok(())
     }
 
-    /// Takes the line of a question from several sources.
+    /// Adds the line of a question from several sources.
     fn question_from_many(
         &mut self,
         n: u32,
@@ -165,7 +162,7 @@ impl TakenAnswers {
         self.set_sources(n)
     }
 
-    /// Takes the line that names the next question, if there is another question.
+    /// Adds the line that names the next question, if there is another question.
     fn question(
         &mut self,
         n: u32,
@@ -185,32 +182,28 @@ impl TakenAnswers {
         }
     }
 
-    /// Takes the line of the next vertex, from one source.
+    /// Adds the line of the next vertex, from one source.
     fn vertex_from(&mut self, n: u32, slots: &[Slot], source: Vertex) -> Result<(), LineFault>
         ensures { Leaves (answer_line n (answers_so_far self.old) (map word_in slots.now) 0 (Ok [])
             (InLines (OneSource source) self.old.lines.items)) result (answers_so_far self.new) }
     {
         let line = vertex_in(slots, self.lines.len() as u64 + 1)?;
-        match self.lines.push(line) {
-            Ok(()) => self.set_source(n, source),
-            Err(_) => Err(LineFault::Memory),
-        }
+        push_item(&mut self.lines, line)?;
+        self.set_source(n, source)
     }
 
-    /// Takes the line of the next vertex, from several sources.
+    /// Adds the line of the next vertex, from several sources.
     fn vertex_from_many(&mut self, n: u32, slots: &[Slot]) -> Result<(), LineFault>
         ensures { Leaves (answer_line n (answers_so_far self.old) (map word_in slots.now) 0 (Ok [])
             (InLines (ManySources self.old.sources.items) self.old.lines.items)) result
             (answers_so_far self.new) }
     {
         let line = vertex_in(slots, self.lines.len() as u64 + 1)?;
-        match self.lines.push(line) {
-            Ok(()) => self.set_sources(n),
-            Err(_) => Err(LineFault::Memory),
-        }
+        push_item(&mut self.lines, line)?;
+        self.set_sources(n)
     }
 
-    /// Takes the value of a pair.
+    /// Adds the value of a pair.
     fn value(&mut self, slots: &[Slot], source: Vertex, target: Vertex) -> Result<(), LineFault>
         ensures { Leaves (answer_line 0 (answers_so_far self.old) (map word_in slots.now) 0 (Ok [])
             (AfterPair source target)) result (answers_so_far self.new) }
@@ -228,7 +221,7 @@ impl TakenAnswers {
         }
     }
 
-    /// Takes the route of a pair.
+    /// Adds the route of a pair.
     fn route(
         &mut self,
         slots: &[Slot],
@@ -250,8 +243,8 @@ impl TakenAnswers {
         })
     }
 
-    /// Takes a line after the header, over a graph with `n` vertices. The numbers of a list were taken before.
-    pub fn take(
+    /// Adds a line after the header, over a graph with `n` vertices. The numbers of a list were taken before.
+    pub fn add_line(
         &mut self,
         n: u32,
         slots: &[Slot],

@@ -1,7 +1,7 @@
 //! The questions of a file so far.
 ghost use Rattle.std.specs.Prelude.{◌≡◌, ◌≤◌, All, length, map, IfOk, MatchResult, Some, true, Ok};
-ghost use Rattle.road_text.specs.Slots.{word_in};
-ghost use Rattle.road_text.specs.Takes.{Leaves, Breaks};
+ghost use Rattle.text_lines.specs.Slots.{word_in};
+ghost use Rattle.text_lines.specs.Takes.{Leaves, Breaks};
 ghost use Rattle.graph_text.specs.Vertices.{IsVertexOf};
 ghost use Rattle.road_files.specs.Asked.{FromSource, of_source, of_pair, of_list, asked_of, AreQuestionsOf, AskWithin, AskWithin-prop};
 ghost use Rattle.road_files.specs.QuestionFiles.{source_of_line, pair_of_line, sources_of_line, one_more, one_question, question_end};
@@ -12,8 +12,8 @@ use crate::questions::{Kind, Questions};
 use graph_text::rules::{FIELDS, TOO_FEW, TOO_MANY, UNKNOWN_LINE};
 use graph_text::vertex_of;
 use road_graph::Vertex;
-use road_text::{LineFault, Slot};
 use std::alloc::Global;
+use text_lines::{LineFault, Slot, push_item};
 
 /// The vertex on the line of a source.
 #[tactic(auto, unfolding(crate::specs::QuestionFiles::source_of_line))]
@@ -59,10 +59,7 @@ fn add_source(
         return Err(LineFault::Broken(TOO_MANY));
     }
     let source = source_in(slots, vertices)?;
-    match sources.push(source) {
-        Ok(()) => Ok(()),
-        Err(_) => Err(LineFault::Memory),
-    }
+    push_item(sources, source)
 }
 
 fn add_pair(
@@ -81,15 +78,12 @@ fn add_pair(
         return Err(LineFault::Broken(TOO_MANY));
     }
     let pair = pair_in(slots, vertices)?;
-    match pairs.push(pair) {
-        Ok(()) => Ok(()),
-        Err(_) => Err(LineFault::Memory),
-    }
+    push_item(pairs, pair)
 }
 
 /// What the problem line announced, and the questions so far.
 #[derive(Drop)]
-pub struct TakenQuestions {
+pub struct QuestionsBuilder {
     /// The number of vertices of the graph.
     pub vertices: u32,
     /// How many questions are announced.
@@ -100,7 +94,7 @@ pub struct TakenQuestions {
     ghost within: { AskWithin vertices questions } by { AskWithin-prop vertices questions },
 }
 
-impl TakenQuestions {
+impl QuestionsBuilder {
     ghost use Rattle.road_files.specs.QuestionTakes.{sources_given, asked_so_far};
 
     fn add_list(
@@ -121,14 +115,11 @@ impl TakenQuestions {
         if lists.len() >= announced as usize {
             return Err(LineFault::Broken(TOO_MANY));
         }
-        let sources = list.whole(alloc)?;
-        match lists.push(sources) {
-            Ok(()) => Ok(()),
-            Err(_) => Err(LineFault::Memory),
-        }
+        let sources = list.complete(alloc)?;
+        push_item(lists, sources)
     }
 
-    /// Takes the line of a source.
+    /// Adds the question of a source.
     pub fn source(&mut self, slots: &[Slot]) -> Result<(), LineFault>
         ensures rule { Leaves (one_question Kind.Sources (Some (asked_so_far self.old))
             (source_of_line self.old.vertices (map word_in slots.now))) result
@@ -147,7 +138,7 @@ impl TakenQuestions {
         }
     }
 
-    /// Takes the line of a pair.
+    /// Adds the question of a pair.
     pub fn pair(&mut self, slots: &[Slot]) -> Result<(), LineFault>
         ensures rule { Leaves (one_question Kind.Pairs (Some (asked_so_far self.old))
             (pair_of_line self.old.vertices (map word_in slots.now))) result
@@ -161,7 +152,7 @@ impl TakenQuestions {
         }
     }
 
-    /// Takes the line of a list, whose fields were taken before.
+    /// Adds the question of a list, whose fields were taken before.
     pub fn list(&mut self, list: &mut PresentList, alloc: Global) -> Result<(), LineFault>
         requires is_list { list.old.is_list ≡ true }
         requires graph { list.old.vertices ≡ self.old.vertices }
@@ -173,13 +164,18 @@ impl TakenQuestions {
         ensures list { list.new.vertices ≡ list.old.vertices }
     {
         match &mut self.questions {
-            Questions::Multi(lists) => TakenQuestions::add_list(lists, self.announced, list, alloc),
+            Questions::Multi(lists) => QuestionsBuilder::add_list(
+                lists,
+                self.announced,
+                list,
+                alloc,
+            ),
             Questions::Sources(_) | Questions::Pairs(_) => Err(LineFault::Broken(UNKNOWN_LINE)),
         }
     }
 
     /// All announced questions, if they are there.
-    pub fn whole(self) -> Result<Questions, LineFault>
+    pub fn complete(self) -> Result<Questions, LineFault>
         ensures rule { MatchResult result (λ q. question_end (Some (asked_so_far self)) ≡ Ok
             (asked_of q)) (Breaks (question_end (Some (asked_so_far self)))) }
         ensures fit { IfOk result (AreQuestionsOf self.vertices) }

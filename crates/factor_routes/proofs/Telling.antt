@@ -30,9 +30,6 @@ module _ {X : Type 0} (xs : List (Option X)) (x : Option X) (n : ℕ) (count : l
       ap (λ (i : ℕ). get_or (xs ++ x ∷ []) i None) place ∙ get_or-append_seam xs x [] None
 
 module _ {V : Type 0} (A : Algebra V) (g : GraphData) (sources : List ℕ) where
-  pub told_none : AreTold A g sources 0 [] [] []
-  told_none = record { values_count = refl; hops_count = refl; parents_count = refl; told = λ v low high. absurd (omega (arith, low, high)) }
-
   pub told_more : (n : ℕ) (values : List (Option V)) (hops parents : List (Option ℕ)) (x : Option V) (h p : Option ℕ) →
       AreTold A g sources n values hops parents → IsToldOf A g sources (n + 1) x h p →
       AreTold A g sources (n + 1) (values ++ x ∷ []) (hops ++ h ∷ []) (parents ++ p ∷ [])

@@ -2,29 +2,17 @@
 use Rattle.std.proofs.Common.{◌≡◌, ℕ, ◌+◌, ◌-◌, ◌*◌, ◌/◌, ◌%◌, ◌<◌, ◌≤◌, ◌^◌, ◌⊎◌, inl, inr, true, min, List, [], ◌∷◌, refl, ap, sym, ◌∙◌, subst, arith, Option, Some, None, le-leb, leb-true}
 use Rattle.std.proofs.Math.Nat.{mul-le-mul_right, mul-le-mul_left, add-mul}
 use Rattle.std.proofs.lemmas.Nat.{div-add-mod'}
-use Rattle.std.proofs.Math.ListN.{get_or-map}
-use Rattle.std.proofs.lemmas.List.{length-map}
-use Rattle.std.specs.Prelude.{Contains, All, ◌↔◌, nat_le, map, option_map}
-use Rattle.road_graph.specs.GraphData.{GraphData, IsGraph, HasArc, HasVertex, arc_of}
+use Rattle.std.specs.Prelude.{Contains, All, ◌↔◌, nat_le}
+use Rattle.road_graph.specs.GraphData.{GraphData, IsGraph, HasVertex, arc_of}
 use Rattle.path_algebra.specs.Algebra.{Algebra}
 use Rattle.path_algebra.specs.Names.{AlgebraName, Own, Shortest, Within}
 use Rattle.path_algebra.specs.Given.{shortest, within}
 use Rattle.path_algebra.specs.Laws.{held_sums, limited_sums, coded_below}
-use Rattle.path_algebra.specs.Walks.{sum_of_weights, IsLeastSum, IsWalkFrom, Extends, IsBest, IsUnreached, IsBestLabel, AreBest, AreHops, IsNearer, IsParent, label_of}
+use Rattle.path_algebra.specs.Walks.{sum_of_weights, IsLeastSum, IsWalkFrom, Extends, IsBest, IsUnreached, IsBestLabel, AreHops, IsNearer, IsParent}
 use Rattle.path_algebra.specs.Counted.{counted_cost, counted, CountsFit, sum_to, sum_of_costs, IsLeastCost, IsCountedStep, IsCountedStepOf, IsCountedParent, AreBestInto, CarryHops, CarryHopsWithin}
 use Rattle.path_algebra.proofs.Walks.{all_inside}
 use Rattle.path_algebra.proofs.ShortWalks.{short_walk, sum_to-constant, least_if_best, best_if_least, no_walk_if_unreached, unreached_if_no_walk}
 use Rattle.path_algebra.proofs.Counted as core
-
--- it is enough that the greatest cost of all arcs, taken for each vertex, fits
-pub greatest_fits : (g : GraphData) (cost : ℕ → ℕ) (k greatest : ℕ) → ((a : ℕ) → HasArc g a → cost (arc_of g a).weight ≤ greatest) →
-    g.vertices < 2 ^ k → (g.vertices * greatest + 1) * 2 ^ k ≤ 2 ^ 63 → CountsFit g cost k
-greatest_fits g cost k greatest costs few fits = record {
-  heaviest = λ _. greatest;
-  costs = costs;
-  few = few;
-  fits = subst (λ (n : ℕ). (n + 1) * 2 ^ k ≤ 2 ^ 63) (sym (sum_to-constant greatest g.vertices)) fits;
-}
 
 -- sums up to a limit
 module _ (name : AlgebraName) (cost : ℕ → ℕ) (limit : ℕ) (g : GraphData) (sources : List ℕ) where
@@ -259,21 +247,6 @@ module _ (g : GraphData) (roads : IsGraph g) (sources : List ℕ) (inside : All 
       parents = λ number v y u best_v known.
           counted_parent (held_sums name cost) (2 ^ 63 - 1) held_sums_least number v y best_v known (number_fits v y best_v) u;
     }
-
-    pub sums_are_best : (numbers : List (Option ℕ)) → AreBest (counted cost k) g sources numbers →
-        AreBest (held_sums name cost) g sources (map (option_map (λ x. x / 2 ^ k)) numbers)
-    sums_are_best numbers are = record {
-      count = length-map numbers (option_map (λ x. x / 2 ^ k)) ∙ are.count;
-      best = λ v in_v.
-          subst (λ (l : Option ℕ). IsBestLabel (held_sums name cost) g sources v l)
-          (sym (get_or-map (option_map (λ x. x / 2 ^ k)) numbers (v - 1) None))
-          (one v (label_of numbers v) (are.best v in_v));
-    }
-      where
-        one : (v : ℕ) (l : Option ℕ) → IsBestLabel (counted cost k) g sources v l →
-            IsBestLabel (held_sums name cost) g sources v (option_map (λ x. x / 2 ^ k) l)
-        one v None none = (unreached_alike v).0 none
-        one v (Some x) best = (number_is_best_sum v x best).0
 
 -- Within, of the same numbers at every limit
 module _ (g : GraphData) (sources : List ℕ) (limit : ℕ) where

@@ -149,12 +149,6 @@ module _ {V W : Type 0} (C : Composition V W) (ordered : IsOrder C.no_worse) whe
       ];
     }
 
-    pub eliminated_none : (F : FactorData W) → Eliminated C v F F 0
-    eliminated_none F = record {
-      improves = improves_none C ordered (v + 1) F;
-      joined = λ p q e f low less at also. absurd (omega arith);
-    }
-
     pub eliminated_more : (F G H : FactorData W) (i : ℕ) → Eliminated C v F G i → Improves C (v + 1) G H →
         ((j : ℕ) (e f : Edge W) → i < j → IsEdgeAt G v i e → IsEdgeAt G v j f → AreJoined C H e f) →
         Eliminated C v F H (i + 1)
@@ -195,9 +189,6 @@ module _ {V W : Type 0} (C : Composition V W) (ordered : IsOrder C.no_worse) whe
         ] in
         subst (λ (l : Link W). LeadsNoWorse C G l.place y (C.compose l.walk b)) e.2
         (subst (λ (l : Link W). LeadsNoWorse C G e.0.place l.place (C.compose e.0.entering l.walk)) f.2 leads)
-
-  pub eliminated_to_none : (F : FactorData W) → EliminatedTo C F F 0
-  eliminated_to_none F = record { improves = improves_none C ordered 0 F; closed = λ v low. absurd (omega arith) }
 
   pub eliminated_to_more : (F G H : FactorData W) (k : ℕ) → EliminatedTo C F G k → Improves C (k + 1) G H → IsClosedAt C H k →
       EliminatedTo C F H (k + 1)

@@ -11,7 +11,7 @@ use Rattle.path_factors.specs.Factors.{FactorData, IsFactor, AreLinks, row_of}
 use Rattle.path_factors.specs.Substituting.{at, best_along}
 use Rattle.path_factors.specs.Edges.{AreAligned}
 use Rattle.path_factors.specs.Tree.{IsAbove, IsTreeParent}
-use Rattle.path_factors.specs.Asking.{is_on, IsBackRun, Agree, IsKnownUpward, AreUnknownUp, AreAllUnknownUp, IsExtended, AreFound}
+use Rattle.path_factors.specs.Asking.{is_on, IsBackRun, Agree, IsKnownUpward, AreUnknownUp, AreAllUnknownUp, AreFound}
 use Rattle.path_factors.proofs.Backward.{best_along_same}
 use Rattle.path_factors.proofs.Trees.{above_inside, parent_inside, above_of_faller, above_nested}
 
@@ -120,14 +120,6 @@ module _ {W : Type 0} (rows : List (List (Link W))) (n : ℕ) (known : List Bool
       let low = up.inside q lt in
       let read = get_or_default list q d v lt in
       omega (arith, low, read)
-
-  pub unknown_extends : (list : List ℕ) (v : ℕ) → AreUnknownUp rows n known t list v → (before after : List ℕ) → after ≡ before ++ list →
-      IsExtended n before after
-  unknown_extends list v up before after is = record {
-    more = list;
-    is = is;
-    inside = unknown_inside list v up;
-  }
 
 -- the places from index k of the list on are found
 pub record AreFoundFrom {V W : Type 0} (rows : List (List (Link W))) (n : ℕ) (before all : List (Option V)) (old : List Bool) (list : List ℕ) (k : ℕ)

@@ -11,7 +11,7 @@ use Rattle.path_algebra.specs.Composition.{Composition, IsComposition}
 use Rattle.path_factors.specs.declared.link.Link.{Link}
 use Rattle.path_factors.specs.Factors.{FactorData, LeadsNoWorse, IsWorthOfWalk, ArePlaces, CoversArcs, row_of, place_of}
 use Rattle.path_factors.specs.Eliminating.{IsBegun, Improves}
-use Rattle.path_factors.proofs.Connecting.{still_leads, improves_none, improves_more, worth_of_arc}
+use Rattle.path_factors.proofs.Connecting.{still_leads, improves_more, worth_of_arc}
 
 -- the arc of a road
 pub road_at : (g : GraphData) (v : ℕ) (roads : List OutRoad) → ListsRoadsFrom g v roads → (i : ℕ) (r : OutRoad) → i < length roads →
@@ -71,9 +71,6 @@ pub same_place : {V W : Type 0} (C : Composition V W) (low : ℕ) (F G : FactorD
 same_place C low F G improves v = ap (λ (p : List ℕ). get_or p (v - 1) 0) improves.places
 
 module _ {V W : Type 0} (C : Composition V W) (ordered : IsOrder C.no_worse) where
-  pub loaded_none : (tail : ℕ) (roads : List OutRoad) (F : FactorData W) → Loaded C tail roads F F 0
-  loaded_none tail roads F = record { improves = improves_none C ordered 0 F; linked = λ r i low e other. absurd (omega arith) }
-
   pub loaded_more : (tail : ℕ) (roads : List OutRoad) (F G H : FactorData W) (j : ℕ) (road : OutRoad) → Loaded C tail roads F G j →
       j < length roads → road ≡ get_or roads j road → Improves C 0 G H →
       ((tail ≡ road.head → ⊥) → LeadsNoWorse C H (place_of G tail) (place_of G road.head) (C.of_arc road.weight)) →
@@ -104,12 +101,6 @@ module _ {V W : Type 0} (C : Composition V W) (ordered : IsOrder C.no_worse) whe
       let low = at.1 in
       subst (λ (t : ℕ). LeadsNoWorse C G (place_of F t) (place_of F (arc_of g a).head) (C.of_arc (arc_of g a).weight)) (sym from)
       (done.linked (road_of (arc_of g a)) at.0 (omega (arith, low, all)) at.2 (λ e. other (from ∙ e)))
-
-  pub loaded_to_none : (g : GraphData) → IsGraph g → (F : FactorData W) → LoadedTo C g F F 0
-  loaded_to_none g roads F = record {
-    improves = improves_none C ordered 0 F;
-    covers = λ a has low other. let tail = (roads.ends a has).0.0 in absurd (omega (arith, tail, low));
-  }
 
   pub loaded_to_more : (g : GraphData) (F G H : FactorData W) (k : ℕ) → LoadedTo C g F G k → Improves C 0 G H →
       ((a : ℕ) → HasArc g a → (arc_of g a).tail ≡ k + 1 → ((arc_of g a).tail ≡ (arc_of g a).head → ⊥) →

@@ -11,7 +11,7 @@ use Rattle.path_algebra.proofs.Walks.{all_inside}
 use Rattle.path_algebra.proofs.Least.{same_no_worse}
 use Rattle.path_factors.specs.declared.link.Link.{Link}
 use Rattle.path_factors.specs.Factors.{FactorData, IsFactor, Rises, row_of, vertex_at, place_of}
-use Rattle.path_factors.specs.Substituting.{at, HasNoWorse, IsForward, IsBestDown, IsBackward, AreOrigins, IsForwardTo, IsBackwardFrom, offered_along, offered_from, best_along}
+use Rattle.path_factors.specs.Substituting.{at, HasNoWorse, IsForward, IsBestDown, AreOrigins, IsForwardTo, IsBackwardFrom, offered_along, offered_from, best_along}
 use Rattle.path_factors.proofs.Offers.{best_keeps, best_passes, best_is_one, offered_count, offered_other, offered_keeps, offered_passes, offered_is_one, no_worse_on}
 use Rattle.path_factors.proofs.Substitution.{value_along}
 
@@ -114,13 +114,6 @@ module _ {V W : Type 0} (A : Algebra V) (lawful : IsLawful A) (C : Composition V
     }
 
   module _ (before : List (Option V)) where
-    pub backward_starts : length before ≡ g.vertices → IsBackwardFrom A C g F before g.vertices before
-    backward_starts n = record {
-      count = n;
-      below = λ i less. refl;
-      best = λ i high low. absurd (omega arith);
-    }
-
     -- what is best at a place depends on the labels of greater places alone
     best_stays : (b : Option V) (labels later : List (Option V)) (i : ℕ) (l m : Option V) →
         ((x : ℕ) → i < x → at later x ≡ at labels x) → m ≡ l →
@@ -195,7 +188,3 @@ module _ {V W : Type 0} (A : Algebra V) (lawful : IsLawful A) (C : Composition V
               (done.best i (omega (arith, more)) in_i)
         ];
       }
-
-    pub backward_ends : (labels : List (Option V)) → IsBackwardFrom A C g F before 0 labels →
-        IsBackward A C g F before labels
-    backward_ends labels done = record { count = done.count; best = λ i low. done.best i (omega arith) low }

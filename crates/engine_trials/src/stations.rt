@@ -5,8 +5,8 @@ ghost use Rattle.path_algebra.specs.Given.{reach};
 ghost use Rattle.scholten_core.specs.Accounts.{AreMarksOfReached, count_marked};
 ghost use Rattle.scholten_core.specs.BestFirst.{AreMarksOfWalkEnds};
 ghost use Rattle.station.specs.Gather.{IsGathered, each_shows};
-ghost use Rattle.station.specs.Opened.{setup_of};
 ghost use Rattle.station.specs.Station.{BelongsTo};
+ghost use Rattle.shard_store.specs.Setup.{setup_of};
 
 mod holding;
 mod threads;

@@ -1,21 +1,20 @@
 -- If events take the best waiting message first, no label changes twice, and each arc out of a labelled vertex is sent one message, if its extension is not refused.
-use Rattle.std.proofs.Common.{◌≡◌, ◌≢◌, ℕ, zero, suc, ◌+◌, Bool, true, false, not, ◌&&◌, is_some, eqb-true, Option, Some, None, List, [], ◌∷◌, ◌⊎◌, refl, sym, ap, ◌∙◌, subst, inl, inr, arith}
+use Rattle.std.proofs.Common.{◌≡◌, ◌≢◌, ℕ, suc, ◌+◌, Bool, true, false, not, ◌&&◌, is_some, eqb-true, Option, Some, None, List, [], ◌∷◌, ◌⊎◌, refl, sym, ap, ◌∙◌, subst, inl, inr, arith}
 use Rattle.std.proofs.lemmas.Bool.{cases_Bool, cond-true, cond-false, false≢true, and_parts, not-true}
 use Rattle.path_algebra.specs.Algebra.{Algebra, IsLawful}
 use Rattle.path_algebra.proofs.Least.{same_no_worse}
 use Rattle.scholten_core.specs.declared.token.Token.{Token}
 use Rattle.scholten_core.specs.declared.token.Token.TheVariants.{Idle, Message, Held, Signal}
 use Rattle.scholten_core.specs.declared.event.Event.{Event}
-use Rattle.scholten_core.specs.declared.event.Event.TheVariants.{Deliver, Accept}
 use Rattle.scholten_core.specs.Network.{Network, WellFormed}
 use Rattle.scholten_core.specs.Sums.{one_if}
 use Rattle.scholten_core.specs.Accounts.{sent_on}
 use Rattle.scholten_core.specs.BestFirst.{IsNoWorseThanWaiting, TakesBest, IsBestFirst}
-use Rattle.scholten_core.specs.Diffusion.{CoreState, opening, state_after, run_from, improves, better_of, same_label, is_message, is_due, out_idle, pump, arrive, released, freed, settle, settle_tail, delivered, accepted, step, sent, extend_label, answer_to}
+use Rattle.scholten_core.specs.Diffusion.{CoreState, opening, state_after, run_from, improves, better_of, same_label, is_message, is_due, out_idle, pump, arrive, released, freed, settle, step, sent, extend_label, answer_to}
 use Rattle.scholten_core.proofs.Basics.{put_tells, sent_message, same_self}
 use Rattle.scholten_core.proofs.Walks.{walk_value_is_value}
 use Rattle.scholten_core.proofs.Kept.{Kept, pumped, head_real, arrive_kept, freed_kept, step_kept}
-use Rattle.scholten_core.proofs.Counts.{released_changes, held_pumped, rest_told, rest_label}
+use Rattle.scholten_core.proofs.StepCases.{step_cases, released_changes, held_pumped, rest_told, rest_label}
 use Rattle.scholten_core.proofs.Ended.{opening_kept}
 
 module _ {V : Type 0} (A : Algebra V) (N : Network) where
@@ -281,15 +280,6 @@ module _ {V : Type 0} (A : Algebra V) (N : Network) where
   from_still : (c d : CoreState V) → LabelsLead c → IsStill c d → Leads c d
   from_still c d T S = (still_leads c d S T, still_offers c d S)
 
-  deliver_leads : IsLawful A → WellFormed N → (a : ℕ) (c : CoreState V) (t : Token V) → c.token a ≡ t → Kept A N 0 c → LabelsLead c → TakesBest A N c (Deliver a) → Leads c (delivered A N a c t)
-  deliver_leads L W a c Idle q K T B = from_still c c T (still_refl c)
-  deliver_leads L W a c (Message x) q K T B = elim (cases_Bool (improves A x (c.label (N.head a)))) [
-    | inl i ↦ (improved_leads L W a x c q K T i (B x q i), improved_offers L W a x c q K T i (B x q i))
-    | inr f ↦ from_still c (settle A N (N.head a) (arrive A N a x c)) T (stale_still L W a x c q K T f)
-  ]
-  deliver_leads L W a c Held q K T B = from_still c c T (still_refl c)
-  deliver_leads L W a c Signal q K T B = from_still c c T (still_refl c)
-
   freed_still : (a : ℕ) (c : CoreState V) → IsStill c (freed A N a c)
   freed_still a c = record {
     label = λ v. refl;
@@ -298,21 +288,18 @@ module _ {V : Type 0} (A : Algebra V) (N : Network) where
     idle = λ b r. elim (put_tells c.token a Idle b) [ inl h ↦ h.1 | inr h ↦ h.1 ∙ r ];
   }
 
-  settle_tail_still : IsLawful A → WellFormed N → (a : ℕ) (c : CoreState V) → c.token a ≡ Signal → Kept A N 0 c → LabelsLead c → IsStill c (settle_tail A N a (N.tail a) (freed A N a c))
-  settle_tail_still L W zero c q K T = freed_still zero c
-  settle_tail_still L W (suc a) c q K T = still_then c (freed A N (suc a) c) (settle A N (N.tail (suc a)) (freed A N (suc a) c)) (freed_still (suc a) c)
-      (settle_still L (N.tail (suc a)) (freed A N (suc a) c) (λ b e. T.told b ∙ ap c.label e)
-      (λ e r. ((freed_kept A N W (suc a) c q K).engager_held (N.tail (suc a)) e r).0))
-
-  accept_leads : IsLawful A → WellFormed N → (a : ℕ) (c : CoreState V) (t : Token V) → c.token a ≡ t → Kept A N 0 c → LabelsLead c → Leads c (accepted A N a c t)
-  accept_leads L W a c Idle q K T = from_still c c T (still_refl c)
-  accept_leads L W a c (Message x) q K T = from_still c c T (still_refl c)
-  accept_leads L W a c Held q K T = from_still c c T (still_refl c)
-  accept_leads L W a c Signal q K T = from_still c (settle_tail A N a (N.tail a) (freed A N a c)) T (settle_tail_still L W a c q K T)
-
   step_leads : IsLawful A → WellFormed N → (c : CoreState V) (e : Event) → Kept A N 0 c → LabelsLead c → TakesBest A N c e → Leads c (step A N c e)
-  step_leads L W c (Deliver a) K T B = deliver_leads L W a c (c.token a) refl K T B
-  step_leads L W c (Accept a) K T B = accept_leads L W a c (c.token a) refl K T
+  step_leads L W c e K T B = step_cases A N (λ d. Leads c d) c e
+      (from_still c c T (still_refl c))
+      (λ a x is q. let best = subst (TakesBest A N c) is B in elim (cases_Bool (improves A x (c.label (N.head a)))) [
+        | inl i ↦ (improved_leads L W a x c q K T i (best x q i), improved_offers L W a x c q K T i (best x q i))
+        | inr f ↦ from_still c (settle A N (N.head a) (arrive A N a x c)) T (stale_still L W a x c q K T f)
+      ])
+      (λ q. from_still c (freed A N 0 c) T (freed_still 0 c))
+      (λ k q. from_still c (settle A N (N.tail (suc k)) (freed A N (suc k) c)) T
+      (still_then c (freed A N (suc k) c) (settle A N (N.tail (suc k)) (freed A N (suc k) c)) (freed_still (suc k) c)
+      (settle_still L (N.tail (suc k)) (freed A N (suc k) c) (λ b e. T.told b ∙ ap c.label e)
+      (λ e r. ((freed_kept A N W (suc k) c q K).engager_held (N.tail (suc k)) e r).0))))
 
   run_leads : IsLawful A → WellFormed N → (c : CoreState V) (es : List Event) → Kept A N 0 c → LabelsLead c → IsBestFirst A N c es →
       LabelsLead (run_from A N c es) × ((b : ℕ) → sent_on A N b c es + sent_by c b ≡ sent_by (run_from A N c es) b)

@@ -8,11 +8,12 @@ use Rattle.scholten_core.specs.declared.event.Event.{Event}
 use Rattle.scholten_core.specs.declared.event.Event.TheVariants.{Deliver, Accept}
 use Rattle.path_algebra.specs.Algebra.{Algebra, IsLawful}
 use Rattle.scholten_core.specs.Network.{Network, WellFormed}
-use Rattle.scholten_core.specs.Diffusion.{CoreState, opening, state_after, HasEnded, is_enabled, is_idle, is_message, is_signal, all_below, pump, arrive, rest, released, freed, settle_tail, delivered, accepted, step, run_from, out_idle, engaged_by, answer_to}
+use Rattle.scholten_core.specs.Diffusion.{CoreState, opening, state_after, HasEnded, is_enabled, is_idle, is_message, is_signal, all_below, pump, arrive, rest, released, freed, step, out_idle, engaged_by, answer_to}
 use Rattle.scholten_core.specs.Rooted.{IsEngagementOrder, IsRooted}
 use Rattle.scholten_core.specs.Progress.{CanGoOn}
 use Rattle.scholten_core.proofs.Basics.{put_tells, put-other, idle-false}
-use Rattle.scholten_core.proofs.Kept.{Kept, pumped, step_kept}
+use Rattle.scholten_core.proofs.Kept.{Kept, pumped}
+use Rattle.scholten_core.proofs.StepCases.{step_cases, run_cases}
 use Rattle.scholten_core.proofs.Ended.{opening_kept, reached_kept, reached_rooted}
 use Rattle.road_graph.proofs.Lists.{not_in_empty, later, head_or_tail}
 
@@ -84,36 +85,15 @@ module _ {V : Type 0} (A : Algebra V) (N : Network) where
       let h = B v e q in
       (h.0, h.1, λ i. h.2 (sym (put-other c.token a Idle h.0 (λ k. ne (sym h.1 ∙ ap N.tail k))) ∙ i))
 
-  deliver_busy : IsLawful A → (a : ℕ) (c : CoreState V) (t : Token V) → IsBusy c → IsBusy (delivered A N a c t)
-  deliver_busy L a c Idle B = B
-  deliver_busy L a c (Message x) B =
-      rest_busy (N.head a) (pump A N (N.head a) (arrive A N a x c)) (pump_busy L (N.head a) (N.head a) (arrive A N a x c) (arrive_busy a x c B))
-  deliver_busy L a c Held B = B
-  deliver_busy L a c Signal B = B
-
   -- the environment is no engaged vertex, and every other tail settles
-  settle_tail_busy : IsLawful A → WellFormed N → (a : ℕ) (c : CoreState V) → Kept A N 0 c → IsBusy c → IsBusy (settle_tail A N a (N.tail a) (freed A N a c))
-  settle_tail_busy L W zero c K B = λ v e q. freed_busy 0 c B v e (λ z. let g = ap c.engager (z ∙ W.tail_zero) in let j = K.env_neutral in cc) q
-  settle_tail_busy L W (suc a) c K B =
-      let v = N.tail (suc a) in
-      rest_busy (N.tail (suc a)) (pump A N (N.tail (suc a)) (freed A N (suc a) c)) (pump_busy L (N.tail (suc a)) (N.tail (suc a)) (freed A N (suc a) c) (freed_busy (suc a) c B))
-
-  accept_busy : IsLawful A → WellFormed N → (a : ℕ) (c : CoreState V) (t : Token V) → Kept A N 0 c → IsBusy c → IsBusy (accepted A N a c t)
-  accept_busy L W a c Idle K B = B
-  accept_busy L W a c (Message x) K B = B
-  accept_busy L W a c Held K B = B
-  accept_busy L W a c Signal K B = settle_tail_busy L W a c K B
-
   step_busy : IsLawful A → WellFormed N → (c : CoreState V) (e : Event) → Kept A N 0 c → IsBusy c → IsBusy (step A N c e)
-  step_busy L W c (Deliver a) K B = deliver_busy L a c (c.token a) B
-  step_busy L W c (Accept a) K B = accept_busy L W a c (c.token a) K B
-
-  run_busy : IsLawful A → WellFormed N → (c : CoreState V) (es : List Event) → Kept A N 0 c → IsBusy c → IsBusy (run_from A N c es)
-  run_busy L W c [] K B = B
-  run_busy L W c (e ∷ es) K B = run_busy L W (step A N c e) es (step_kept A N L W c e K) (step_busy L W c e K B)
+  step_busy L W c e K B = step_cases A N (λ d. IsBusy d) c e B
+      (λ a x _ q. rest_busy (N.head a) (pump A N (N.head a) (arrive A N a x c)) (pump_busy L (N.head a) (N.head a) (arrive A N a x c) (arrive_busy a x c B)))
+      (λ q v u r. freed_busy 0 c B v u (λ z. let g = ap c.engager (z ∙ W.tail_zero) in let j = K.env_neutral in cc) r)
+      (λ k q. rest_busy (N.tail (suc k)) (pump A N (N.tail (suc k)) (freed A N (suc k) c)) (pump_busy L (N.tail (suc k)) (N.tail (suc k)) (freed A N (suc k) c) (freed_busy (suc k) c B)))
 
   pub reached_busy : IsLawful A → WellFormed N → (es : List Event) → IsBusy (state_after A N es)
-  reached_busy L W es = run_busy L W (opening A N) es (opening_kept A N W) (λ v a q. absurd cc)
+  reached_busy L W es = run_cases A N L W (λ d. IsBusy d) (λ c e. step_busy L W c e) (opening A N) es (opening_kept A N W) (λ v a q. absurd cc)
 
   -- a listed vertex's engager leaves the environment or a vertex listed before it
   engager_older : (f : ℕ → Option ℕ) (order : List ℕ) → IsEngagementOrder A N f order → (u b : ℕ) → Contains order u → f u ≡ Some b → (N.tail b ≡ 0) ⊎ Contains order (N.tail b)

@@ -11,9 +11,9 @@ use Rattle.scholten_core.specs.Diffusion.{CoreState, arrive, pump, rest, settle,
 use Rattle.scholten_core.specs.IdleIsTold.{IdleIsTold}
 use Rattle.scholten_core.specs.CoreView.{CoreView, state_of, network_of, IsRun}
 use Rattle.scholten_core.specs.DiffusionData.{network_in, IsDiffusion}
+use Rattle.scholten_core.proofs.StepCases.{held_pumped}
 use Rattle.scholten_core.proofs.Networks.{well_formed}
 use Rattle.scholten_core.proofs.Kept.{Kept, head_real, arrive_kept, freed_kept}
-use Rattle.scholten_core.proofs.Counts.{held_pumped}
 use Rattle.scholten_core.proofs.Ended.{reached_kept}
 
 module _ {V : Type 0} (A : Algebra V) (N : Network) where

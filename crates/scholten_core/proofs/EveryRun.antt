@@ -18,10 +18,11 @@ use Rattle.path_algebra.specs.Laws.{reach_laws}
 use Rattle.scholten_core.specs.Sums.{sum_below, one_if}
 use Rattle.scholten_core.specs.Accounts.{sent_on, label_changes, totals_of, AreEqualTotals, AreMarksOfReached, count_marked}
 use Rattle.scholten_core.specs.BestFirst.{IsBestFirst, AreMarksOfWalkEnds}
+use Rattle.scholten_core.proofs.MessagesFollowLabels.{sends_at_most}
 use Rattle.scholten_core.proofs.BestFirst.{best_first_sends}
 use Rattle.std.specs.Prelude.{IsSome, IsTrue}
 use Rattle.scholten_core.proofs.Walks.{walk_value_is_value}
-use Rattle.scholten_core.proofs.Counts.{sends_at_most, all_equal}
+use Rattle.scholten_core.proofs.Counts.{all_equal}
 use Rattle.scholten_core.proofs.Reach.{IsOneValued, reach_sends, total_by_arc, walk_end}
 use Rattle.scholten_core.proofs.Basics.{one_if-most, sum_same, sum_below_same, sum_below_most, sum_first}
 

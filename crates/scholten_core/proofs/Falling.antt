@@ -1,16 +1,13 @@
 -- Each change of a vertex's label uses up one of the simple walks to it, so they are no more than these.
-use Rattle.std.proofs.Common.{◌≡◌, ℕ, zero, suc, ◌+◌, ◌≤◌, Bool, true, false, not, Option, Some, None, List, [], ◌∷◌, length, ◌⊎◌, refl, sym, ap, ◌∙◌, subst, inl, inr, arith, Contains}
+use Rattle.std.proofs.Common.{◌≡◌, ℕ, suc, ◌+◌, ◌≤◌, Bool, true, false, not, Option, Some, None, List, [], ◌∷◌, length, ◌⊎◌, refl, sym, ap, ◌∙◌, subst, inl, inr, arith, Contains}
 use Rattle.std.proofs.lemmas.Bool.{cases_Bool, cond-true, cond-false, false≢true, and_parts, and_from, and_right, not-true, not_from_true, not_from_false, false_from_ne_true}
 use Rattle.road_graph.specs.GraphData.{GraphData, IsGraph}
 use Rattle.road_graph.proofs.Lists.{not_in_empty, head_or_tail}
 use Rattle.path_algebra.specs.Algebra.{Algebra, IsLawful}
 use Rattle.path_algebra.proofs.Least.{same_no_worse}
-use Rattle.scholten_core.specs.declared.token.Token.{Token}
-use Rattle.scholten_core.specs.declared.token.Token.TheVariants.{Idle, Message, Held, Signal}
 use Rattle.scholten_core.specs.declared.event.Event.{Event}
-use Rattle.scholten_core.specs.declared.event.Event.TheVariants.{Deliver, Accept}
 use Rattle.scholten_core.specs.Network.{Network, network}
-use Rattle.scholten_core.specs.Diffusion.{CoreState, opening, arrive, freed, settle_tail, delivered, accepted, step, improves, better_of, same_label}
+use Rattle.scholten_core.specs.Diffusion.{CoreState, opening, arrive, freed, step, improves, better_of, same_label}
 use Rattle.scholten_core.specs.Sums.{one_if}
 use Rattle.scholten_core.specs.Accounts.{label_changes}
 use Rattle.path_algebra.specs.SimpleWalks.{HasSimpleWalks}
@@ -19,8 +16,8 @@ use Rattle.scholten_core.proofs.Networks.{well_formed}
 use Rattle.scholten_core.proofs.Walks.{along}
 use Rattle.scholten_core.proofs.SharedWalks.{along_extends}
 use Rattle.scholten_core.proofs.Kept.{Kept, step_kept}
+use Rattle.scholten_core.proofs.StepCases.{step_cases, settle_label}
 use Rattle.scholten_core.proofs.Ended.{opening_kept}
-use Rattle.scholten_core.proofs.Counts.{settle_label}
 use Rattle.scholten_core.proofs.Trails.{Trails, step_trails, opening_trails}
 use Rattle.scholten_core.proofs.SimpleWalks.{simple_value}
 
@@ -38,25 +35,12 @@ module _ {V : Type 0} (A : Algebra V) (N : Network) where
     ]
   ]
 
-  settle_tail_same : (k v : ℕ) (d : CoreState V) → (settle_tail A N k v d).label ≡ d.label
-  settle_tail_same zero v d = refl
-  settle_tail_same (suc k) v d = settle_label A N v d
-
-  deliver_better : (a : ℕ) (c : CoreState V) (t : Token V) (v : ℕ) → IsBetter (c.label v) ((delivered A N a c t).label v)
-  deliver_better a c Idle v = inl refl
-  deliver_better a c (Message x) v = subst (λ f. IsBetter (c.label v) (f v)) (sym (settle_label A N (N.head a) (arrive A N a x c))) (arrive_better a x c v)
-  deliver_better a c Held v = inl refl
-  deliver_better a c Signal v = inl refl
-
-  accept_better : (a : ℕ) (c : CoreState V) (t : Token V) (v : ℕ) → IsBetter (c.label v) ((accepted A N a c t).label v)
-  accept_better a c Idle v = inl refl
-  accept_better a c (Message x) v = inl refl
-  accept_better a c Held v = inl refl
-  accept_better a c Signal v = inl (ap (λ f. f v) (settle_tail_same a (N.tail a) (freed A N a c)))
-
   step_better : (c : CoreState V) (e : Event) (v : ℕ) → IsBetter (c.label v) ((step A N c e).label v)
-  step_better c (Deliver a) v = deliver_better a c (c.token a) v
-  step_better c (Accept a) v = accept_better a c (c.token a) v
+  step_better c e v = step_cases A N (λ d. IsBetter (c.label v) (d.label v)) c e
+      (inl refl)
+      (λ a x _ _. subst (λ f. IsBetter (c.label v) (f v)) (sym (settle_label A N (N.head a) (arrive A N a x c))) (arrive_better a x c v))
+      (λ q. inl refl)
+      (λ k q. inl (ap (λ f. f v) (settle_label A N (N.tail (suc k)) (freed A N (suc k) c))))
 
   -- what is better than the better label is better than the one before
   improves_more : IsLawful A → (x y : V) (o : Option V) → improves A x o ≡ true → improves A y (Some x) ≡ true → improves A y o ≡ true

@@ -11,9 +11,10 @@ use Rattle.scholten_core.specs.Sums.{sum_below, one_if}
 use Rattle.scholten_core.specs.Accounts.{sent_on, is_delivery, is_acceptance, sent_total, delivered_total, accepted_total, label_changes, totals_of}
 use Rattle.path_algebra.specs.SimpleWalks.{HasSimpleWalks, simple_walks}
 use Rattle.scholten_core.specs.SimpleWalks.{message_bound}
+use Rattle.scholten_core.proofs.MessagesFollowLabels.{sends_at_most}
 use Rattle.scholten_core.proofs.Networks.{tail-arc, tail-entry, well_formed}
 use Rattle.scholten_core.proofs.Basics.{sum_zero, sum_add, sum_most, sum_first}
-use Rattle.scholten_core.proofs.Counts.{sends_at_most, never_more}
+use Rattle.scholten_core.proofs.Counts.{never_more}
 use Rattle.scholten_core.proofs.Falling.{changes_at_most}
 use Rattle.path_algebra.proofs.SimpleWalks.{has_simple_walks}
 

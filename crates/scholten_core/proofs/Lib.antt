@@ -1,11 +1,13 @@
 pub mod Basics
 pub mod Walks
 pub mod Kept
+pub mod StepCases
 mod Rooted
 pub mod Ended
 pub mod Shares
 pub mod Items
 pub mod Counts
+mod MessagesFollowLabels
 mod Reach
 mod BestFirst
 pub mod Networks

@@ -1,20 +1,19 @@
 -- Where all values are the same and no extension refuses, an ended run has sent one message for each arc whose tail is reached.
-use Rattle.std.proofs.Common.{◌≡◌, ◌≢◌, ℕ, zero, suc, ◌+◌, ◌≤◌, Bool, true, false, not, ◌&&◌, is_some, Option, Some, None, List, [], ◌∷◌, ◌⊎◌, refl, sym, ap, ◌∙◌, inl, inr, arith}
+use Rattle.std.proofs.Common.{◌≡◌, ◌≢◌, ℕ, suc, ◌+◌, ◌≤◌, Bool, true, false, not, ◌&&◌, is_some, Option, Some, None, List, [], ◌∷◌, ◌⊎◌, refl, sym, ap, ◌∙◌, inl, inr, arith}
 use Rattle.std.proofs.lemmas.Bool.{cases_eq, cond-true, cond-false, and_from}
-use Rattle.scholten_core.specs.declared.token.Token.{Token}
-use Rattle.scholten_core.specs.declared.token.Token.TheVariants.{Idle, Message, Held, Signal}
+use Rattle.scholten_core.specs.declared.token.Token.TheVariants.{Idle, Message, Held}
 use Rattle.scholten_core.specs.declared.event.Event.{Event}
-use Rattle.scholten_core.specs.declared.event.Event.TheVariants.{Deliver, Accept}
 use Rattle.path_algebra.specs.Algebra.{Algebra, IsLawful}
 use Rattle.scholten_core.specs.Network.{Network, WellFormed}
 use Rattle.scholten_core.proofs.Walks.{Walk}
-use Rattle.scholten_core.specs.Diffusion.{CoreState, state_after, opening, same_label, run_from, is_message, is_due, out_idle, pump, arrive, released, freed, settle, settle_tail, delivered, accepted, step, sent, extend_label, answer_to}
+use Rattle.scholten_core.specs.Diffusion.{CoreState, state_after, opening, same_label, run_from, is_message, is_due, out_idle, pump, arrive, released, freed, settle, step, sent, extend_label, answer_to}
 use Rattle.scholten_core.specs.Sums.{sum_below, one_if}
 use Rattle.scholten_core.specs.Accounts.{sent_on, label_changes, count_sent, sent_total}
+use Rattle.scholten_core.proofs.MessagesFollowLabels.{sends_at_most}
 use Rattle.scholten_core.proofs.Basics.{due_tells, put_tells, sum_zero, sum_add, sum_same, one_if-most}
 use Rattle.scholten_core.proofs.Ended.{opening_kept, reached_kept, ended}
 use Rattle.scholten_core.proofs.Kept.{Kept, AtMost_arrive, arrive_kept, freed_kept, step_kept}
-use Rattle.scholten_core.proofs.Counts.{sends_at_most, settle_label, rest_told, released_changes, held_pumped}
+use Rattle.scholten_core.proofs.StepCases.{step_cases, released_changes, held_pumped, rest_told, settle_label}
 
 module _ {V : Type 0} (A : Algebra V) (N : Network) where
   pub record IsOneValued : Type 0 where
@@ -23,31 +22,12 @@ module _ {V : Type 0} (A : Algebra V) (N : Network) where
 
   -- a label stays a label
 
-  Stays : CoreState V → CoreState V → ℕ → Type 0
-  Stays c d v = (x : V) → c.label v ≡ Some x → (y : V) × (d.label v ≡ Some y)
-
-  deliver_stays : IsLawful A → IsOneValued → (a : ℕ) (c : CoreState V) (t : Token V) (v : ℕ) → Stays c (delivered A N a c t) v
-  unfolding Stays
-  deliver_stays L U a c Idle v = λ x q. (x, q)
-  deliver_stays L U a c (Message z) v = λ x q.
-      let m = AtMost_arrive A N L a z c v x (x, q, U.all x x) in (m.0, ap (λ f. f v) (settle_label A N (N.head a) (arrive A N a z c)) ∙ m.1)
-  deliver_stays L U a c Held v = λ x q. (x, q)
-  deliver_stays L U a c Signal v = λ x q. (x, q)
-
-  settle_tail_label : (k v : ℕ) (d : CoreState V) → (settle_tail A N k v d).label ≡ d.label
-  settle_tail_label zero v d = refl
-  settle_tail_label (suc k) v d = settle_label A N v d
-
-  accept_stays : (a : ℕ) (c : CoreState V) (t : Token V) (v : ℕ) → Stays c (accepted A N a c t) v
-  unfolding Stays
-  accept_stays a c Idle v = λ x q. (x, q)
-  accept_stays a c (Message z) v = λ x q. (x, q)
-  accept_stays a c Held v = λ x q. (x, q)
-  accept_stays a c Signal v = λ x q. (x, ap (λ f. f v) (settle_tail_label a (N.tail a) (freed A N a c)) ∙ q)
-
-  step_stays : IsLawful A → IsOneValued → (c : CoreState V) (e : Event) (v : ℕ) → Stays c (step A N c e) v
-  step_stays L U c (Deliver a) v = deliver_stays L U a c (c.token a) v
-  step_stays L U c (Accept a) v = accept_stays a c (c.token a) v
+  step_stays : IsLawful A → IsOneValued → (c : CoreState V) (e : Event) (v : ℕ) → (x : V) → c.label v ≡ Some x → (y : V) × ((step A N c e).label v ≡ Some y)
+  step_stays L U c e v x p = step_cases A N (λ d. (y : V) × (d.label v ≡ Some y)) c e
+      (x, p)
+      (λ a z _ _. let m = AtMost_arrive A N L a z c v x (x, p, U.all x x) in (m.0, ap (λ f. f v) (settle_label A N (N.head a) (arrive A N a z c)) ∙ m.1))
+      (λ q. (x, p))
+      (λ k q. (x, ap (λ f. f v) (settle_label A N (N.tail (suc k)) (freed A N (suc k) c)) ∙ p))
 
   once : IsOneValued → (o p : Option V) → ((x : V) → o ≡ Some x → (y : V) × (p ≡ Some y)) →
       one_if (not (same_label A o p)) + one_if (not (is_some p)) ≤ one_if (not (is_some o))
@@ -58,7 +38,6 @@ module _ {V : Type 0} (A : Algebra V) (N : Network) where
 
   changes_once : IsLawful A → IsOneValued → (c : CoreState V) (es : List Event) (v : ℕ) →
       label_changes A N v c es + one_if (not (is_some ((run_from A N c es).label v))) ≤ one_if (not (is_some (c.label v)))
-  unfolding Stays
   changes_once L U c [] v = omega arith
   changes_once L U c (e ∷ es) v =
       let s = once U (c.label v) ((step A N c e).label v) (step_stays L U c e v) in
@@ -97,39 +76,22 @@ module _ {V : Type 0} (A : Algebra V) (N : Network) where
   abbrev Covers : CoreState V → CoreState V → ℕ → Type 0
   Covers c d b = one_if (is_some (d.told b)) ≤ one_if (is_some (c.told b)) + one_if (is_message (d.token b) && not (is_message (c.token b)))
 
-  deliver_told : IsLawful A → WellFormed N → IsOneValued → (a : ℕ) (c : CoreState V) (t : Token V) → c.token a ≡ t → Kept A N 0 c → (b : ℕ) → Covers c (delivered A N a c t) b
-  deliver_told L W U a c Idle q K b = omega arith
-  deliver_told L W U a c (Message x) q K b =
-      let kept_next = arrive_kept A N L W a x c q K in
-      settle_told L U (N.head a) c (arrive A N a x c) b
+  step_told : IsLawful A → WellFormed N → IsOneValued → (c : CoreState V) (e : Event) → Kept A N 0 c → (b : ℕ) → Covers c (step A N c e) b
+  step_told L W U c e K b = step_cases A N (λ d. Covers c d b) c e
+      (omega arith)
+      (λ a x _ q. settle_told L U (N.head a) c (arrive A N a x c) b
       (λ i. elim (put_tells c.token a (answer_to (c.engager (N.head a))) b) [
         | inl k ↦ absurd (busy_answer (c.engager (N.head a)) (sym k.1 ∙ i))
         | inr k ↦ ap is_message (sym k.1 ∙ i)
       ])
-      refl (λ e r. (kept_next.engager_held (N.head a) e r).0)
-  deliver_told L W U a c Held q K b = omega arith
-  deliver_told L W U a c Signal q K b = omega arith
-
-  settle_tail_told : IsLawful A → WellFormed N → IsOneValued → (a k : ℕ) (c : CoreState V) → c.token a ≡ Signal → Kept A N 0 c → (b : ℕ) → Covers c (settle_tail A N k (N.tail a) (freed A N a c)) b
-  settle_tail_told L W U a zero c q K b = omega arith
-  settle_tail_told L W U a (suc k) c q K b =
-      let kept_next = freed_kept A N W a c q K in
-      settle_told L U (N.tail a) c (freed A N a c) b
-      (λ i. elim (put_tells c.token a Idle b) [
-        | inl k ↦ ap is_message (ap c.token k.0 ∙ q)
-        | inr k ↦ ap is_message (sym k.1 ∙ i)
+      refl (λ e r. ((arrive_kept A N L W a x c q K).engager_held (N.head a) e r).0))
+      (λ q. omega arith)
+      (λ k q. settle_told L U (N.tail (suc k)) c (freed A N (suc k) c) b
+      (λ i. elim (put_tells c.token (suc k) Idle b) [
+        | inl j ↦ ap is_message (ap c.token j.0 ∙ q)
+        | inr j ↦ ap is_message (sym j.1 ∙ i)
       ])
-      refl (λ e r. (kept_next.engager_held (N.tail a) e r).0)
-
-  accept_told : IsLawful A → WellFormed N → IsOneValued → (a : ℕ) (c : CoreState V) (t : Token V) → c.token a ≡ t → Kept A N 0 c → (b : ℕ) → Covers c (accepted A N a c t) b
-  accept_told L W U a c Idle q K b = omega arith
-  accept_told L W U a c (Message x) q K b = omega arith
-  accept_told L W U a c Held q K b = omega arith
-  accept_told L W U a c Signal q K b = settle_tail_told L W U a a c q K b
-
-  step_told : IsLawful A → WellFormed N → IsOneValued → (c : CoreState V) (e : Event) → Kept A N 0 c → (b : ℕ) → Covers c (step A N c e) b
-  step_told L W U c (Deliver a) K b = deliver_told L W U a c (c.token a) refl K b
-  step_told L W U c (Accept a) K b = accept_told L W U a c (c.token a) refl K b
+      refl (λ e r. ((freed_kept A N W (suc k) c q K).engager_held (N.tail (suc k)) e r).0))
 
   told_sent : IsLawful A → WellFormed N → IsOneValued → (c : CoreState V) (es : List Event) → Kept A N 0 c → (b : ℕ) →
       one_if (is_some ((run_from A N c es).told b)) ≤ one_if (is_some (c.told b)) + sent_on A N b c es

@@ -1,16 +1,15 @@
 -- The engagement order through each event.
-use Rattle.std.proofs.Common.{◌≡◌, ◌≢◌, ℕ, zero, suc, Bool, true, false, cond, eqb, Option, Some, None, List, [], ◌∷◌, ◌⊎◌, refl, sym, ap, ◌∙◌, subst, inl, inr, arith, eq-eqb, ne_eqb, Contains}
+use Rattle.std.proofs.Common.{◌≡◌, ◌≢◌, ℕ, suc, Bool, true, false, cond, eqb, Option, Some, None, List, [], ◌∷◌, ◌⊎◌, refl, sym, ap, ◌∙◌, subst, inl, inr, eq-eqb, ne_eqb, Contains}
 use Rattle.std.proofs.lemmas.Bool.{cases_eq, cond-true, cond-false}
-use Rattle.scholten_core.specs.declared.token.Token.{Token}
-use Rattle.scholten_core.specs.declared.token.Token.TheVariants.{Idle, Message, Held, Signal}
+use Rattle.scholten_core.specs.declared.token.Token.TheVariants.{Message}
 use Rattle.scholten_core.specs.declared.event.Event.{Event}
-use Rattle.scholten_core.specs.declared.event.Event.TheVariants.{Deliver, Accept}
 use Rattle.path_algebra.specs.Algebra.{Algebra, IsLawful}
 use Rattle.scholten_core.specs.Network.{Network, WellFormed}
-use Rattle.scholten_core.specs.Diffusion.{CoreState, opening, put, pump, arrive, rest, released, freed, settle_tail, delivered, accepted, step, run_from, out_idle, engaged_by}
+use Rattle.scholten_core.specs.Diffusion.{CoreState, opening, put, pump, arrive, rest, released, freed, step, run_from, out_idle, engaged_by}
 use Rattle.scholten_core.specs.Rooted.{IsEngagementOrder, IsRooted}
 use Rattle.scholten_core.proofs.Basics.{put_tells, put-same, put-other, out_idle-at}
-use Rattle.scholten_core.proofs.Kept.{Kept, head_real, arrive_kept, pump_kept, freed_kept, step_kept}
+use Rattle.scholten_core.proofs.Kept.{Kept}
+use Rattle.scholten_core.proofs.StepCases.{step_cases, run_cases, head_pumped, tail_pumped}
 use Rattle.road_graph.proofs.Lists.{not_in_empty, here, here_as, later, head_or_tail}
 
 module _ {V : Type 0} (A : Algebra V) (N : Network) where
@@ -106,50 +105,19 @@ module _ {V : Type 0} (A : Algebra V) (N : Network) where
           let vn : v ≢ 0 = (λ y. let g = ap c.engager y in let j = K.env_neutral in cc) in
           let i = out_idle-at A N v c q a (W.real a (λ y. vn (sym z ∙ y))) z in cc) O
 
-  pub deliver_ordered : IsLawful A → WellFormed N → (a : ℕ) (c : CoreState V) (t : Token V) → c.token a ≡ t → Kept A N 0 c → Ordered c.engager → Ordered (delivered A N a c t).engager
-  deliver_ordered L W a c Idle q K O = O
-  deliver_ordered L W a c (Message x) q K O =
-      let v = N.head a in
-      let e = engaged_some (c.engager (N.head a)) a in
-      rest_ordered W (N.head a) (pump A N (N.head a) (arrive A N a x c))
-      (pump_kept A N L W (N.head a) e.0 (arrive A N a x c) (head_real A N W 0 a c K (λ z. cc))
-      (put-same c.engager (N.head a) (engaged_by (c.engager (N.head a)) a) ∙ e.1) (arrive_kept A N L W a x c q K))
-      (engage_ordered c.engager (N.head a) a (c.engager (N.head a)) refl (tail_in (c.engager (N.tail a)) refl) O)
-    where
-      engaged_some : (o : Option ℕ) (a : ℕ) → (e : ℕ) × (engaged_by o a ≡ Some e)
-      engaged_some None a = (a, refl)
-      engaged_some (Some e) a = (e, refl)
-
-      tail_in : (o : Option ℕ) → c.engager (N.tail a) ≡ o → (N.tail a ≡ 0) ⊎ ((e : ℕ) × (c.engager (N.tail a) ≡ Some e))
-      tail_in None h = elim (cases_eq a 0) [ inl z ↦ inl (ap N.tail z ∙ W.tail_zero) | inr nz ↦ absurd (let g = K.neutral_idle a nz h in cc) ]
-      tail_in (Some e) h = inr (e, h)
-  deliver_ordered L W a c Held q K O = O
-  deliver_ordered L W a c Signal q K O = O
-
-  settle_tail_ordered : IsLawful A → WellFormed N → (a : ℕ) (c : CoreState V) → c.token a ≡ Signal → Kept A N 0 c → Ordered c.engager → Ordered (settle_tail A N a (N.tail a) (freed A N a c)).engager
-  settle_tail_ordered L W zero c q K O = O
-  settle_tail_ordered L W (suc a) c q K O =
-      let e = tail_engaged (c.engager (N.tail (suc a))) refl in
-      rest_ordered W (N.tail (suc a)) (pump A N (N.tail (suc a)) (freed A N (suc a) c))
-      (pump_kept A N L W (N.tail (suc a)) e.0 (freed A N (suc a) c) (λ z. let g = ap c.engager z in let j = K.env_neutral in let k = e.1 in cc) e.1 (freed_kept A N W (suc a) c q K)) O
-    where
-      tail_engaged : (o : Option ℕ) → c.engager (N.tail (suc a)) ≡ o → (e : ℕ) × (c.engager (N.tail (suc a)) ≡ Some e)
-      tail_engaged None h = absurd (let g = K.neutral_idle (suc a) (λ z. omega arith) h in cc)
-      tail_engaged (Some e) h = (e, h)
-
-  pub accept_ordered : IsLawful A → WellFormed N → (a : ℕ) (c : CoreState V) (t : Token V) → c.token a ≡ t → Kept A N 0 c → Ordered c.engager → Ordered (accepted A N a c t).engager
-  accept_ordered L W a c Idle q K O = O
-  accept_ordered L W a c (Message x) q K O = O
-  accept_ordered L W a c Held q K O = O
-  accept_ordered L W a c Signal q K O = settle_tail_ordered L W a c q K O
-
   pub step_ordered : IsLawful A → WellFormed N → (c : CoreState V) (e : Event) → Kept A N 0 c → Ordered c.engager → Ordered (step A N c e).engager
-  step_ordered L W c (Deliver a) K O = deliver_ordered L W a c (c.token a) refl K O
-  step_ordered L W c (Accept a) K O = accept_ordered L W a c (c.token a) refl K O
+  step_ordered L W c e K O = step_cases A N (λ d. Ordered d.engager) c e O
+      (λ a x _ q. rest_ordered W (N.head a) (pump A N (N.head a) (arrive A N a x c)) (head_pumped A N L W a x c q K)
+      (engage_ordered c.engager (N.head a) a (c.engager (N.head a)) refl (tail_in a x q (c.engager (N.tail a)) refl) O))
+      (λ q. O)
+      (λ k q. rest_ordered W (N.tail (suc k)) (pump A N (N.tail (suc k)) (freed A N (suc k) c)) (tail_pumped A N L W k c q K) O)
+    where
+      tail_in : (a : ℕ) (x : V) → c.token a ≡ Message x → (o : Option ℕ) → c.engager (N.tail a) ≡ o → (N.tail a ≡ 0) ⊎ ((e : ℕ) × (c.engager (N.tail a) ≡ Some e))
+      tail_in a x q None h = elim (cases_eq a 0) [ inl z ↦ inl (ap N.tail z ∙ W.tail_zero) | inr nz ↦ absurd (let g = K.neutral_idle a nz h in cc) ]
+      tail_in a x q (Some e) h = inr (e, h)
 
   pub run_ordered : IsLawful A → WellFormed N → (c : CoreState V) (es : List Event) → Kept A N 0 c → Ordered c.engager → Ordered (run_from A N c es).engager
-  run_ordered L W c [] K O = O
-  run_ordered L W c (e ∷ es) K O = run_ordered L W (step A N c e) es (step_kept A N L W c e K) (step_ordered L W c e K O)
+  run_ordered L W c es K O = run_cases A N L W (λ d. Ordered d.engager) (λ d e. step_ordered L W d e) c es K O
 
   pub rooted : (c : CoreState V) → Kept A N 0 c → Ordered c.engager → IsRooted A N c
   unfolding Ordered

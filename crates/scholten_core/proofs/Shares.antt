@@ -1,15 +1,16 @@
 -- An event at a vertex of one shard: it depends on that shard's share alone, and leaves the other shares as they are.
-use Rattle.std.proofs.Common.{◌≡◌, ◌≢◌, ℕ, zero, suc, Bool, true, false, not, ◌&&◌, ◌||◌, eqb, eqb-true, Option, Some, None, refl, sym, ap, ◌∙◌, subst, inl, inr, arith}
+use Rattle.std.proofs.Common.{◌≡◌, ◌≢◌, ℕ, zero, suc, Bool, true, false, not, ◌&&◌, ◌||◌, eqb, eqb-true, Option, Some, None, refl, sym, ap, ◌∙◌, subst, inl, inr}
 use Rattle.std.proofs.lemmas.Bool.{cases_eq, cases_Bool, cond-true, cond-false, false≢true}
 use Rattle.scholten_core.specs.declared.token.Token.{Token}
 use Rattle.scholten_core.specs.declared.token.Token.TheVariants.{Idle, Message, Held, Signal}
 use Rattle.scholten_core.specs.declared.event.Event.TheVariants.{Deliver, Accept}
 use Rattle.path_algebra.specs.Algebra.{Algebra, IsLawful}
 use Rattle.scholten_core.specs.Network.{Network, WellFormed}
-use Rattle.scholten_core.specs.Diffusion.{CoreState, put, is_idle, all_below, is_due, out_idle, same_label, pump, arrive, rest, released, freed, settle, settle_tail, delivered, accepted, step, sent, extend_label, better_of, engaged_by, answer_to}
+use Rattle.scholten_core.specs.Diffusion.{CoreState, put, is_idle, all_below, is_due, out_idle, same_label, pump, arrive, released, freed, settle, settle_tail, delivered, accepted, step, sent, extend_label, better_of, engaged_by, answer_to}
 use Rattle.scholten_core.specs.Shares.{Agree}
-use Rattle.scholten_core.proofs.Basics.{put_tells, put-at, put-same, put-other, not_due}
-use Rattle.scholten_core.proofs.Kept.{Kept, head_real, arrive_kept, pump_kept, freed_kept}
+use Rattle.scholten_core.proofs.Basics.{put_tells, put-at, put-other, not_due}
+use Rattle.scholten_core.proofs.Kept.{Kept}
+use Rattle.scholten_core.proofs.StepCases.{head_pumped, tail_pumped}
 
 module _ {V : Type 0} (A : Algebra V) (N : Network) where
   pub agree_then : (mine : ℕ → Bool) (c d e : CoreState V) → Agree A N mine c d → Agree A N mine d e → Agree A N mine c e
@@ -124,26 +125,16 @@ module _ {V : Type 0} (A : Algebra V) (N : Network) where
     ];
   }
 
-  rest_frame : (other : ℕ → Bool) (v e : ℕ) (c : CoreState V) → other v ≡ false → Kept A N e c → Agree A N other c (rest A N v c)
-  rest_frame other v e c f K = released_frame other v c (c.engager v) (out_idle A N v c) f (λ a q. (K.engager_held v a q).0)
-
-  settle_frame : IsLawful A → WellFormed N → (other : ℕ → Bool) (v a : ℕ) (c : CoreState V) → other v ≡ false → v ≢ 0 → c.engager v ≡ Some a → Kept A N v c → Agree A N other c (settle A N v c)
-  settle_frame L W other v a c f n en K = agree_then other c (pump A N v c) (settle A N v c) (pump_frame other v c f)
-      (rest_frame other v 0 (pump A N v c) f (pump_kept A N L W v a c n en K))
+  settle_frame : (other : ℕ → Bool) (v : ℕ) (c : CoreState V) → other v ≡ false → Kept A N 0 (pump A N v c) → Agree A N other c (settle A N v c)
+  settle_frame other v c f K = agree_then other c (pump A N v c) (settle A N v c) (pump_frame other v c f)
+      (released_frame other v (pump A N v c) (c.engager v) (out_idle A N v (pump A N v c)) f (λ a q. (K.engager_held v a q).0))
 
   -- a delivery at v leaves every other shard's share
   pub message_frame : IsLawful A → WellFormed N → (other : ℕ → Bool) (a : ℕ) (x : V) (c : CoreState V) → other (N.head a) ≡ false
       → c.token a ≡ Message x → Kept A N 0 c → Agree A N other c (step A N c (Deliver a))
-  message_frame L W other a x c f q K =
-      let e = engaged_some (c.engager (N.head a)) a in
-      subst (λ t. Agree A N other c (delivered A N a c t)) (sym q)
+  message_frame L W other a x c f q K = subst (λ t. Agree A N other c (delivered A N a c t)) (sym q)
       (agree_then other c (arrive A N a x c) (settle A N (N.head a) (arrive A N a x c)) (arrive_frame other a x c f q)
-      (settle_frame L W other (N.head a) e.0 (arrive A N a x c) f (head_real A N W 0 a c K (λ z. cc))
-      (put-same c.engager (N.head a) (engaged_by (c.engager (N.head a)) a) ∙ e.1) (arrive_kept A N L W a x c q K)))
-    where
-      engaged_some : (o : Option ℕ) (a : ℕ) → (e : ℕ) × (engaged_by o a ≡ Some e)
-      engaged_some None a = (a, refl)
-      engaged_some (Some e) a = (e, refl)
+      (settle_frame other (N.head a) (arrive A N a x c) f (head_pumped A N L W a x c q K)))
 
   freed_frame : (other : ℕ → Bool) (a : ℕ) (c : CoreState V) → other (N.tail a) ≡ false → Agree A N other c (freed A N a c)
   freed_frame other a c f = record {
@@ -155,15 +146,9 @@ module _ {V : Type 0} (A : Algebra V) (N : Network) where
 
   -- an acceptance on an arc out of v, likewise
   pub signal_frame : IsLawful A → WellFormed N → (other : ℕ → Bool) (a : ℕ) (c : CoreState V) → other (N.tail a) ≡ false → c.token a ≡ Signal → Kept A N 0 c → Agree A N other c (step A N c (Accept a))
-  signal_frame L W other a c f q K = subst (λ t. Agree A N other c (accepted A N a c t)) (sym q) (go a refl)
+  signal_frame L W other a c f q K = subst (λ t. Agree A N other c (accepted A N a c t)) (sym q) (by_arc a f q)
     where
-      go : (k : ℕ) → a ≡ k → Agree A N other c (settle_tail A N k (N.tail a) (freed A N a c))
-      go zero e = freed_frame other a c f
-      go (suc k) e =
-          let some = tail_engaged (c.engager (N.tail a)) refl (λ z. omega arith) in
-          agree_then other c (freed A N a c) (settle A N (N.tail a) (freed A N a c)) (freed_frame other a c f)
-          (settle_frame L W other (N.tail a) some.0 (freed A N a c) f (λ z. let g = ap c.engager z in let j = K.env_neutral in let s = some.1 in cc) some.1 (freed_kept A N W a c q K))
-        where
-          tail_engaged : (o : Option ℕ) → c.engager (N.tail a) ≡ o → a ≢ 0 → (e : ℕ) × (c.engager (N.tail a) ≡ Some e)
-          tail_engaged None h nz = absurd (let g = K.neutral_idle a nz h in cc)
-          tail_engaged (Some e) h nz = (e, h)
+      by_arc : (b : ℕ) → other (N.tail b) ≡ false → c.token b ≡ Signal → Agree A N other c (settle_tail A N b (N.tail b) (freed A N b c))
+      by_arc zero g r = freed_frame other 0 c g
+      by_arc (suc k) g r = agree_then other c (freed A N (suc k) c) (settle A N (N.tail (suc k)) (freed A N (suc k) c)) (freed_frame other (suc k) c g)
+          (settle_frame other (N.tail (suc k)) (freed A N (suc k) c) g (tail_pumped A N L W k c r K))

@@ -1,16 +1,15 @@
 -- Labels are values of walks that pass no vertex twice, through each event.
-use Rattle.std.proofs.Common.{◌≡◌, ◌≢◌, ℕ, zero, suc, Bool, true, false, not, Option, Some, None, List, [], ◌∷◌, ◌⊎◌, refl, sym, ap, ◌∙◌, subst, inl, inr, arith}
+use Rattle.std.proofs.Common.{◌≡◌, ◌≢◌, ℕ, suc, Bool, true, false, not, Option, Some, None, List, [], ◌∷◌, ◌⊎◌, refl, sym, ap, ◌∙◌, subst, inl, inr}
 use Rattle.std.proofs.lemmas.Bool.{cases_eq, cases_Bool, cond-true, cond-false, false≢true, and_parts, not-true}
-use Rattle.scholten_core.specs.declared.token.Token.{Token}
-use Rattle.scholten_core.specs.declared.token.Token.TheVariants.{Idle, Message, Held, Signal}
+use Rattle.scholten_core.specs.declared.token.Token.TheVariants.{Idle, Message, Signal}
 use Rattle.scholten_core.specs.declared.event.Event.{Event}
-use Rattle.scholten_core.specs.declared.event.Event.TheVariants.{Deliver, Accept}
 use Rattle.path_algebra.specs.Algebra.{Algebra, IsLawful}
 use Rattle.scholten_core.specs.Network.{Network, WellFormed}
-use Rattle.scholten_core.specs.Diffusion.{CoreState, opening, state_after, pump, arrive, rest, released, freed, settle_tail, delivered, accepted, step, run_from, out_idle, answer_to, improves, better_of}
+use Rattle.scholten_core.specs.Diffusion.{CoreState, opening, state_after, pump, arrive, rest, released, freed, step, out_idle, answer_to, improves, better_of}
 use Rattle.scholten_core.proofs.Basics.{put_tells, sent_message}
 use Rattle.scholten_core.proofs.Walks.{AtMost}
-use Rattle.scholten_core.proofs.Kept.{Kept, pumped, head_real, step_kept, AtMost_arrive, AtMost_arrived}
+use Rattle.scholten_core.proofs.Kept.{Kept, pumped, head_real, AtMost_arrive, AtMost_arrived}
+use Rattle.scholten_core.proofs.StepCases.{step_cases, run_cases, tail_real}
 use Rattle.scholten_core.proofs.Ended.{opening_kept}
 
 module _ {V : Type 0} (A : Algebra V) (N : Network) where
@@ -122,32 +121,13 @@ module _ {V : Type 0} (A : Algebra V) (N : Network) where
   rest_trails : (v : ℕ) (c : CoreState V) → Trails c → Trails (rest A N v c)
   rest_trails v c T = released_trails v c (c.engager v) (out_idle A N v c) T
 
-  deliver_trails : IsLawful A → WellFormed N → (a : ℕ) (c : CoreState V) (t : Token V) → c.token a ≡ t → Kept A N 0 c → Trails c → Trails (delivered A N a c t)
-  deliver_trails L W a c Idle q K T = T
-  deliver_trails L W a c (Message x) q K T =
-      rest_trails (N.head a) (pump A N (N.head a) (arrive A N a x c)) (pump_trails L (N.head a) (arrive A N a x c) (head_real A N W 0 a c K (λ z. cc)) (arrive_trails L W a x c q K T))
-  deliver_trails L W a c Held q K T = T
-  deliver_trails L W a c Signal q K T = T
-
-  settle_tail_trails : IsLawful A → WellFormed N → (a : ℕ) (c : CoreState V) → c.token a ≡ Signal → Kept A N 0 c → Trails c → Trails (settle_tail A N a (N.tail a) (freed A N a c))
-  settle_tail_trails L W zero c q K T = freed_trails 0 c T
-  settle_tail_trails L W (suc a) c q K T =
-      rest_trails (N.tail (suc a)) (pump A N (N.tail (suc a)) (freed A N (suc a) c)) (pump_trails L (N.tail (suc a)) (freed A N (suc a) c)
-      (λ z. let g = K.neutral_idle (suc a) (λ y. omega arith) (ap c.engager z ∙ K.env_neutral) in cc) (freed_trails (suc a) c T))
-
-  accept_trails : IsLawful A → WellFormed N → (a : ℕ) (c : CoreState V) (t : Token V) → c.token a ≡ t → Kept A N 0 c → Trails c → Trails (accepted A N a c t)
-  accept_trails L W a c Idle q K T = T
-  accept_trails L W a c (Message x) q K T = T
-  accept_trails L W a c Held q K T = T
-  accept_trails L W a c Signal q K T = settle_tail_trails L W a c q K T
-
   pub step_trails : IsLawful A → WellFormed N → (c : CoreState V) (e : Event) → Kept A N 0 c → Trails c → Trails (step A N c e)
-  step_trails L W c (Deliver a) K T = deliver_trails L W a c (c.token a) refl K T
-  step_trails L W c (Accept a) K T = accept_trails L W a c (c.token a) refl K T
-
-  pub run_trails : IsLawful A → WellFormed N → (c : CoreState V) (es : List Event) → Kept A N 0 c → Trails c → Trails (run_from A N c es)
-  run_trails L W c [] K T = T
-  run_trails L W c (e ∷ es) K T = run_trails L W (step A N c e) es (step_kept A N L W c e K) (step_trails L W c e K T)
+  step_trails L W c e K T = step_cases A N (λ d. Trails d) c e T
+      (λ a x _ q. rest_trails (N.head a) (pump A N (N.head a) (arrive A N a x c))
+      (pump_trails L (N.head a) (arrive A N a x c) (head_real A N W 0 a c K (λ z. cc)) (arrive_trails L W a x c q K T)))
+      (λ q. freed_trails 0 c T)
+      (λ k q. rest_trails (N.tail (suc k)) (pump A N (N.tail (suc k)) (freed A N (suc k) c))
+      (pump_trails L (N.tail (suc k)) (freed A N (suc k) c) (tail_real A N k c q K) (freed_trails (suc k) c T)))
 
   pub opening_trails : Trails (opening A N)
   opening_trails = record {
@@ -156,4 +136,4 @@ module _ {V : Type 0} (A : Algebra V) (N : Network) where
   }
 
   pub reached_trails : IsLawful A → WellFormed N → (es : List Event) → Trails (state_after A N es)
-  reached_trails L W es = run_trails L W (opening A N) es (opening_kept A N W) opening_trails
+  reached_trails L W es = run_cases A N L W (λ d. Trails d) (λ c e K T. step_trails L W c e K T) (opening A N) es (opening_kept A N W) opening_trails

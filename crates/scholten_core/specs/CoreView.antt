@@ -1,5 +1,6 @@
 -- What a core is seen as: its diffusion and its tables. Each table begins with a place for the environment or for arc 0.
 use Rattle.std.specs.Prelude.{◌≡◌, ℕ, ◌+◌, ◌≤◌, List, length, slice_index_or, Option, None}
+use Rattle.road_graph.specs.GraphData.{GraphData}
 use Rattle.path_algebra.specs.Algebra.{Algebra}
 use Rattle.scholten_core.specs.declared.token.Token.{Token}
 use Rattle.scholten_core.specs.declared.token.Token.TheVariants.{Idle}
@@ -17,6 +18,17 @@ pub record CoreView (S V : Type 0) : Type 0 where
   pub tokens : List (Token V)
   pub told : List (Option V)
   pub deficits : List ℕ
+
+-- it, by the algebra, the roads and the source of its diffusion, and its tables
+abbrev pub core_view : {S V : Type 0} → S → GraphData → ℕ → List (Option V) → List (Option ℕ) → List (Token V) → List (Option V) → List ℕ → CoreView S V
+core_view algebra roads source labels engagers tokens told deficits = record {
+  diffusion = record { algebra = algebra; roads = roads; source = source };
+  labels = labels;
+  engagers = engagers;
+  tokens = tokens;
+  told = told;
+  deficits = deficits;
+}
 
 -- the tables as functions
 abbrev pub state_of : {S V : Type 0} → CoreView S V → CoreState V

@@ -30,13 +30,13 @@ pub struct CoreTables<'g, A: PathAlgebra> {
 }
 
 impl<'g, A: PathAlgebra> Model for CoreTables<'g, A> {
-    ghost use Rattle.scholten_core.specs.CoreView.{CoreView, AreTablesSized};
+    ghost use Rattle.scholten_core.specs.CoreView.{CoreView, core_view, AreTablesSized};
 
     ghost Value = { CoreView A A.Value };
 
-    ghost view = { λ c. record { diffusion = record { algebra = c.algebra; roads = c.graph.now; source = c.source }; labels = c.labels.items; engagers = c.engagers.items; tokens = c.tokens.items; told = c.told.items; deficits = c.deficits.items } };
+    ghost view = { λ c. core_view c.algebra c.graph.now c.source c.labels.items c.engagers.items c.tokens.items c.told.items c.deficits.items };
 
-    ghost invariant = { λ c. AreTablesSized (record { diffusion = record { algebra = c.algebra; roads = c.graph.now; source = c.source }; labels = c.labels.items; engagers = c.engagers.items; tokens = c.tokens.items; told = c.told.items; deficits = c.deficits.items }) };
+    ghost invariant = { λ c. AreTablesSized (core_view c.algebra c.graph.now c.source c.labels.items c.engagers.items c.tokens.items c.told.items c.deficits.items) };
 }
 
 impl<'g, A: PathAlgebra> CoreTables<'g, A> {
@@ -85,7 +85,7 @@ impl<'g, A: PathAlgebra> CoreTables<'g, A> {
     }
 
     /// The label that an arc was last offered.
-    fn told(&self, b: ArcNo) -> Option<A::Value>
+    fn last_offer(&self, b: ArcNo) -> Option<A::Value>
         requires { b ≤ length self.now.diffusion.roads.arcs }
         ensures { result ≡ (state_of self.now).told b }
     {

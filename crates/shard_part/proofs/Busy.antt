@@ -20,7 +20,7 @@ use Rattle.shard_part.specs.Moves.{AreRowDeficits, RepInvariant, IsPlace, IsArcR
 use Rattle.shard_store.proofs.Totals.{sum_at, sum_below_same}
 use Rattle.shard_store.proofs.Counting.{own_arcs_most}
 use Rattle.shard_store.proofs.Places.{table_write, table_long, own_apart, own_placed}
-use Rattle.shard_part.proofs.Moves.{place_at, row_at, arc_below, apart}
+use Rattle.shard_part.proofs.Moves.{place_at, row_at, arc_below, apart, rebuilt}
 use Rattle.scholten_core.proofs.Basics.{one_if-most}
 
 pub busy_most : {V : Type 0} (N : Network) (v : ℕ) (d : CoreState V) (n : ℕ) → busy_out N v d n ≤ n
@@ -155,24 +155,10 @@ module _ {S V : Type 0} where
         busy = scatter (arcs_out (network_of p.setup) (local_vertices p.setup p.shard)) (set r.busy i x) false
             (suc (length p.setup.diffusion.roads.arcs));
       }) (record r { busy = set r.busy i x; deficits = set r.deficits j d' }) n ns
-  keep_busy p r n ns v j b i x d' D P Q t h s = record {
-    planned = D.planned;
-    sized = record {
-      own = D.sized.own;
-      offsets = D.sized.offsets;
-      starts = D.sized.starts;
-      labels = D.sized.labels;
-      engagers = D.sized.engagers;
-      deficits = length-set r.deficits j d' ∙ D.sized.deficits;
-      busy = length-set r.busy i x ∙ D.sized.busy;
-      told = D.sized.told;
-    };
-    seen = record { labels = D.seen.labels; engagers = D.seen.engagers; busy = refl; told = D.seen.told };
-    counts = subst (λ (ys : List Bool). AreRowDeficits (record p { busy = ys }) (record r { busy = set r.busy i x; deficits = set r.deficits j d' })) (sym (busy_written p r n ns b i x D Q)) counts;
-    sound = subst (λ (ys : List Bool). LocalInvariant (network_of p.setup) (place_in p.setup) (record p { busy = ys })) (sym (busy_written p r n ns b i x D Q)) s;
-    roomy = record { queue = D.roomy.queue; order = D.roomy.order; boxes = D.roomy.boxes; rings = D.roomy.rings; outs = D.roomy.outs };
-    tallied = D.tallied;
-  }
+  keep_busy p r n ns v j b i x d' D P Q t h s = rebuilt p r n ns p.engagers r.engagers (set r.deficits j d') _ (set r.busy i x) p.told r.told p.queue p.outs D
+      refl (length-set r.deficits j d') (length-set r.busy i x) refl refl (record { labels = D.seen.labels; engagers = D.seen.engagers; busy = refl; told = D.seen.told })
+      (subst (λ (ys : List Bool). AreRowDeficits (record p { busy = ys }) (record r { busy = set r.busy i x; deficits = set r.deficits j d' })) (sym (busy_written p r n ns b i x D Q)) counts)
+      (subst (λ (ys : List Bool). LocalInvariant (network_of p.setup) (place_in p.setup) (record p { busy = ys })) (sym (busy_written p r n ns b i x D Q)) s)
     where
       long : length p.busy ≡ suc (length p.setup.diffusion.roads.arcs)
       long = table_long (arcs_out (network_of p.setup) (local_vertices p.setup p.shard)) r.busy p.busy false (suc (length p.setup.diffusion.roads.arcs)) D.seen.busy

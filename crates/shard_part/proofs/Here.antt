@@ -11,7 +11,7 @@ use Rattle.scholten_core.specs.Shares.{Agree}
 use Rattle.shard_part.specs.Handling.{arrive_here, rest_here, settle_here, settle_tail_here, taken}
 use Rattle.scholten_core.proofs.Basics.{put_tells, put-at, put-other}
 use Rattle.scholten_core.proofs.Kept.{Kept, arrive_kept, freed_kept}
-use Rattle.scholten_core.proofs.Counts.{held_pumped}
+use Rattle.scholten_core.proofs.StepCases.{held_pumped}
 use Rattle.scholten_core.proofs.Shares.{arrive_agree, pump_agree, freed_agree, out_idle_agree}
 
 module _ {V : Type 0} (A : Algebra V) (N : Network) where

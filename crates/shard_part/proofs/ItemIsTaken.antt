@@ -228,60 +228,46 @@ module _ {S V : Type 0} (A : Algebra V) where
       subst (λ u. Made A (settle_here A N v (freed A N (suc k) (state_in p))) (settle_made A N v (freed A N (suc k) (state_in p)) (outgoing N v)) p1 (rested A v u)) (offered_alone v (suc k) p1) M in
       record { setup = Q.setup; shard = Q.shard; tables = Q.tables; channels = Q.channels; sent = Q.sent; signalled = Q.signalled; delivered = Q.delivered; accepted = Q.accepted }
 
+  -- with the item taken off and counted
+  counted_fit : (p : PartData S V) (zs : List (Item V)) (d a : ℕ) → IsFit p → d ≤ top → a ≤ top → IsFit (record p { queue = zs; delivered = d; accepted = a })
+  counted_fit p zs d a F l m = record {
+    labels = F.labels;
+    engagers = F.engagers;
+    busy = F.busy;
+    told = F.told;
+    sent = F.sent;
+    delivered = l;
+    signalled = F.signalled;
+    accepted = m;
+  }
+
+  handled_as : (p q : PartData S V) (i : Item V) (zs : List (Item V)) (d a : ℕ) → IsPermutation p.queue (i ∷ zs) → IsInTurn A (network_of p.setup) p.setup.order (state_in p) p.queue i zs
+      → d ≡ counted_on (message_weight i) p.delivered → a ≡ counted_on (signal_weight i) p.accepted
+      → Made A (taken A (network_of p.setup) i (state_in p)) (made A (network_of p.setup) i (state_in p)) (record p { queue = zs; delivered = d; accepted = a }) q
+      → HandledItemIn A (network_of p.setup) (place_in p.setup) p i q
+  handled_as p q i zs d a left in_turn e f M = record {
+    rest = zs;
+    left = left;
+    in_turn = in_turn;
+    setup = M.setup;
+    shard = M.shard;
+    tables = record { label = λ v _. M.tables.label v refl; engager = λ v _. M.tables.engager v refl; told = λ b _. M.tables.told b refl; idle = λ b _. M.tables.idle b refl };
+    channels = M.channels;
+    sent = M.sent;
+    signalled = M.signalled;
+    delivered = M.delivered ∙ e;
+    accepted = M.accepted ∙ f;
+  }
+
   -- the item i is taken, with zs after it
   handled : Lawful A → (p : PartData S V) (i : Item V) (zs : List (Item V)) → IsPlanned p.setup p.shard → IsFit p → OwnIdleIsTold p → IsPermutation p.queue (i ∷ zs) → IsInTurn A (network_of p.setup) p.setup.order (state_in p) p.queue i zs → IsArc (network_of p.setup) (item_arc i) →
       place_in p.setup (vertex_of (network_of p.setup) i) ≡ p.shard → HandledItemIn A (network_of p.setup) (place_in p.setup) p i (with_taken A i (record p { queue = zs }))
-  handled L p (MessageOn a x) zs P F T left in_turn r here =
-      let p0 : PartData S V = record p { queue = zs; delivered = counted_on 1 p.delivered } in
-      let M = message_taken L p0 a x (formed p p.shard P)
-      (record {
-        labels = F.labels;
-        engagers = F.engagers;
-        busy = F.busy;
-        told = F.told;
-        sent = F.sent;
-        delivered = counted_top 1 p.delivered;
-        signalled = F.signalled;
-        accepted = F.accepted;
-      }) T here r.0 (head_within p P a r) in
-      record {
-        rest = zs;
-        left = left;
-        in_turn = in_turn;
-        setup = M.setup;
-        shard = M.shard;
-        tables = record { label = λ v _. M.tables.label v refl; engager = λ v _. M.tables.engager v refl; told = λ b _. M.tables.told b refl; idle = λ b _. M.tables.idle b refl };
-        channels = M.channels;
-        sent = M.sent;
-        signalled = M.signalled;
-        delivered = M.delivered;
-        accepted = M.accepted ∙ sym (counted_none p.accepted F.accepted);
-      }
-  handled L p (SignalOn a) zs P F T left in_turn r here =
-      let p0 : PartData S V = record p { queue = zs; accepted = counted_on 1 p.accepted } in
-      let M = signal_taken L p0 a (formed p p.shard P) (record {
-        labels = F.labels;
-        engagers = F.engagers;
-        busy = F.busy;
-        told = F.told;
-        sent = F.sent;
-        delivered = F.delivered;
-        signalled = F.signalled;
-        accepted = counted_top 1 p.accepted;
-      }) T here r.1 (tail_within p P a r) in
-      record {
-        rest = zs;
-        left = left;
-        in_turn = in_turn;
-        setup = M.setup;
-        shard = M.shard;
-        tables = record { label = λ v _. M.tables.label v refl; engager = λ v _. M.tables.engager v refl; told = λ b _. M.tables.told b refl; idle = λ b _. M.tables.idle b refl };
-        channels = M.channels;
-        sent = M.sent;
-        signalled = M.signalled;
-        delivered = M.delivered ∙ sym (counted_none p.delivered F.delivered);
-        accepted = M.accepted;
-      }
+  handled L p (MessageOn a x) zs P F T left in_turn r here = handled_as p _ (MessageOn a x) zs (counted_on 1 p.delivered) p.accepted left in_turn refl (sym (counted_none p.accepted F.accepted))
+      (message_taken L (record p { queue = zs; delivered = counted_on 1 p.delivered }) a x (formed p p.shard P) (counted_fit p zs (counted_on 1 p.delivered) p.accepted F (counted_top 1 p.delivered) F.accepted)
+      T here r.0 (head_within p P a r))
+  handled L p (SignalOn a) zs P F T left in_turn r here = handled_as p _ (SignalOn a) zs p.delivered (counted_on 1 p.accepted) left in_turn (sym (counted_none p.delivered F.delivered)) refl
+      (signal_taken L (record p { queue = zs; accepted = counted_on 1 p.accepted }) a (formed p p.shard P) (counted_fit p zs p.delivered (counted_on 1 p.accepted) F F.delivered (counted_top 1 p.accepted))
+      T here r.1 (tail_within p P a r))
 
   -- the front item was taken off the queue, and did what it does
   pub popped_taken : Lawful A → (p m q : PartData S V) (i : Item V) → IsPlanned p.setup p.shard → IsFit p → OwnIdleIsTold p → IsPopped A p m i

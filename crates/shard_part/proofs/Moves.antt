@@ -3,6 +3,7 @@ use Rattle.std.proofs.Common.{◌≡◌, ◌≢◌, ℕ, suc, ◌+◌, ◌<◌, 
 use Rattle.std.proofs.lemmas.Bool.{cases_eq}
 use Rattle.scholten_core.specs.Network.{WellFormed}
 use Rattle.scholten_core.specs.Sums.{one_if}
+use Rattle.scholten_core.specs.declared.item.Item.{Item}
 use Rattle.scholten_core.specs.Items.{item_arc}
 use Rattle.scholten_core.proofs.Networks.{well_formed}
 use Rattle.shard_store.specs.Tables.{scatter, IsApart}
@@ -14,7 +15,7 @@ use Rattle.shard_part.specs.Weights.{part_weight}
 use Rattle.shard_part.specs.LocalInvariant.{names, engages, idles, LocalInvariant, IsClear}
 use Rattle.shard_store.specs.Queue.{Room}
 use Rattle.shard_store.specs.Rows.{Rows}
-use Rattle.shard_part.specs.Moves.{RepInvariant, IsPlace, IsArcRow}
+use Rattle.shard_part.specs.Moves.{RepInvariant, IsSeen, AreRowDeficits, IsPlace, IsArcRow}
 use Rattle.shard_store.proofs.Places.{table_read, table_write, table_long, own_apart, own_below, own_placed, arcs_apart, arc_owner}
 use Rattle.scholten_core.proofs.Basics.{one_if-most}
 
@@ -90,29 +91,41 @@ module _ {S V : Type 0} where
       (suc (length p.setup.diffusion.roads.arcs)) i b x D.seen.told (apart p) P.inside D.sized.told P.arc)
       ∙ ap (λ (u : PartData S V). record u { told = set u.told b x }) e
 
-  pub told_keeps : (p : PartData S V) (r : Rows V) (n : Room) (ns : List ℕ) (i : ℕ) (x : Option V) → RepInvariant p r n ns →
-      RepInvariant (record p {
-        told = scatter (arcs_out (network_of p.setup) (local_vertices p.setup p.shard)) (set r.told i x) None
-            (suc (length p.setup.diffusion.roads.arcs));
-      }) (record r { told = set r.told i x }) n ns
-  told_keeps p r n ns i x D = record {
+  -- engagers, flags, offers, queue and outboxes become others, as many as they were
+  pub rebuilt : (p : PartData S V) (r : Rows V) (n : Room) (ns : List ℕ) (es rows_es : List (Option ℕ)) (ds : List ℕ) (bs rows_bs : List Bool) (ts rows_ts : List (Option V))
+      (xs : List (Item V)) (os : List (List (Item V))) → RepInvariant p r n ns
+      → length rows_es ≡ length r.engagers → length ds ≡ length r.deficits → length rows_bs ≡ length r.busy → length rows_ts ≡ length r.told → length os ≡ length p.outs
+      → IsSeen (record p { engagers = es; busy = bs; told = ts; queue = xs; outs = os }) (record r { engagers = rows_es; deficits = ds; busy = rows_bs; told = rows_ts })
+      → AreRowDeficits (record p { engagers = es; busy = bs; told = ts; queue = xs; outs = os }) (record r { engagers = rows_es; deficits = ds; busy = rows_bs; told = rows_ts })
+      → LocalInvariant (network_of p.setup) (place_in p.setup) (record p { engagers = es; busy = bs; told = ts; queue = xs; outs = os })
+      → RepInvariant (record p { engagers = es; busy = bs; told = ts; queue = xs; outs = os }) (record r { engagers = rows_es; deficits = ds; busy = rows_bs; told = rows_ts }) n ns
+  rebuilt p r n ns es rows_es ds bs rows_bs ts rows_ts xs os D e d b t o seen counts sound = record {
     planned = D.planned;
     sized = record {
       own = D.sized.own;
       offsets = D.sized.offsets;
       starts = D.sized.starts;
       labels = D.sized.labels;
-      engagers = D.sized.engagers;
-      deficits = D.sized.deficits;
-      busy = D.sized.busy;
-      told = length-set r.told i x ∙ D.sized.told;
+      engagers = e ∙ D.sized.engagers;
+      deficits = d ∙ D.sized.deficits;
+      busy = b ∙ D.sized.busy;
+      told = t ∙ D.sized.told;
     };
-    seen = record { labels = D.seen.labels; engagers = D.seen.engagers; busy = D.seen.busy; told = refl };
-    counts = D.counts;
-    sound = record { once = D.sound.once; leads = D.sound.leads; here = D.sound.here; gone = D.sound.gone; wide = D.sound.wide };
-    roomy = record { queue = D.roomy.queue; order = D.roomy.order; boxes = D.roomy.boxes; rings = D.roomy.rings; outs = D.roomy.outs };
+    seen = seen;
+    counts = counts;
+    sound = sound;
+    roomy = record { queue = D.roomy.queue; order = D.roomy.order; boxes = o ∙ D.roomy.boxes; rings = D.roomy.rings; outs = D.roomy.outs };
     tallied = D.tallied;
   }
+
+  pub told_keeps : (p : PartData S V) (r : Rows V) (n : Room) (ns : List ℕ) (i : ℕ) (x : Option V) → RepInvariant p r n ns →
+      RepInvariant (record p {
+        told = scatter (arcs_out (network_of p.setup) (local_vertices p.setup p.shard)) (set r.told i x) None
+            (suc (length p.setup.diffusion.roads.arcs));
+      }) (record r { told = set r.told i x }) n ns
+  told_keeps p r n ns i x D = rebuilt p r n ns p.engagers r.engagers r.deficits p.busy r.busy _ (set r.told i x) p.queue p.outs D
+      refl refl refl (length-set r.told i x) refl (record { labels = D.seen.labels; engagers = D.seen.engagers; busy = D.seen.busy; told = refl }) D.counts
+      (record { once = D.sound.once; leads = D.sound.leads; here = D.sound.here; gone = D.sound.gone; wide = D.sound.wide })
 
   -- an engager is written
   engagers_written : (p : PartData S V) (r : Rows V) (n : Room) (ns : List ℕ) (v j : ℕ) (x : Option ℕ) → RepInvariant p r n ns → IsPlace p v j →
@@ -144,24 +157,9 @@ module _ {S V : Type 0} where
   keep_engagers : (p : PartData S V) (r : Rows V) (n : Room) (ns : List ℕ) (v j : ℕ) (x : Option ℕ) → RepInvariant p r n ns → IsPlace p v j
       → LocalInvariant (network_of p.setup) (place_in p.setup) (record p { engagers = set p.engagers v x }) →
       RepInvariant (record p { engagers = scatter (local_vertices p.setup p.shard) (set r.engagers j x) None (suc p.setup.diffusion.roads.vertices) }) (record r { engagers = set r.engagers j x }) n ns
-  keep_engagers p r n ns v j x D P s = record {
-    planned = D.planned;
-    sized = record {
-      own = D.sized.own;
-      offsets = D.sized.offsets;
-      starts = D.sized.starts;
-      labels = D.sized.labels;
-      engagers = length-set r.engagers j x ∙ D.sized.engagers;
-      deficits = D.sized.deficits;
-      busy = D.sized.busy;
-      told = D.sized.told;
-    };
-    seen = record { labels = D.seen.labels; engagers = refl; busy = D.seen.busy; told = D.seen.told };
-    counts = D.counts;
-    sound = subst (λ (ys : List (Option ℕ)). LocalInvariant (network_of p.setup) (place_in p.setup) (record p { engagers = ys })) (sym (engagers_written p r n ns v j x D P)) s;
-    roomy = record { queue = D.roomy.queue; order = D.roomy.order; boxes = D.roomy.boxes; rings = D.roomy.rings; outs = D.roomy.outs };
-    tallied = D.tallied;
-  }
+  keep_engagers p r n ns v j x D P s = rebuilt p r n ns _ (set r.engagers j x) r.deficits p.busy r.busy p.told r.told p.queue p.outs D
+      (length-set r.engagers j x) refl refl refl refl (record { labels = D.seen.labels; engagers = refl; busy = D.seen.busy; told = D.seen.told }) D.counts
+      (subst (λ (ys : List (Option ℕ)). LocalInvariant (network_of p.setup) (place_in p.setup) (record p { engagers = ys })) (sym (engagers_written p r n ns v j x D P)) s)
 
   pub engage_keeps : (p old : PartData S V) (r : Rows V) (n : Room) (ns : List ℕ) (v j a : ℕ) → p ≡ old → RepInvariant p r n ns → IsPlace old v j
       → IsArc (network_of old.setup) a → (network_of old.setup).head a ≡ v → IsClear old a →

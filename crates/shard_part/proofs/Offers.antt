@@ -62,10 +62,10 @@ module _ {S V : Type 0} (A : Algebra V) where
       h ∙ shard_is p old r n ns w w e D (inr (T.1.0, refl)) ∙ ap (place_in old.setup) T.0 ∙ ap (λ (u : PartData S V). place_in u.setup ((network_of u.setup).head b)) (sym m)
 
   -- a due arc is offered the label
-  pub told_anew : (p q new : PartData S V) (v b w : ℕ) (label x : Option V) → is_due A (network_of p.setup) v (state_in p) b ≡ true
+  pub offer_made : (p q new : PartData S V) (v b w : ℕ) (label x : Option V) → is_due A (network_of p.setup) v (state_in p) b ≡ true
       → label ≡ (state_in p).label v → w ≡ (network_of p.setup).weight b → x ≡ extend_label A label w →
       q ≡ record p { told = set p.told b label } → new ≡ with_message b x q → new ≡ offered A v b p
-  told_anew p q new v b w label x due l y h e m =
+  offer_made p q new v b w label x due l y h e m =
       m ∙ (λ i. with_message b (h i) (e i)) ∙ (λ i. with_message b (extend_label A (l i) (y i)) (record p { told = set p.told b (l i) }))
       ∙ sym (cond-true (is_due A (network_of p.setup) v (state_in p) b)
       (with_message b (extend_label A ((state_in p).label v) ((network_of p.setup).weight b))

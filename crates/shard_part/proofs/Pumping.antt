@@ -11,7 +11,7 @@ use Rattle.shard_part.specs.PartState.{PartData, state_in, IsArc}
 use Rattle.shard_store.specs.Outgoing.{outgoing, local_vertices}
 use Rattle.shard_store.specs.Queue.{Room}
 use Rattle.shard_store.specs.Rows.{Rows}
-use Rattle.shard_part.specs.Moves.{RepInvariant, IsPlace, IsArcRow, with_message, engaged_or_answered, labelled, offered, offered_all, rested, with_value}
+use Rattle.shard_part.specs.Moves.{RepInvariant, IsPlace, IsArcRow, IsArcOut, with_message, engaged_or_answered, labelled, offered, offered_all, rested, with_value}
 use Rattle.scholten_core.proofs.Networks.{tail-arc}
 use Rattle.shard_part.proofs.Graphs.{arc_in_graph}
 use Rattle.shard_store.proofs.Graphs.{out_is, roads_are, road_is}
@@ -55,6 +55,10 @@ module _ {S V : Type 0} (A : Algebra V) where
   pub listed_out : (p old : PartData S V) (v : ℕ) (xs : List ℕ) → p ≡ old → 1 ≤ v → ListsArcsFrom p.setup.diffusion.roads v xs → xs ≡ outgoing (network_of old.setup) v
   listed_out p old v xs e l o = out_is p.setup.diffusion.roads p.setup.diffusion.source v xs l o ∙ ap (λ (u : PartData S V). outgoing (network_of u.setup) v) e
 
+  pub listed_at : (p old : PartData S V) (r : Rows V) (n : Room) (ns : List ℕ) (v j : ℕ) (xs : List ℕ) → p ≡ old → RepInvariant p r n ns → IsPlace old v j → v ≢ 0
+      → ListsArcsFrom p.setup.diffusion.roads v xs → xs ≡ outgoing (network_of old.setup) v
+  listed_at p old r n ns v j xs e D P nz o = listed_out p old v xs e (vertex_at p old r n ns v j e D P nz).0 o
+
   pub offered_all_same : (v : ℕ) (bs : List ℕ) (p : PartData S V) → ((offered_all A v bs p).setup ≡ p.setup) × ((offered_all A v bs p).shard ≡ p.shard)
   unfolding offered_all
   offered_all_same v [] p = (refl, refl)
@@ -92,20 +96,24 @@ module _ {S V : Type 0} where
   pub arc_at : (p q : PartData S V) (v k b : ℕ) (xs : List ℕ) → xs ≡ outgoing (network_of p.setup) v → q.setup ≡ p.setup → get_or xs k 0 ≡ b → get_or (outgoing (network_of q.setup) v) k 0 ≡ b
   arc_at p q v k b xs e s h = (λ j. get_or (outgoing (network_of (s j)) v) k 0) ∙ ap (λ ys. get_or ys k 0) (sym e) ∙ h
 
-  pub row_found : (p q : PartData S V) (v k b i : ℕ) (xs : List ℕ) → xs ≡ outgoing (network_of p.setup) v → q.setup ≡ p.setup → get_or xs k 0 ≡ b
-      → IsArcRow q (get_or (outgoing (network_of q.setup) v) k 0) i → IsArcRow q b i
-  row_found p q v k b i xs e s h R = subst (λ z. IsArcRow q z i) (arc_at p q v k b xs e s h) R
-
-  pub tail_found : (p q : PartData S V) (v k b : ℕ) (xs : List ℕ) → xs ≡ outgoing (network_of p.setup) v → q.setup ≡ p.setup → k < length xs → get_or xs k 0 ≡ b → (network_of q.setup).tail b ≡ v
+  tail_found : (p q : PartData S V) (v k b : ℕ) (xs : List ℕ) → xs ≡ outgoing (network_of p.setup) v → q.setup ≡ p.setup → k < length xs → get_or xs k 0 ≡ b → (network_of q.setup).tail b ≡ v
   tail_found p q v k b xs e s l h = ap (λ (t : SetupData S). (network_of t).tail b) s ∙ ap (network_of p.setup).tail (sym h ∙ ap (λ ys. get_or ys k 0) e)
       ∙ ((outgoing_picked (network_of p.setup) v).each k (subst (λ ys. k < length ys) e l)).0
 
-  pub arc_found : (u p q : PartData S V) (r : Rows V) (n : Room) (ns : List ℕ) (v b : ℕ) → u ≡ p → RepInvariant u r n ns → q.setup ≡ p.setup → v ≢ 0
+  arc_found : (u p q : PartData S V) (r : Rows V) (n : Room) (ns : List ℕ) (v b : ℕ) → u ≡ p → RepInvariant u r n ns → q.setup ≡ p.setup → v ≢ 0
       → (network_of q.setup).tail b ≡ v → IsArc (network_of q.setup) b × (b ≢ 0)
   arc_found u p q r n ns v b e D s nz t =
       let W : WellFormed (network_of q.setup) = subst (λ (x : SetupData S). WellFormed (network_of x)) (ap (λ (y : PartData S V). y.setup) e ∙ sym s) (formed u u.shard D.planned) in
       let tn : (network_of q.setup).tail b ≢ 0 = λ z. nz (sym t ∙ z) in
       ((W.head_in b tn, λ _. tn), λ z. tn (ap (network_of q.setup).tail z ∙ W.tail_zero))
+
+  -- the k-th arc out of a vertex, as the graph lists them
+  pub arc_out : (u p q : PartData S V) (r : Rows V) (n : Room) (ns : List ℕ) (v k b i : ℕ) (xs : List ℕ) → u ≡ p → RepInvariant u r n ns → q.setup ≡ p.setup → v ≢ 0
+      → xs ≡ outgoing (network_of p.setup) v → k < length xs → get_or xs k 0 ≡ b → IsArcRow q (get_or (outgoing (network_of q.setup) v) k 0) i → IsArcOut q v b i × (b ≢ 0)
+  arc_out u p q r n ns v k b i xs e D s nz is l h R =
+      let t = tail_found p q v k b xs is s l h in
+      let a = arc_found u p q r n ns v b e D s nz t in
+      (record { row = subst (λ z. IsArcRow q z i) (arc_at p q v k b xs is s h) R; tail = t; arc = a.0 }, a.1)
 
   -- an arc among those out of its tail
   pub tail_vertex : (p old : PartData S V) (r : Rows V) (n : Room) (ns : List ℕ) (a : ℕ) → p ≡ old → RepInvariant p r n ns

@@ -27,7 +27,7 @@ use Rattle.shard_part.proofs.Routed.{outs_none}
 use Rattle.shard_part.proofs.Showing.{all_append}
 use Rattle.shard_part.proofs.RingsSuffice.{sound_fits}
 use Rattle.shard_part.proofs.Moves.{formed}
-use Rattle.shard_part.proofs.Rings.{map_read, map_kept, with_queue, with_outs}
+use Rattle.shard_part.proofs.Rings.{map_read, map_kept, with_channels}
 use Rattle.shard_store.proofs.Graphs.{arcs_first}
 
 module _ {S V : Type 0} where
@@ -99,7 +99,7 @@ module _ {S V : Type 0} where
       let ns : map caps (set rs to new) ≡ map caps rs = map_kept caps rs to x new inside read (sym was) in (
         subst (λ (ys : List (List (Item V))). RepInvariant (record p { outs = ys }) r n (map caps (set rs to new))) (sym outs)
             (subst (λ (ks : List ℕ). RepInvariant (record p { outs = set p.outs to [] }) r n ks) (sym ns)
-            (with_outs p r n (map caps rs) (set p.outs to []) D (length-set p.outs to []) (emptied_sound p to D.sound))),
+            (with_channels p r n (map caps rs) p.queue (set p.outs to []) D (length-set p.outs to []) (emptied_sound p to D.sound))),
         (λ i. record p { outs = outs i }) ∙ ap (λ (u : PartData S V). record u { outs = set u.outs to [] }) e,
         sym (map_read its rs to [] x inside read) ∙ ap (λ ys. get_or ys to []) (sym o) ∙ ap (λ (u : PartData S V). get_or u.outs to []) e,
         was,
@@ -188,7 +188,7 @@ module _ {S V : Type 0} where
           (let q = D.roomy.queue in omega (arith, q, l2)),
           λ new w k. (
             subst (λ m. RepInvariant (record p { queue = new.items }) r m ns) (sym k)
-                (subst (λ xs. RepInvariant (record p { queue = xs }) r n ns) (sym w) (with_queue p r n ns (p.queue ++ batch) D (received_sound p batch D.planned.roads D.sound F2))),
+                (subst (λ xs. RepInvariant (record p { queue = xs }) r n ns) (sym w) (with_channels p r n ns (p.queue ++ batch) p.outs D refl (received_sound p batch D.planned.roads D.sound F2))),
             ap (λ xs. record p { queue = xs }) w ∙ ap (λ (u : PartData S V). record u { queue = u.queue ++ batch }) e,
           ),
         )

@@ -1,5 +1,5 @@
 -- An item is put into the queue or a ring, where it has room, or taken from the queue.
-use Rattle.std.proofs.Common.{◌≡◌, ◌≢◌, ◌⊎◌, ℕ, zero, suc, ◌<◌, ◌≤◌, eqb, Option, Some, None, List, [], ◌∷◌, ◌++◌, length, length-append, set, get_or, map, refl, sym, ap, ◌∙◌, subst, arith, eq-eqb, ne_eqb, length-set, get_or-set_same}
+use Rattle.std.proofs.Common.{◌≡◌, ◌≢◌, ◌⊎◌, ℕ, zero, suc, ◌<◌, Option, Some, None, List, [], ◌∷◌, ◌++◌, length, length-append, set, get_or, map, refl, sym, ap, ◌∙◌, subst, arith, eq-eqb, ne_eqb, length-set, get_or-set_same}
 use Rattle.std.specs.Prelude.{IfSome, IfNone}
 use Rattle.std.proofs.lemmas.Bool.{cond-true, cond-false}
 use Rattle.std.proofs.lemmas.List.{length-map, map-set}
@@ -7,18 +7,18 @@ use Rattle.shard_store.specs.Queue.{Room, Line}
 use Rattle.scholten_core.specs.declared.item.Item.{Item}
 use Rattle.path_algebra.specs.Algebra.{Algebra}
 use Rattle.scholten_core.specs.Items.{item_arc}
-use Rattle.shard_part.specs.PartState.{PartData, state_in, vertex_of, maker_of, IsArc}
+use Rattle.shard_part.specs.PartState.{PartData, state_in, vertex_of}
 use Rattle.shard_store.specs.Setup.{network_of, place_in}
 use Rattle.shard_part.specs.Weights.{Channels, channels_of, All}
 use Rattle.shard_store.specs.Totals.{is}
 use Rattle.shard_part.specs.Handling.{route, GoesAtOnce, IsInTurn}
-use Rattle.shard_part.specs.LocalInvariant.{IsClear, LocalInvariant}
+use Rattle.shard_part.specs.LocalInvariant.{LocalInvariant}
 use Rattle.shard_store.specs.Rows.{Rows}
-use Rattle.shard_part.specs.Moves.{RepInvariant, put_item, IsPopped}
+use Rattle.shard_part.specs.Moves.{RepInvariant, MaySend, put_item, IsPopped}
 use Rattle.shard_part.proofs.Sound.{put_sound}
 use Rattle.shard_part.proofs.RingsSuffice.{sound_fits, sound_out_fits}
 use Rattle.shard_part.proofs.Showing.{is_self}
-use Rattle.shard_part.proofs.Moves.{formed}
+use Rattle.shard_part.proofs.Moves.{formed, rebuilt}
 use Rattle.std.specs.Prelude.{All as AllOf}
 use Rattle.std.specs.List.Sorted.{IsPermutation}
 use Rattle.shard_store.specs.declared.queue_order.QueueOrder.{QueueOrder}
@@ -67,112 +67,34 @@ module _ {V : Type 0} where
 
 module _ {S V : Type 0} where
   -- the lists change, and the part stays sound
-  pub with_queue : (p : PartData S V) (r : Rows V) (n : Room) (ns : List ℕ) (xs : List (Item V)) → RepInvariant p r n ns
-      → LocalInvariant (network_of p.setup) (place_in p.setup) (record p { queue = xs }) → RepInvariant (record p { queue = xs }) r n ns
-  with_queue p r n ns xs D s = record {
-    planned = D.planned;
-    sized = record {
-      own = D.sized.own;
-      offsets = D.sized.offsets;
-      starts = D.sized.starts;
-      labels = D.sized.labels;
-      engagers = D.sized.engagers;
-      deficits = D.sized.deficits;
-      busy = D.sized.busy;
-      told = D.sized.told;
-    };
-    seen = record { labels = D.seen.labels; engagers = D.seen.engagers; busy = D.seen.busy; told = D.seen.told };
-    counts = D.counts;
-    sound = s;
-    roomy = record { queue = D.roomy.queue; order = D.roomy.order; boxes = D.roomy.boxes; rings = D.roomy.rings; outs = D.roomy.outs };
-    tallied = D.tallied;
-  }
-
-  pub with_outs : (p : PartData S V) (r : Rows V) (n : Room) (ns : List ℕ) (os : List (List (Item V))) → RepInvariant p r n ns
-      → length os ≡ length p.outs → LocalInvariant (network_of p.setup) (place_in p.setup) (record p { outs = os })
-      → RepInvariant (record p { outs = os }) r n ns
-  with_outs p r n ns os D l s = record {
-    planned = D.planned;
-    sized = record {
-      own = D.sized.own;
-      offsets = D.sized.offsets;
-      starts = D.sized.starts;
-      labels = D.sized.labels;
-      engagers = D.sized.engagers;
-      deficits = D.sized.deficits;
-      busy = D.sized.busy;
-      told = D.sized.told;
-    };
-    seen = record { labels = D.seen.labels; engagers = D.seen.engagers; busy = D.seen.busy; told = D.seen.told };
-    counts = D.counts;
-    sound = s;
-    roomy = record { queue = D.roomy.queue; order = D.roomy.order; boxes = l ∙ D.roomy.boxes; rings = D.roomy.rings; outs = D.roomy.outs };
-    tallied = D.tallied;
-  }
+  pub with_channels : (p : PartData S V) (r : Rows V) (n : Room) (ns : List ℕ) (xs : List (Item V)) (os : List (List (Item V))) → RepInvariant p r n ns
+      → length os ≡ length p.outs → LocalInvariant (network_of p.setup) (place_in p.setup) (record p { queue = xs; outs = os })
+      → RepInvariant (record p { queue = xs; outs = os }) r n ns
+  with_channels p r n ns xs os D l s = rebuilt p r n ns p.engagers r.engagers r.deficits p.busy r.busy p.told r.told xs os D refl refl refl refl l
+      (record { labels = D.seen.labels; engagers = D.seen.engagers; busy = D.seen.busy; told = D.seen.told }) D.counts s
 
   module _ (A : Algebra V) where
-    -- an item for the part itself
-    put_here : (p : PartData S V) (r : Rows V) (n : Room) (ns : List ℕ) (i : Item V) → RepInvariant p r n ns → IsArc (network_of p.setup) (item_arc i)
-        → place_in p.setup (maker_of (network_of p.setup) i) ≡ p.shard → IsClear p (item_arc i) →
-        place_in p.setup (vertex_of (network_of p.setup) i) ≡ p.shard →
-        (length (p.queue ++ i ∷ []) ≤ n.capacity) × (route (network_of p.setup) (place_in p.setup) p.shard i (channels_of p)
-        ≡ record { queue = p.queue ++ i ∷ []; outs = p.outs }) × RepInvariant (record p { queue = p.queue ++ i ∷ [] }) r n ns
-    put_here p r n ns i D ar m z e =
-        let to = cond-true (eqb (place_in p.setup (vertex_of (network_of p.setup) i)) p.shard) (record { queue = p.queue ++ i ∷ []; outs = p.outs })
-        (record {
-          queue = p.queue;
-          outs = set p.outs (place_in p.setup (vertex_of (network_of p.setup) i))
-              (get_or p.outs (place_in p.setup (vertex_of (network_of p.setup) i)) [] ++ i ∷ []);
-        }) (eq-eqb _ _ e) in
-        let s : LocalInvariant (network_of p.setup) (place_in p.setup) (record p { queue = p.queue ++ i ∷ [] }) = subst
-        (λ (l : Channels V). LocalInvariant (network_of p.setup) (place_in p.setup) (record p { queue = l.queue; outs = l.outs })) to
-        (put_sound A (network_of p.setup) (place_in p.setup) (formed p p.shard D.planned) p i D.sound ar m z) in
-        let f = sound_fits A (network_of p.setup) (place_in p.setup) (formed p p.shard D.planned) (record p { queue = p.queue ++ i ∷ [] }) s in
-        ((let q = D.roomy.queue in omega (arith, f, q)), to, with_queue p r n ns (p.queue ++ i ∷ []) D s)
+    -- an item is put where it belongs
+    put_well : (p : PartData S V) (r : Rows V) (n : Room) (ns : List ℕ) (i : Item V) (to : ℕ) (l : Channels V) → RepInvariant p r n ns → MaySend p i to
+        → route (network_of p.setup) (place_in p.setup) p.shard i (channels_of p) ≡ l
+        → LocalInvariant (network_of p.setup) (place_in p.setup) (record p { queue = l.queue; outs = l.outs })
+    put_well p r n ns i to l D M e = subst (λ (k : Channels V). LocalInvariant (network_of p.setup) (place_in p.setup) (record p { queue = k.queue; outs = k.outs })) e
+        (put_sound A (network_of p.setup) (place_in p.setup) (formed p p.shard D.planned) p i D.sound M.arc M.made M.clear)
 
-    -- an item for another part
-    put_there : (p : PartData S V) (r : Rows V) (n : Room) (ns : List ℕ) (i : Item V) (to : ℕ) → RepInvariant p r n ns
-        → IsArc (network_of p.setup) (item_arc i) → place_in p.setup (maker_of (network_of p.setup) i) ≡ p.shard → IsClear p (item_arc i) →
-        place_in p.setup (vertex_of (network_of p.setup) i) ≡ to → to ≢ p.shard →
-        (to < length p.outs) × (length (get_or p.outs to [] ++ i ∷ []) ≤ get_or ns to 0)
-        × (route (network_of p.setup) (place_in p.setup) p.shard i (channels_of p)
-        ≡ record { queue = p.queue; outs = set p.outs to (get_or p.outs to [] ++ i ∷ []) })
-        × RepInvariant (record p { outs = set p.outs to (get_or p.outs to [] ++ i ∷ []) }) r n ns
-    put_there p r n ns i to D ar m z e ne =
-        let lt : to < length p.outs = subst (λ k. k < length p.outs) e (D.sound.wide (vertex_of (network_of p.setup) i)) in
-        let there : route (network_of p.setup) (place_in p.setup) p.shard i (channels_of p) ≡ record { queue = p.queue; outs = set p.outs to (get_or p.outs to [] ++ i ∷ []) } =
-        cond-false (eqb (place_in p.setup (vertex_of (network_of p.setup) i)) p.shard) (record { queue = p.queue ++ i ∷ []; outs = p.outs })
-        (record {
-          queue = p.queue;
-          outs = set p.outs (place_in p.setup (vertex_of (network_of p.setup) i))
-              (get_or p.outs (place_in p.setup (vertex_of (network_of p.setup) i)) [] ++ i ∷ []);
-        }) (ne_eqb _ _ (λ q. ne (sym e ∙ q)))
-        ∙ ap (λ k. record { queue = p.queue; outs = set p.outs k (get_or p.outs k [] ++ i ∷ []) }) e in
-        let s : LocalInvariant (network_of p.setup) (place_in p.setup) (record p { outs = set p.outs to (get_or p.outs to [] ++ i ∷ []) }) = subst
-        (λ (l : Channels V). LocalInvariant (network_of p.setup) (place_in p.setup) (record p { queue = l.queue; outs = l.outs })) there
-        (put_sound A (network_of p.setup) (place_in p.setup) (formed p p.shard D.planned) p i D.sound ar m z) in
-        let f = sound_out_fits A (network_of p.setup) (place_in p.setup) (formed p p.shard D.planned) (record p { outs = set p.outs to (get_or p.outs to [] ++ i ∷ []) }) s to in
-        let g = ap length (get_or-set_same p.outs to (get_or p.outs to [] ++ i ∷ []) [] lt) in (
-          lt,
-          (let q = D.roomy.outs to ne (let b = D.roomy.boxes in omega (arith, lt, b)) in omega (arith, f, g, q)),
-          there,
-          with_outs p r n ns (set p.outs to (get_or p.outs to [] ++ i ∷ [])) D (length-set p.outs to (get_or p.outs to [] ++ i ∷ [])) s,
-        )
-
-    -- as the running method leaves it
+    -- an item for the part itself, as the running method leaves it
     pub put_here_leaves : (p old : PartData S V) (r : Rows V) (n : Room) (ns : List ℕ) (i : Item V) (to : ℕ) (new : Line (Item V)) → p ≡ old
-        → RepInvariant p r n ns → to ≡ place_in old.setup (vertex_of (network_of old.setup) i) →
-        IsArc (network_of old.setup) (item_arc i) → place_in old.setup (maker_of (network_of old.setup) i) ≡ old.shard → IsClear old (item_arc i) → to ≡ p.shard →
-        new.items ≡ p.queue ++ i ∷ [] → new.room ≡ n →
+        → RepInvariant p r n ns → MaySend old i to → to ≡ p.shard → new.items ≡ p.queue ++ i ∷ [] → new.room ≡ n →
         (length p.queue < n.capacity) × RepInvariant (record p { queue = new.items }) r new.room ns × (record p { queue = new.items } ≡ put_item i old)
-    put_here_leaves p old r n ns i to new e D t ar m z h w u =
-        let R = put_here p r n ns i D (subst (λ (u : PartData S V). IsArc (network_of u.setup) (item_arc i)) (sym e) ar)
-        (subst (λ (u : PartData S V). place_in u.setup (maker_of (network_of u.setup) i) ≡ u.shard) (sym e) m)
-        (subst (λ (u : PartData S V). IsClear u (item_arc i)) (sym e) z)
-        (subst (λ (u : PartData S V). place_in u.setup (vertex_of (network_of u.setup) i) ≡ p.shard) (sym e) (sym t ∙ h)) in (
-          (let a = length-append p.queue (i ∷ []) in let f = R.0 in omega (arith, a, f)),
-          subst (λ k. RepInvariant (record p { queue = new.items }) r k ns) (sym u) (subst (λ xs. RepInvariant (record p { queue = xs }) r n ns) (sym w) R.2),
-          ap (λ xs. record p { queue = xs }) w ∙ (λ k. record p { queue = (sym R.1 k).queue; outs = (sym R.1 k).outs }) ∙ ap (λ (u : PartData S V). put_item i u) e,
+    put_here_leaves p old r n ns i to new e D may h w u =
+        let M = subst (λ (q : PartData S V). MaySend q i to) (sym e) may in
+        let routed : route (network_of p.setup) (place_in p.setup) p.shard i (channels_of p) ≡ record { queue = p.queue ++ i ∷ []; outs = p.outs } =
+        cond-true _ _ _ (eq-eqb _ _ (sym M.shard ∙ h)) in
+        let s = put_well p r n ns i to (record { queue = p.queue ++ i ∷ []; outs = p.outs }) D M routed in
+        let f = sound_fits A (network_of p.setup) (place_in p.setup) (formed p p.shard D.planned) (record p { queue = p.queue ++ i ∷ [] }) s in (
+          (let a = length-append p.queue (i ∷ []) in let q = D.roomy.queue in omega (arith, a, f, q)),
+          subst (λ k. RepInvariant (record p { queue = new.items }) r k ns) (sym u)
+              (subst (λ xs. RepInvariant (record p { queue = xs }) r n ns) (sym w) (with_channels p r n ns (p.queue ++ i ∷ []) p.outs D refl s)),
+          ap (λ xs. record p { queue = xs }) w ∙ (λ k. record p { queue = (sym routed k).queue; outs = (sym routed k).outs }) ∙ ap (λ (q : PartData S V). put_item i q) e,
         )
 
     pub there_in : {X : Type 0} (its : X → List (Item V)) (rs : List X) (p old : PartData S V) (r : Rows V) (n : Room) (ns : List ℕ) (i : Item V)
@@ -184,37 +106,40 @@ module _ {S V : Type 0} where
         (D.sound.wide (vertex_of (network_of p.setup) i)) in
         let q = ap length o in let l = length-map rs its in omega (arith, w, q, l)
 
+    -- an item for another part
     pub put_there_leaves : {X : Type 0} (its : X → List (Item V)) (caps : X → ℕ) (rs : List X) (p old : PartData S V) (r : Rows V) (n : Room)
-        (i : Item V) (to : ℕ) (x : X) → p ≡ old → RepInvariant p r n (map caps rs) → p.outs ≡ map its rs →
-        to ≡ place_in old.setup (vertex_of (network_of old.setup) i) →
-        IsArc (network_of old.setup) (item_arc i) → place_in old.setup (maker_of (network_of old.setup) i) ≡ old.shard → IsClear old (item_arc i) → to ≢ p.shard →
-        x ≡ get_or rs to x →
+        (i : Item V) (to : ℕ) (x : X) → p ≡ old → RepInvariant p r n (map caps rs) → p.outs ≡ map its rs → MaySend old i to → to ≢ p.shard → x ≡ get_or rs to x →
         (length (its x) < caps x) × ((new : X) → its new ≡ its x ++ i ∷ [] → caps new ≡ caps x →
         RepInvariant (record p { outs = map its (set rs to new) }) r n (map caps (set rs to new)) × (record p { outs = map its (set rs to new) } ≡ put_item i old))
-    put_there_leaves {X} its caps rs p old r n i to x e D o t ar m z h read =
-        let lt = there_in its rs p old r n (map caps rs) i to e D o t in
-        let R = put_there p r n (map caps rs) i to D (subst (λ (u : PartData S V). IsArc (network_of u.setup) (item_arc i)) (sym e) ar)
-        (subst (λ (u : PartData S V). place_in u.setup (maker_of (network_of u.setup) i) ≡ u.shard) (sym e) m)
-        (subst (λ (u : PartData S V). IsClear u (item_arc i)) (sym e) z)
-        (subst (λ (u : PartData S V). place_in u.setup (vertex_of (network_of u.setup) i) ≡ to) (sym e) (sym t)) h in
+    put_there_leaves {X} its caps rs p old r n i to x e D o may ne read =
+        let M = subst (λ (q : PartData S V). MaySend q i to) (sym e) may in
+        let lt = there_in its rs p old r n (map caps rs) i to e D o may.shard in
+        let out : to < length p.outs = (let q = ap length o in let l = length-map rs its in omega (arith, lt, q, l)) in
+        let routed : route (network_of p.setup) (place_in p.setup) p.shard i (channels_of p) ≡ record { queue = p.queue; outs = set p.outs to (get_or p.outs to [] ++ i ∷ []) } =
+        cond-false _ _ _ (ne_eqb _ _ (λ q. ne (M.shard ∙ q))) ∙ ap (λ k. record { queue = p.queue; outs = set p.outs k (get_or p.outs k [] ++ i ∷ []) }) (sym M.shard) in
+        let s = put_well p r n (map caps rs) i to (record { queue = p.queue; outs = set p.outs to (get_or p.outs to [] ++ i ∷ []) }) D M routed in
+        let f = sound_out_fits A (network_of p.setup) (place_in p.setup) (formed p p.shard D.planned) (record p { outs = set p.outs to (get_or p.outs to [] ++ i ∷ []) }) s to in
+        let g = ap length (get_or-set_same p.outs to (get_or p.outs to [] ++ i ∷ []) [] out) in
+        let q = D.roomy.outs to ne (let b = D.roomy.boxes in omega (arith, out, b)) in
         let a : get_or p.outs to [] ≡ its x = ap (λ ys. get_or ys to []) o ∙ map_read its rs to [] x lt read in
         let c : get_or (map caps rs) to 0 ≡ caps x = map_read caps rs to 0 x lt read in
         let l = ap (λ ys. length (ys ++ i ∷ [])) a in
         let la = length-append (its x) (i ∷ []) in (
-          (let f = R.1 in omega (arith, f, l, c, la)),
+          omega (arith, f, g, q, l, c, la),
           λ new kept cap.
               (let all : its new ≡ get_or p.outs to [] ++ i ∷ [] = kept ∙ ap (λ ys. ys ++ i ∷ []) (sym a) in
               let outs : map its (set rs to new) ≡ set p.outs to (get_or p.outs to [] ++ i ∷ []) = map-set its rs to new ∙ (λ k. set (sym o k) to (all k)) in
-              let ns : map caps (set rs to new) ≡ map caps rs = map_kept caps rs to x new lt read cap in (
+              let caps_kept : map caps (set rs to new) ≡ map caps rs = map_kept caps rs to x new lt read cap in (
                 subst (λ (ys : List (List (Item V))). RepInvariant (record p { outs = ys }) r n (map caps (set rs to new))) (sym outs)
-                    (subst (λ (ks : List ℕ). RepInvariant (record p { outs = set p.outs to (get_or p.outs to [] ++ i ∷ []) }) r n ks) (sym ns) R.3),
-                (λ k. record p { outs = outs k }) ∙ (λ k. record p { queue = (sym R.2 k).queue; outs = (sym R.2 k).outs }) ∙ ap (λ (u : PartData S V). put_item i u) e,
+                    (subst (λ (ks : List ℕ). RepInvariant (record p { outs = set p.outs to (get_or p.outs to [] ++ i ∷ []) }) r n ks) (sym caps_kept)
+                    (with_channels p r n (map caps rs) p.queue (set p.outs to (get_or p.outs to [] ++ i ∷ [])) D (length-set p.outs to (get_or p.outs to [] ++ i ∷ [])) s)),
+                (λ k. record p { outs = outs k }) ∙ (λ k. record p { queue = (sym routed k).queue; outs = (sym routed k).outs }) ∙ ap (λ (q : PartData S V). put_item i q) e,
               )),
         )
 
   -- the items stand in another order
   pub permuted : (p : PartData S V) (r : Rows V) (n : Room) (ns : List ℕ) (xs : List (Item V)) → RepInvariant p r n ns → IsPermutation p.queue xs → RepInvariant (record p { queue = xs }) r n ns
-  permuted p r n ns xs D q = with_queue p r n ns xs D (record {
+  permuted p r n ns xs D q = with_channels p r n ns xs p.outs D refl (record {
     once = λ b. let o = D.sound.once b in let f = total_permutation (λ j. is b (item_arc j)) p.queue xs q in omega (arith, o, f);
     leads = D.sound.leads;
     here = all_permuted _ p.queue xs q D.sound.here;
@@ -224,13 +149,8 @@ module _ {S V : Type 0} where
 
   -- an item goes
   pub item_leaves : (p : PartData S V) (r : Rows V) (n : Room) (ns : List ℕ) (i : Item V) (xs : List (Item V)) → RepInvariant p r n ns → IsPermutation p.queue (i ∷ xs) → RepInvariant (record p { queue = xs }) r n ns
-  item_leaves p r n ns i xs D q = with_queue p r n ns xs D (record {
-    once = λ b. let o = D.sound.once b in let f = total_permutation (λ j. is b (item_arc j)) p.queue (i ∷ xs) q in omega (arith, o, f);
-    leads = D.sound.leads;
-    here = (all_permuted _ p.queue (i ∷ xs) q D.sound.here).1;
-    gone = D.sound.gone;
-    wide = D.sound.wide;
-  })
+  item_leaves p r n ns i xs D q = let E = (permuted p r n ns (i ∷ xs) D q).sound in
+      with_channels p r n ns xs p.outs D refl (record { once = λ b. let o = E.once b in omega (arith, o); leads = E.leads; here = E.here.1; gone = E.gone; wide = E.wide })
 
   -- a queue gave an item, or had none
   pub pop_leaves : (p : PartData S V) (r : Rows V) (n : Room) (ns : List ℕ) (o : Option (Item V)) (new : Line (Item V)) → RepInvariant p r n ns
@@ -242,16 +162,14 @@ module _ {S V : Type 0} where
   module _ (A : Algebra V) where
     pub popped : (p old : PartData S V) (r : Rows V) (n : Room) (ns : List ℕ) (i : Item V) (xs : List (Item V)) → p ≡ old → RepInvariant p r n ns
         → IsPermutation p.queue (i ∷ xs) → IsInTurn A (network_of p.setup) p.setup.order (state_in p) p.queue i xs → IsPopped A old (record p { queue = xs }) i
-    popped p old r n ns i xs e D q f =
-        let at = all_permuted (λ j. (place_in p.setup (vertex_of (network_of p.setup) j) ≡ p.shard) × IsArc (network_of p.setup) (item_arc j)) p.queue (i ∷ xs) q D.sound.here in
-        record {
-          left = subst (λ (u : PartData S V). IsPermutation u.queue (i ∷ xs)) e q;
-          in_turn = subst (λ (u : PartData S V). IsInTurn A (network_of u.setup) u.setup.order (state_in u) u.queue i xs) e f;
-          same = ap (λ (u : PartData S V). record u { queue = xs }) e;
-          arc = at.0.1;
-          here = at.0.0;
-          clear = (let o = D.sound.once (item_arc i) in let t = total_permutation (λ j. is (item_arc i) (item_arc j)) p.queue (i ∷ xs) q in let one = is_self (item_arc i) in omega (arith, o, t, one));
-        }
+    popped p old r n ns i xs e D q f = let E = (permuted p r n ns (i ∷ xs) D q).sound in record {
+      left = subst (λ (u : PartData S V). IsPermutation u.queue (i ∷ xs)) e q;
+      in_turn = subst (λ (u : PartData S V). IsInTurn A (network_of u.setup) u.setup.order (state_in u) u.queue i xs) e f;
+      same = ap (λ (u : PartData S V). record u { queue = xs }) e;
+      arc = E.here.0.1;
+      here = E.here.0.0;
+      clear = (let o = E.once (item_arc i) in let one = is_self (item_arc i) in omega (arith, o, one));
+    }
 
     -- the first of a queue in order of arrival
     pub first_popped : (p old : PartData S V) (r : Rows V) (n : Room) (ns : List ℕ) (new : Line (Item V)) (o : Option (Item V)) → p ≡ old

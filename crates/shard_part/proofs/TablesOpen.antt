@@ -1,7 +1,6 @@
 -- What was counted of a shard makes the tables of its opened part.
 use Rattle.std.proofs.Common.{◌≡◌, ℕ, ◌≤◌, ◌^◌, Bool, true, eqb, List, [], ◌∷◌, length, set, get_or, replicate, refl, sym, ap, ◌∙◌, subst, arith, length-set, get_or-set_other, eqb-true}
 use Rattle.shard_store.specs.Queue.{Line, line, room}
-use Rattle.shard_store.specs.declared.queue_order.QueueOrder.TheVariants.{Arrival}
 use Rattle.path_algebra.specs.Algebra.{Algebra}
 use Rattle.scholten_core.specs.declared.item.Item.{Item}
 use Rattle.scholten_core.specs.Sums.{sum_below, one_if}
@@ -12,7 +11,7 @@ use Rattle.shard_store.specs.Totals.{total}
 use Rattle.shard_store.specs.Capacities.{outbox_bound, queue_bound}
 use Rattle.shard_store.specs.Rows.{Rows, idle_rows, AreIdle}
 use Rattle.shard_part.specs.Moves.{abstraction, RepInvariant}
-use Rattle.shard_store.specs.Layout.{ShardLayoutData, is_first, AreOffsets, CountsAll}
+use Rattle.shard_store.specs.Layout.{ShardLayoutData, is_first, AreOffsets, CountsAll, layout_view}
 use Rattle.shard_part.specs.Opening.{first_items, opened_part}
 use Rattle.shard_store.proofs.Counting.{total_index}
 use Rattle.shard_store.proofs.CapacitiesByVertex.{capacities_sum, queue_bound_most, queue_bound_first}
@@ -38,7 +37,7 @@ module _ (w : ShardLayoutData) (P : IsPlanned w.setup w.shard) where
 module _ {S : Type 0} (t : SetupData S) (s : ℕ) where
   -- the shard of a diffusion, without its algebra
   abbrev pub layout_of : ShardLayoutData
-  layout_of = record { setup = record { diffusion = record { algebra = tt; roads = t.diffusion.roads; source = t.diffusion.source }; plan = t.plan; order = Arrival }; shard = s }
+  layout_of = layout_view t.diffusion.roads t.diffusion.source t.plan s
 
   pub same_place : place_in layout_of.setup ≡ place_in t
   unfolding place_in

@@ -22,7 +22,7 @@ use Rattle.shard_store.specs.Setup.{SetupData, network_of, place_in}
 use Rattle.shard_store.specs.Totals.{total}
 use Rattle.shard_part.specs.Weights.{message_weight, signal_weight, in_flight, part_weight}
 use Rattle.shard_part.specs.Handling.{made, HandledItemIn, HandledAll}
-use Rattle.shard_part.specs.Represents.{HoldsShareIn, HoldsShare}
+use Rattle.shard_part.specs.Represents.{HoldsShareIn, HoldsShare, core_of}
 use Rattle.shard_part.specs.Moves.{IsTallied}
 use Rattle.shard_part.specs.Part.{HandledNext, HandledMany, IsRunOn}
 use Rattle.shard_part.proofs.TakenIsEvent.{handled_event, handled_weighs}
@@ -145,7 +145,7 @@ module _ {S V : Type 0} (meaning : S → Algebra V) where
   -- on the state after some events
   pub run_on : (events : List Event) (p q : PartData S V) (n : ℕ) (items : List (Item V)) → Lawful (meaning p.setup.diffusion.algebra)
       → WellFormed (network_of p.setup) → IsTallied p → length items ≡ n → HandledAll meaning p items q →
-      HoldsShare meaning (state_after (meaning p.setup.diffusion.algebra) (network_of p.setup) events) p → IsRunOn meaning events p n q
+      HoldsShare meaning (core_of meaning p.setup events) p → IsRunOn meaning events p n q
   run_on events p q n items L W y l T H =
       let A = meaning p.setup.diffusion.algebra in
       let N = network_of p.setup in
@@ -186,6 +186,6 @@ module _ {S V : Type 0} (meaning : S → Algebra V) where
   -- many items of a part, on the state after some events
   pub many_run : (state p q : PartData S V) (a : S) (n : ℕ) → state ≡ p → a ≡ state.setup.diffusion.algebra → Lawful (meaning a)
       → WellFormed (network_of state.setup) → IsTallied state → HandledMany meaning p n q →
-      (events : List Event) → HoldsShare meaning (state_after (meaning p.setup.diffusion.algebra) (network_of p.setup) events) p → IsRunOn meaning events p n q
+      (events : List Event) → HoldsShare meaning (core_of meaning p.setup events) p → IsRunOn meaning events p n q
   many_run state p q a n e l L W y (items, count, T) events H = run_on events p q n items (subst (λ z. Lawful (meaning z)) (l ∙ ap (λ (u : PartData S V). u.setup.diffusion.algebra) e) L)
       (subst (λ (u : PartData S V). WellFormed (network_of u.setup)) e W) (subst IsTallied e y) count T H

@@ -12,7 +12,7 @@ use Rattle.scholten_core.proofs.Ended.{opening_kept}
 use Rattle.shard_part.specs.PartState.{PartData, event_of}
 use Rattle.shard_store.specs.Setup.{SetupData, network_of}
 use Rattle.shard_part.specs.Handling.{HandledAll}
-use Rattle.shard_part.specs.Represents.{Represents}
+use Rattle.shard_part.specs.Represents.{Represents, core_of}
 use Rattle.shard_part.specs.Part.{HandledMany, IsShownOn}
 use Rattle.shard_part.proofs.Showing.{AllLawful, handled_shows}
 use Rattle.shard_part.proofs.TakenCounts.{run_append}
@@ -33,7 +33,7 @@ module _ {S V : Type 0} (meaning : S → Algebra V) where
   -- on the state after some events
   pub many_shown : AllLawful meaning → (t : SetupData S) (events : List Event) (before after : List (PartData S V)) (p q : PartData S V) (n : ℕ) (mail : (ℕ → Item V → ℕ) → ℕ) →
       WellFormed (network_of t) →
-      Represents meaning t (before ++ p ∷ after) mail (state_after (meaning t.diffusion.algebra) (network_of t) events) → HandledMany meaning p n q
+      Represents meaning t (before ++ p ∷ after) mail (core_of meaning t events) → HandledMany meaning p n q
       → IsShownOn meaning t events (before ++ q ∷ after) mail n
   many_shown L t events before after p q n mail W H (items, l, T) =
       let A = meaning t.diffusion.algebra in

@@ -10,7 +10,7 @@ use Rattle.shard_store.specs.Tallies.{counted_on, top}
 use Rattle.shard_store.specs.Tables.{scatter}
 use Rattle.scholten_core.specs.Network.{Network}
 use Rattle.scholten_core.specs.Deficit.{busy_out}
-use Rattle.shard_part.specs.PartState.{PartData, state_in, IsArc, vertex_of}
+use Rattle.shard_part.specs.PartState.{PartData, state_in, IsArc, vertex_of, maker_of}
 use Rattle.shard_store.specs.Setup.{SetupData, network_of, place_in, IsPlanned}
 use Rattle.shard_part.specs.Weights.{channels_of}
 use Rattle.shard_store.specs.Queue.{Room}
@@ -90,6 +90,19 @@ pub record IsPlace {S V : Type 0} (p : PartData S V) (v j : ℕ) : Type 0 where
 pub record IsArcRow {S V : Type 0} (p : PartData S V) (b i : ℕ) : Type 0 where
   pub inside : i < length (arcs_out (network_of p.setup) (local_vertices p.setup p.shard))
   pub arc : get_or (arcs_out (network_of p.setup) (local_vertices p.setup p.shard)) i 0 ≡ b
+
+-- and it leaves the vertex v
+pub record IsArcOut {S V : Type 0} (p : PartData S V) (v b i : ℕ) : Type 0 where
+  pub row : IsArcRow p b i
+  pub tail : (network_of p.setup).tail b ≡ v
+  pub arc : IsArc (network_of p.setup) b
+
+-- the item may be sent to a shard: it belongs there and is made here, and no other is on its arc
+pub record MaySend {S V : Type 0} (p : PartData S V) (i : Item V) (to : ℕ) : Type 0 where
+  pub arc : IsArc (network_of p.setup) (item_arc i)
+  pub made : place_in p.setup (maker_of (network_of p.setup) i) ≡ p.shard
+  pub shard : to ≡ place_in p.setup (vertex_of (network_of p.setup) i)
+  pub clear : IsClear p (item_arc i)
 
 -- The item is a signal, or a message that improves nothing at the place of its head.
 abbrev pub IsSettledIn : {V : Type 0} → Algebra V → Network → List ℕ → List (Option V) → Item V → Type 0

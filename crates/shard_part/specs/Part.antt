@@ -6,17 +6,25 @@ use Rattle.scholten_core.specs.declared.event.Event.{Event}
 use Rattle.scholten_core.specs.declared.token.Token.TheVariants.{Idle}
 use Rattle.path_algebra.specs.Algebra.{Algebra}
 use Rattle.scholten_core.specs.Network.{Network}
-use Rattle.scholten_core.specs.Diffusion.{CoreState, state_after, count_enabled}
+use Rattle.scholten_core.specs.Diffusion.{CoreState, count_enabled}
 use Rattle.scholten_core.specs.Accounts.{sent_total, delivered_total, signalled_total, accepted_total}
 use Rattle.shard_store.specs.declared.queue_order.QueueOrder.{QueueOrder}
 use Rattle.shard_store.specs.declared.queue_order.QueueOrder.TheVariants.{Arrival, BestFirst}
 use Rattle.shard_store.specs.Queue.{IsHeldBy}
 use Rattle.shard_store.specs.Tallies.{counted_on}
 use Rattle.shard_part.specs.PartState.{PartData, state_in, event_of}
-use Rattle.shard_store.specs.Setup.{SetupData, network_of, place_in}
+use Rattle.shard_store.specs.Setup.{SetupData, network_of, place_in, IsPlanned}
+use Rattle.shard_part.specs.LocalInvariant.{LocalInvariant}
 use Rattle.shard_part.specs.Weights.{in_flight, part_weight}
+use Rattle.shard_part.specs.Moves.{IsTallied}
 use Rattle.shard_part.specs.Handling.{GoesAtOnce, HandledItem, HandledAll}
-use Rattle.shard_part.specs.Represents.{HoldsShare, Represents}
+use Rattle.shard_part.specs.Represents.{HoldsShare, Represents, core_of}
+
+-- what holds of every part: it is planned, it has the local invariant, and no counter is past its top
+pub record PartInvariant {S V : Type 0} (p : PartData S V) : Type 0 where
+  pub planned : IsPlanned p.setup p.shard
+  pub sound : LocalInvariant (network_of p.setup) (place_in p.setup) p
+  pub tallied : IsTallied p
 
 -- an idle arc out of a vertex of the part was last offered the vertex's label
 abbrev pub OwnIdleIsTold : {S V : Type 0} → PartData S V → Type 0
@@ -66,18 +74,22 @@ module _ {S V : Type 0} (meaning : S → Algebra V) where
     pub items : List (Item V)
     pub count : length items ≡ n
     pub handled : HandledAll meaning p items q
-    pub enabled : count_enabled (meaning p.setup.diffusion.algebra) (network_of p.setup) (state_after (meaning p.setup.diffusion.algebra) (network_of p.setup) events) (map event_of items) ≡ n
-    pub holds : HoldsShare meaning (state_after (meaning p.setup.diffusion.algebra) (network_of p.setup) (events ++ map event_of items)) q
-    pub weighs : (h : ℕ → Item V → ℕ) → part_weight h q + in_flight (network_of p.setup) (place_in p.setup) (state_after (meaning p.setup.diffusion.algebra) (network_of p.setup) events) h
-        ≡ part_weight h p + in_flight (network_of p.setup) (place_in p.setup) (state_after (meaning p.setup.diffusion.algebra) (network_of p.setup) (events ++ map event_of items)) h
-    pub sent : q.sent ≡ counted_on (sent_total (meaning p.setup.diffusion.algebra) (network_of p.setup) (state_after (meaning p.setup.diffusion.algebra) (network_of p.setup) events) (map event_of items)) p.sent
-    pub delivered : q.delivered ≡ counted_on (delivered_total (meaning p.setup.diffusion.algebra) (network_of p.setup) (state_after (meaning p.setup.diffusion.algebra) (network_of p.setup) events) (map event_of items)) p.delivered
-    pub signalled : q.signalled ≡ counted_on (signalled_total (meaning p.setup.diffusion.algebra) (network_of p.setup) (state_after (meaning p.setup.diffusion.algebra) (network_of p.setup) events) (map event_of items)) p.signalled
-    pub accepted : q.accepted ≡ counted_on (accepted_total (meaning p.setup.diffusion.algebra) (network_of p.setup) (state_after (meaning p.setup.diffusion.algebra) (network_of p.setup) events) (map event_of items)) p.accepted
+    pub enabled : count_enabled (meaning p.setup.diffusion.algebra) (network_of p.setup) (core_of meaning p.setup events) (map event_of items) ≡ n
+    pub holds : HoldsShare meaning (core_of meaning p.setup (events ++ map event_of items)) q
+    pub weighs : (h : ℕ → Item V → ℕ) → part_weight h q + in_flight (network_of p.setup) (place_in p.setup) (core_of meaning p.setup events) h
+        ≡ part_weight h p + in_flight (network_of p.setup) (place_in p.setup) (core_of meaning p.setup (events ++ map event_of items)) h
+    pub sent : q.sent ≡ counted_on (sent_total (meaning p.setup.diffusion.algebra) (network_of p.setup) (core_of meaning p.setup events) (map event_of items)) p.sent
+    pub delivered : q.delivered ≡ counted_on (delivered_total (meaning p.setup.diffusion.algebra) (network_of p.setup) (core_of meaning p.setup events) (map event_of items)) p.delivered
+    pub signalled : q.signalled ≡ counted_on (signalled_total (meaning p.setup.diffusion.algebra) (network_of p.setup) (core_of meaning p.setup events) (map event_of items)) p.signalled
+    pub accepted : q.accepted ≡ counted_on (accepted_total (meaning p.setup.diffusion.algebra) (network_of p.setup) (core_of meaning p.setup events) (map event_of items)) p.accepted
+
+  -- whatever events led to the state of which the part held its share, n items were taken that are n events after these
+  abbrev pub RunsOn : PartData S V → ℕ → PartData S V → Type 0
+  RunsOn p n q = (events : List Event) → HoldsShare meaning (core_of meaning p.setup events) p → IsRunOn events p n q
 
   -- after these events and n more, each enabled in its turn, parts and mailboxes represent the state
   pub record IsShownOn (t : SetupData S) (events : List Event) (parts : List (PartData S V)) (mail : (ℕ → Item V → ℕ) → ℕ) (n : ℕ) : Type 0 where
     pub more : List Event
     pub count : length more ≡ n
-    pub enabled : count_enabled (meaning t.diffusion.algebra) (network_of t) (state_after (meaning t.diffusion.algebra) (network_of t) events) more ≡ n
-    pub shown : Represents meaning t parts mail (state_after (meaning t.diffusion.algebra) (network_of t) (events ++ more))
+    pub enabled : count_enabled (meaning t.diffusion.algebra) (network_of t) (core_of meaning t events) more ≡ n
+    pub shown : Represents meaning t parts mail (core_of meaning t (events ++ more))

@@ -1,9 +1,10 @@
 -- How parts and mailboxes represent a state.
 use Rattle.std.specs.Prelude.{◌≡◌, ℕ, ◌+◌, ◌<◌, ◌≤◌, true, List, [], ◌∷◌, length}
 use Rattle.scholten_core.specs.declared.item.Item.{Item}
+use Rattle.scholten_core.specs.declared.event.Event.{Event}
 use Rattle.path_algebra.specs.Algebra.{Algebra}
 use Rattle.scholten_core.specs.Network.{Network}
-use Rattle.scholten_core.specs.Diffusion.{CoreState, step, is_enabled}
+use Rattle.scholten_core.specs.Diffusion.{CoreState, state_after, step, is_enabled}
 use Rattle.scholten_core.specs.Shares.{Agree}
 use Rattle.shard_store.specs.Setup.{SetupData, network_of, place_in}
 use Rattle.shard_part.specs.PartState.{PartData, state_in, event_of, mine}
@@ -29,6 +30,10 @@ module _ {S V : Type 0} (A : Algebra V) (N : Network) (place : ℕ → ℕ) wher
 
 -- the same by the part's own setup
 module _ {S V : Type 0} (meaning : S → Algebra V) where
+  -- the state that a list of events leads to
+  abbrev pub core_of : SetupData S → List Event → CoreState V
+  core_of t events = state_after (meaning t.diffusion.algebra) (network_of t) events
+
   -- the events of the items, each enabled in its turn, lead from c to d
   abbrev pub AllEnabled : SetupData S → CoreState V → List (Item V) → CoreState V → Type 0
   AllEnabled t c [] d = c ≡ d

@@ -1,10 +1,8 @@
 //! What is left of a part whose diffusion is over.
 ghost use Rattle.std.specs.Prelude.{◌≡◌};
-ghost use Rattle.shard_store.specs.Setup.{network_of, place_in, IsPlanned};
 ghost use Rattle.shard_part.specs.PartState.{state_in};
-ghost use Rattle.shard_part.specs.LocalInvariant.{LocalInvariant};
-ghost use Rattle.shard_part.specs.Moves.{IsTallied};
 ghost use Rattle.shard_part.specs.Readings.{IsOwn, tally_in};
+ghost use Rattle.shard_part.specs.Part.{PartInvariant};
 
 use crate::state::PartState;
 use path_algebra::PathAlgebra;
@@ -57,10 +55,7 @@ impl<'g, A: PathAlgebra> ClosedPart<'g, A> {
     pub fn shard(&self) -> Shard
         ensures shard { result ≡ self.now.shard }
         // What holds of every part, for callers that rely on it.
-        ensures planned { IsPlanned self.now.setup self.now.shard }
-        ensures sound { LocalInvariant (network_of self.now.setup) (place_in self.now.setup)
-            self.now }
-        ensures tallied { IsTallied self.now }
+        ensures holds { PartInvariant self.now }
     {
         self.shard
     }

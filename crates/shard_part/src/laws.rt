@@ -7,17 +7,15 @@ ghost use Rattle.scholten_core.specs.declared.event.Event.{Event};
 ghost use Rattle.scholten_core.specs.Network.{WellFormed};
 ghost use Rattle.scholten_core.specs.Accounts.{count_marked};
 ghost use Rattle.scholten_core.specs.BestFirst.{IsBestFirst};
-ghost use Rattle.scholten_core.specs.Diffusion.{CoreState, opening, state_after, step, is_enabled, HasEnded};
+ghost use Rattle.scholten_core.specs.Diffusion.{CoreState, opening, step, is_enabled, HasEnded};
 ghost use Rattle.shard_store.specs.Setup.{SetupData, network_of, place_in, IsPlanned};
 ghost use Rattle.shard_part.specs.PartState.{PartData, state_in, event_of};
 ghost use Rattle.shard_part.specs.Handling.{HandledItem, HandledAll};
-ghost use Rattle.shard_part.specs.Represents.{AllEnabled, HoldsShare, Represents};
+ghost use Rattle.shard_part.specs.Represents.{AllEnabled, HoldsShare, Represents, core_of};
 ghost use Rattle.shard_part.specs.Weights.{mail_weight};
 ghost use Rattle.shard_part.specs.Waiting.{items_waiting, QueueWaits, OutboxWaits, MailWaits};
 ghost use Rattle.shard_part.specs.ItemPlaces.{on, parts_places, mail_places, place_of_token};
-ghost use Rattle.shard_part.specs.Part.{HandledMany, IsShownOn};
-ghost use Rattle.shard_part.specs.Moves.{IsTallied};
-ghost use Rattle.shard_part.specs.LocalInvariant.{LocalInvariant};
+ghost use Rattle.shard_part.specs.Part.{HandledMany, IsShownOn, PartInvariant};
 ghost use Rattle.shard_store.specs.Plans.{IsPlan};
 ghost use Rattle.shard_part.specs.OnePart.{HasOneBestFirstPart};
 ghost use Rattle.shard_part.specs.Opening.{opened_part, opened_parts};
@@ -38,26 +36,21 @@ pub fn plan_holds(plan: &Plan)
 
 /// What holds of every part: it is planned, it has the local invariant, and no counter is past 2^64 - 1.
 pub fn part_holds<A: PathAlgebra>(part: &Part<'_, A>)
-    ensures planned { IsPlanned part.now.setup part.now.shard }
-    ensures sound { LocalInvariant (network_of part.now.setup) (place_in part.now.setup) part.now }
-    ensures tallied { IsTallied part.now }
+    ensures { PartInvariant part.now }
 {
     part.shard();
 }
 
 /// The same of a part as it is stored.
 pub(crate) fn state_holds<A: PathAlgebra>(state: &PartState<'_, A>)
-    ensures planned { IsPlanned state.now.setup state.now.shard }
-    ensures sound { LocalInvariant (network_of state.now.setup) (place_in state.now.setup) state.now }
-    ensures tallied { IsTallied state.now }
+    ensures { PartInvariant state.now }
 {
     state.shard();
 }
 
 /// What holds of every closed part: it is planned, and it has the local invariant.
 pub fn closed_part_holds<A: PathAlgebra>(part: &ClosedPart<'_, A>)
-    ensures planned { IsPlanned part.now.setup part.now.shard }
-    ensures sound { LocalInvariant (network_of part.now.setup) (place_in part.now.setup) part.now }
+    ensures { PartInvariant part.now }
 {
     part.shard();
 }
@@ -65,21 +58,21 @@ pub fn closed_part_holds<A: PathAlgebra>(part: &ClosedPart<'_, A>)
 /// If all parts and mailboxes represent a reached state and one part takes one item, they represent what its event leads to.
 pub fn item_is_event<A: PathAlgebra>(_algebra: A)
     ensures { (t : SetupData A) (events : List Event) (before after : List (PartData A A.Value)) (p q : PartData A A.Value) (i : Item A.Value) (mail : (ℕ → Item A.Value → ℕ) → ℕ) → WellFormed (network_of t) →
-        Represents A.meaning t (before ++ p ∷ after) mail (state_after (A.meaning t.diffusion.algebra) (network_of t) events) → HandledItem A.meaning p i q →
-        (is_enabled (state_after (A.meaning t.diffusion.algebra) (network_of t) events) (event_of i) ≡ true) × Represents A.meaning t (before ++ q ∷ after) mail (step (A.meaning t.diffusion.algebra) (network_of t) (state_after (A.meaning t.diffusion.algebra) (network_of t) events) (event_of i)) }
+        Represents A.meaning t (before ++ p ∷ after) mail (core_of A.meaning t events) → HandledItem A.meaning p i q →
+        (is_enabled (core_of A.meaning t events) (event_of i) ≡ true) × Represents A.meaning t (before ++ q ∷ after) mail (step (A.meaning t.diffusion.algebra) (network_of t) (core_of A.meaning t events) (event_of i)) }
 {}
 
 /// Whatever the others hold: the items that a part takes are as many enabled events of every reached state of which it holds its share.
 pub fn items_are_events<A: PathAlgebra>(_algebra: A)
     ensures { (events : List Event) (items : List (Item A.Value)) (p q : PartData A A.Value) → WellFormed (network_of p.setup) →
-        HoldsShare A.meaning (state_after (A.meaning p.setup.diffusion.algebra) (network_of p.setup) events) p → HandledAll A.meaning p items q →
-        (d : CoreState A.Value) × HoldsShare A.meaning d q × (q.setup ≡ p.setup) × AllEnabled A.meaning p.setup (state_after (A.meaning p.setup.diffusion.algebra) (network_of p.setup) events) items d }
+        HoldsShare A.meaning (core_of A.meaning p.setup events) p → HandledAll A.meaning p items q →
+        (d : CoreState A.Value) × HoldsShare A.meaning d q × (q.setup ≡ p.setup) × AllEnabled A.meaning p.setup (core_of A.meaning p.setup events) items d }
 {}
 
 /// If all parts and mailboxes represent a reached state and one part takes items, one after the other, they represent the state after that many further events, each enabled in its turn.
 pub fn items_are_shown<A: PathAlgebra>(_algebra: A)
     ensures { (t : SetupData A) (events : List Event) (before after : List (PartData A A.Value)) (p q : PartData A A.Value) (n : ℕ) (mail : (ℕ → Item A.Value → ℕ) → ℕ) → WellFormed (network_of t) →
-        Represents A.meaning t (before ++ p ∷ after) mail (state_after (A.meaning t.diffusion.algebra) (network_of t) events) → HandledMany A.meaning p n q → IsShownOn A.meaning t events (before ++ q ∷ after) mail n }
+        Represents A.meaning t (before ++ p ∷ after) mail (core_of A.meaning t events) → HandledMany A.meaning p n q → IsShownOn A.meaning t events (before ++ q ∷ after) mail n }
 {}
 
 /// How to read what parts and mailboxes represent: on each arc the items in all places, each with the shard that it is at or going to, are exactly what its token stands for.
@@ -105,7 +98,7 @@ pub fn receiving_shows_the_same<A: PathAlgebra>(_algebra: A)
 /// The parts of all shards as they are opened represent the opening, if no mailbox weighs anything.
 pub fn opened_parts_show_the_opening<A: PathAlgebra>(_algebra: A)
     ensures { (t : SetupData A) (mail : (ℕ → Item A.Value → ℕ) → ℕ) → IsPlanned t 0 → ((h : ℕ → Item A.Value → ℕ) → mail h ≡ 0) →
-        Represents A.meaning t (opened_parts (A.meaning t.diffusion.algebra) t 0 t.plan.shards) mail (state_after (A.meaning t.diffusion.algebra) (network_of t) []) }
+        Represents A.meaning t (opened_parts (A.meaning t.diffusion.algebra) t 0 t.plan.shards) mail (core_of A.meaning t []) }
 {}
 
 /// If all parts and mailboxes represent a reached state, it has ended exactly if no item waits.
@@ -113,8 +106,8 @@ pub fn ended_is_empty<A: PathAlgebra>(_algebra: A)
     ensures { (t : SetupData A) (events : List Event) (parts : List (PartData A A.Value))
         (mail : (ℕ → Item A.Value → ℕ) → ℕ) → WellFormed (network_of t) →
         Represents A.meaning t parts mail
-        (state_after (A.meaning t.diffusion.algebra) (network_of t) events) →
-        HasEnded (state_after (A.meaning t.diffusion.algebra) (network_of t) events)
+        (core_of A.meaning t events) →
+        HasEnded (core_of A.meaning t events)
         ↔ (items_waiting parts mail ≡ 0) }
 {}
 
@@ -124,8 +117,8 @@ pub fn an_item_waits_until_the_end<A: PathAlgebra>(_algebra: A)
     ensures { (t : SetupData A) (events : List Event) (parts : List (PartData A A.Value))
         (mail : (ℕ → Item A.Value → ℕ) → ℕ) → WellFormed (network_of t) →
         Represents A.meaning t parts mail
-        (state_after (A.meaning t.diffusion.algebra) (network_of t) events) →
-        HasEnded (state_after (A.meaning t.diffusion.algebra) (network_of t) events)
+        (core_of A.meaning t events) →
+        HasEnded (core_of A.meaning t events)
         ⊎ (QueueWaits parts ⊎ (OutboxWaits parts ⊎ MailWaits mail)) }
 {}
 

@@ -1,17 +1,16 @@
 //! One shard's part of a diffusion: opened, run item by item, and closed.
-ghost use Rattle.std.specs.Prelude.{◌≡◌, ◌≢◌, ◌⊎◌, ◌+◌, ◌<◌, ◌≤◌, List, [], ◌++◌, length, get_or, set, IfOk, IsTrue, IsFalse};
+ghost use Rattle.std.specs.Prelude.{◌≡◌, ◌≢◌, ◌⊎◌, ◌+◌, ◌<◌, ◌≤◌, [], ◌++◌, length, get_or, set, IfOk, IsTrue, IsFalse};
 ghost use Rattle.circular_buffer.specs.Buffer.{buffer};
 ghost use Rattle.road_graph.specs.GraphData.{HasVertex};
 ghost use Rattle.scholten_core.specs.Network.{network};
-ghost use Rattle.scholten_core.specs.declared.event.Event.{Event};
 ghost use Rattle.scholten_core.specs.Diffusion.{state_after};
-ghost use Rattle.shard_store.specs.Setup.{network_of, place_in};
+ghost use Rattle.shard_store.specs.Setup.{network_of, place_in, setup_of};
 ghost use Rattle.shard_store.specs.Capacities.{queue_bound, outbox_bound};
 ghost use Rattle.shard_part.specs.Represents.{HoldsShare};
 ghost use Rattle.shard_part.specs.Opening.{opened_part};
 ghost use Rattle.shard_part.specs.Exchange.{Fits};
 ghost use Rattle.shard_store.specs.declared.queue_order.QueueOrder.TheVariants.{BestFirst};
-ghost use Rattle.shard_part.specs.Part.{HandledNext, HandledMany, HandledWithin, IsHeldBack, IsRunOn};
+ghost use Rattle.shard_part.specs.Part.{HandledNext, HandledMany, HandledWithin, IsHeldBack, RunsOn};
 
 mod readings;
 
@@ -56,11 +55,7 @@ impl<'g, A: PathAlgebra> Part<'g, A> {
         requires plan { length plan.now.list ≡ graph.now.vertices }
         requires shard { shard < plan.now.shards }
         ensures part { IfOk result (λ p. p ≡ opened_part (A.meaning algebra)
-            (record {
-              diffusion = record { algebra = algebra; roads = graph.now; source = source };
-              plan = plan.now;
-              order = order;
-            }) shard) }
+            (setup_of algebra graph.now source plan.now order) shard) }
         ensures share { IfOk result (λ p. HoldsShare A.meaning (state_after (A.meaning algebra)
             (network graph.now source) []) p) }
     {
@@ -83,9 +78,7 @@ impl<'g, A: PathAlgebra> Part<'g, A> {
         ensures taken { HandledMany A.meaning self.old result self.new }
         ensures setup { self.new.setup ≡ self.old.setup }
         ensures shard { self.new.shard ≡ self.old.shard }
-        ensures events { (events : List Event) → HoldsShare A.meaning
-            (state_after (A.meaning self.old.setup.diffusion.algebra) (network_of self.old.setup)
-            events) self.old → IsRunOn A.meaning events self.old result self.new }
+        ensures events { RunsOn A.meaning self.old result self.new }
     {
         self.handle_within(budget, None)
     }
@@ -104,9 +97,7 @@ impl<'g, A: PathAlgebra> Part<'g, A> {
         ensures taken { HandledMany A.meaning self.old result self.new }
         ensures setup { self.new.setup ≡ self.old.setup }
         ensures shard { self.new.shard ≡ self.old.shard }
-        ensures events { (events : List Event) → HoldsShare A.meaning
-            (state_after (A.meaning self.old.setup.diffusion.algebra) (network_of self.old.setup)
-            events) self.old → IsRunOn A.meaning events self.old result self.new }
+        ensures events { RunsOn A.meaning self.old result self.new }
     {
         laws_hold(self.state.algebra());
         for taken in 0..budget {

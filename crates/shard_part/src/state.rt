@@ -2,10 +2,10 @@
 ghost use Rattle.std.specs.Prelude.{◌≡◌, leb};
 ghost use Rattle.shard_store.specs.Tallies.{top};
 ghost use Rattle.shard_part.specs.Readings.{tally_in};
-ghost use Rattle.shard_store.specs.Setup.{network_of, place_in, IsPlanned};
+ghost use Rattle.shard_store.specs.Setup.{network_of};
 ghost use Rattle.scholten_core.specs.Network.{WellFormed};
 ghost use Rattle.shard_part.specs.Moves.{IsTallied};
-ghost use Rattle.shard_part.specs.LocalInvariant.{LocalInvariant};
+ghost use Rattle.shard_part.specs.Part.{PartInvariant};
 
 mod events;
 mod exchange;
@@ -41,13 +41,14 @@ impl<'g, A: PathAlgebra> Model for PartState<'g, A> {
     ghost use Rattle.std.specs.Prelude.{map};
     ghost use Rattle.shard_part.specs.PartState.{PartData};
     ghost use Rattle.shard_part.specs.Moves.{abstraction, RepInvariant};
+    ghost use Rattle.shard_store.specs.Setup.{setup_of};
     ghost use Rattle.shard_store.specs.Rows.{rows_of};
 
     ghost Value = { PartData A A.Value };
 
-    ghost view = { λ p. abstraction (record { diffusion = record { algebra = p.algebra; roads = p.graph.now; source = p.source }; plan = p.plan.now; order = p.order }) p.shard (rows_of p.tables) p.queue.items (map (λ b. b.items) p.outs.items) p.sent p.delivered p.signalled p.accepted };
+    ghost view = { λ p. abstraction (setup_of p.algebra p.graph.now p.source p.plan.now p.order) p.shard (rows_of p.tables) p.queue.items (map (λ b. b.items) p.outs.items) p.sent p.delivered p.signalled p.accepted };
 
-    ghost invariant = { λ p. RepInvariant (abstraction (record { diffusion = record { algebra = p.algebra; roads = p.graph.now; source = p.source }; plan = p.plan.now; order = p.order }) p.shard (rows_of p.tables) p.queue.items (map (λ b. b.items) p.outs.items) p.sent p.delivered p.signalled p.accepted) (rows_of p.tables) p.queue.room (map (λ b. b.capacity) p.outs.items) };
+    ghost invariant = { λ p. RepInvariant (abstraction (setup_of p.algebra p.graph.now p.source p.plan.now p.order) p.shard (rows_of p.tables) p.queue.items (map (λ b. b.items) p.outs.items) p.sent p.delivered p.signalled p.accepted) (rows_of p.tables) p.queue.room (map (λ b. b.capacity) p.outs.items) };
 }
 
 impl<'g, A: PathAlgebra> PartState<'g, A> {
@@ -64,10 +65,7 @@ impl<'g, A: PathAlgebra> PartState<'g, A> {
     pub(crate) fn shard(&self) -> Shard
         ensures shard { result ≡ self.now.shard }
         // What holds of every part, for callers that rely on it.
-        ensures planned { IsPlanned self.now.setup self.now.shard }
-        ensures sound { LocalInvariant (network_of self.now.setup) (place_in self.now.setup)
-            self.now }
-        ensures tallied { IsTallied self.now }
+        ensures holds { PartInvariant self.now }
     {
         self.shard
     }

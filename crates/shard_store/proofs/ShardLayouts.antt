@@ -24,6 +24,10 @@ use Rattle.shard_store.proofs.CapacitiesByVertex.{seen_at, seen_all, outbox_boun
 use Rattle.scholten_core.proofs.Basics.{one_if-most}
 use Rattle.road_graph.proofs.Lists.{element_place}
 
+-- the vertices of the shard, without the environment
+abbrev pub own_placed : ShardLayoutData → List ℕ
+own_placed w = placed (place_in w.setup) w.shard 1 w.setup.diffusion.roads.vertices
+
 pub first_is : (w old : ShardLayoutData) (x : ℕ) (b : Bool) → w ≡ old → IsPlanned w.setup w.shard → x ≡ shard_in w.setup.plan w.setup.diffusion.source
     → b ≡ eqb x w.shard → b ≡ is_first old.setup old.shard
 first_is w old x b e D h q = q ∙ ap (λ k. eqb k w.shard) (h ∙ sym (place_entry w.setup D.source.0)) ∙ ap (λ (u : ShardLayoutData). is_first u.setup u.shard) e
@@ -50,7 +54,6 @@ turned_tail N b nz = cond-false (eqb b 0) 0 (N.head b) (ne_eqb b 0 nz)
 
 pub listed_into : (w old : ShardLayoutData) (v : ℕ) (xs : List ℕ) → w ≡ old → 1 ≤ v → ListsArcsInto w.setup.diffusion.roads v xs → xs ≡ outgoing (reversed_network (network_of old.setup)) v
 listed_into w old v xs e l o =
-    let N : Network = network w.setup.diffusion.roads w.setup.diffusion.source in
     arcs_are (reversed_network (network w.setup.diffusion.roads w.setup.diffusion.source)) v 0 (suc (length w.setup.diffusion.roads.arcs)) 0 xs o.ascending only all
     ∙ ap (λ (u : ShardLayoutData). outgoing (reversed_network (network_of u.setup)) v) e
   where
@@ -66,9 +69,7 @@ listed_into w old v xs e l o =
 
     all : (b : ℕ) → (reversed_network (network w.setup.diffusion.roads w.setup.diffusion.source)).tail b ≡ v → 0 ≤ b → b < 0 + suc (length w.setup.diffusion.roads.arcs) → Contains xs b
     all b t k h = elim (cases_eq b 0) [
-      | inl z ↦ absurd (let q : (reversed_network (network w.setup.diffusion.roads w.setup.diffusion.source)).tail b
-          ≡ 0 = cond-true {A = ℕ} (eqb b 0) 0 ((network w.setup.diffusion.roads w.setup.diffusion.source).head b) (eq-eqb b 0 z) in
-          omega (arith, q, t, l))
+      | inl z ↦ absurd (let q = cond-true {A = ℕ} (eqb b 0) 0 ((network w.setup.diffusion.roads w.setup.diffusion.source).head b) (eq-eqb b 0 z) in omega (arith, q, t, l))
       | inr nz ↦ (let low : 1 ≤ b = omega (arith, nz) in let high : b ≤ length w.setup.diffusion.roads.arcs = omega (arith, h) in
           (o.complete b).1 ((low, high), sym (head-arc w.setup.diffusion.roads w.setup.diffusion.source b low) ∙ sym (turned_tail (network w.setup.diffusion.roads w.setup.diffusion.source) b nz) ∙ t))
     ]
@@ -83,47 +84,41 @@ agrees b x y h f = elim (cases_eq x y) [ inl e ↦ e | inr n ↦ absurd (false�
 -- a counter goes up by one
 pub add_one : (capacities : List ℕ) (to t : ℕ) → to < length capacities → get_or (set capacities to (get_or capacities to 0 + 1)) t 0 ≡ get_or capacities t 0 + is t to
 add_one capacities to t l = elim (cases_eq t to) [
-  | inl e ↦ (let a : get_or (set capacities to (get_or capacities to 0 + 1)) t 0
-      ≡ get_or capacities to 0 + 1 = ap (λ k. get_or (set capacities to (get_or capacities to 0 + 1)) k 0) e
+  | inl e ↦ (let a : get_or (set capacities to (get_or capacities to 0 + 1)) t 0 ≡ get_or capacities to 0 + 1 = ap (λ k. get_or (set capacities to (get_or capacities to 0 + 1)) k 0) e
       ∙ get_or-set_same capacities to (get_or capacities to 0 + 1) 0 l in
       let b = ap (λ k. get_or capacities k 0) e in let o = ap one_if (eq-eqb t to e) in omega (arith, a, b, o))
   | inr n ↦ (let a = get_or-set_other capacities to t (get_or capacities to 0 + 1) 0 n in let o = ap one_if (ne_eqb t to n) in omega (arith, a, o))
 ]
 
 -- the ends of an arc are planned
+planned_end : (w : ShardLayoutData) (v u : ℕ) → IsPlanned w.setup w.shard → HasVertex w.setup.diffusion.roads v → u ≡ v
+    → HasPlanned w.setup.plan v × (shard_in w.setup.plan v ≡ place_in w.setup u)
+planned_end w v u D j e = ((j.0, (let m = j.1 in let c = D.covers in omega (arith, m, c))), sym (ap (place_in w.setup) e ∙ place_vertex w.setup v j.0))
+
 pub planned_head : (w : ShardLayoutData) (a : ℕ) → IsPlanned w.setup w.shard → HasArc w.setup.diffusion.roads a
     → HasPlanned w.setup.plan (arc_of w.setup.diffusion.roads a).head
     × (shard_in w.setup.plan (arc_of w.setup.diffusion.roads a).head ≡ place_in w.setup ((network_of w.setup).head a))
-planned_head w a D h = let j = (D.roads.ends a h).1 in (
-  (j.0, (let m = j.1 in let c = D.covers in omega (arith, m, c))),
-  sym (ap (place_in w.setup) (head-arc w.setup.diffusion.roads w.setup.diffusion.source a h.0) ∙ place_vertex w.setup (arc_of w.setup.diffusion.roads a).head j.0),
-)
+planned_head w a D h = planned_end w (arc_of w.setup.diffusion.roads a).head ((network_of w.setup).head a) D (D.roads.ends a h).1
+    (head-arc w.setup.diffusion.roads w.setup.diffusion.source a h.0)
 
 pub planned_tail : (w : ShardLayoutData) (a : ℕ) → IsPlanned w.setup w.shard → HasArc w.setup.diffusion.roads a
     → HasPlanned w.setup.plan (arc_of w.setup.diffusion.roads a).tail
     × (shard_in w.setup.plan (arc_of w.setup.diffusion.roads a).tail ≡ place_in w.setup ((network_of w.setup).tail a))
-planned_tail w a D h = let j = (D.roads.ends a h).0 in (
-  (j.0, (let m = j.1 in let c = D.covers in omega (arith, m, c))),
-  sym (ap (place_in w.setup) (tail-arc w.setup.diffusion.roads a h.0) ∙ place_vertex w.setup (arc_of w.setup.diffusion.roads a).tail j.0),
-)
+planned_tail w a D h = planned_end w (arc_of w.setup.diffusion.roads a).tail ((network_of w.setup).tail a) D (D.roads.ends a h).0 (tail-arc w.setup.diffusion.roads a h.0)
 
--- what was counted of some of the vertices is no more than there are arcs
-pub seen_whole : (w : ShardLayoutData) (t : ℕ) → IsPlanned w.setup w.shard →
-    cond (is_first w.setup w.shard) (is t w.shard) 0 + total (seen_at (network_of w.setup) (place_in w.setup) w.shard t)
-    (placed (place_in w.setup) w.shard 1 w.setup.diffusion.roads.vertices) ≡ outbox_bound (network_of w.setup) (place_in w.setup) w.shard t
+-- what is counted of these vertices for the shard t, with the environment's arc
+abbrev counted : ShardLayoutData → ℕ → List ℕ → ℕ
+counted w t vs = cond (is_first w.setup w.shard) (is t w.shard) 0 + total (seen_at (network_of w.setup) (place_in w.setup) w.shard t) vs
+
+-- it is no more than there are arcs
+pub seen_whole : (w : ShardLayoutData) (t : ℕ) → IsPlanned w.setup w.shard → counted w t (own_placed w) ≡ outbox_bound (network_of w.setup) (place_in w.setup) w.shard t
 seen_whole w t D = seen_all (network_of w.setup) (place_in w.setup) w.shard t w.setup.diffusion.roads.vertices (tail-entry w.setup.diffusion.roads) (place_source w.setup w.shard D)
-    (λ b nz l. let low : 1 ≤ b = omega (arith, nz) in let h : HasArc w.setup.diffusion.roads b = (
-      low,
-      (let m : b ≤ length w.setup.diffusion.roads.arcs = omega (arith, l) in m),
-    ) in let j = D.roads.ends b h in
+    (λ b nz l. let low : 1 ≤ b = omega (arith, nz) in let j = D.roads.ends b (low, omega (arith, l)) in
     let p = tail-arc w.setup.diffusion.roads b low in let q = head-arc w.setup.diffusion.roads w.setup.diffusion.source b low in
     ((let a = j.0.0 in omega (arith, a, p)), (let a = j.0.1 in omega (arith, a, p)), (let a = j.1.0 in omega (arith, a, q)), (let a = j.1.1 in omega (arith, a, q))))
 
-pub seen_most : (w : ShardLayoutData) (t i : ℕ) → IsPlanned w.setup w.shard →
-    cond (is_first w.setup w.shard) (is t w.shard) 0 + total (seen_at (network_of w.setup) (place_in w.setup) w.shard t)
-    (take i (placed (place_in w.setup) w.shard 1 w.setup.diffusion.roads.vertices)) ≤ suc (length w.setup.diffusion.roads.arcs)
-seen_most w t i D = let a = seen_whole w t D in let b = total_most (seen_at (network_of w.setup) (place_in w.setup) w.shard t)
-    (placed (place_in w.setup) w.shard 1 w.setup.diffusion.roads.vertices) i in
+pub seen_most : (w : ShardLayoutData) (t i : ℕ) → IsPlanned w.setup w.shard → counted w t (take i (own_placed w)) ≤ suc (length w.setup.diffusion.roads.arcs)
+seen_most w t i D = let a = seen_whole w t D in let b = total_most (seen_at (network_of w.setup) (place_in w.setup) w.shard t) (own_placed w) i in
     let c = outbox_bound_most (network_of w.setup) (place_in w.setup) w.shard t in omega (arith, a, b, c)
 
 -- each arc counts once at most
@@ -131,7 +126,7 @@ pub leading_few : (N : Network) (place : ℕ → ℕ) (t : ℕ) (xs : List ℕ) 
 leading_few N place t xs = total_few (λ b. is t (place (N.head b))) xs (λ b. one_if-most (eqb t (place (N.head b))))
 
 pub coming_few : (N : Network) (place : ℕ → ℕ) (s t : ℕ) (xs : List ℕ) → coming_from N place s t xs ≤ length xs
-coming_few N place s t xs = total_few (λ b. cond (eqb (place (N.tail b)) s) 0 (is t (place (N.tail b)))) xs (λ b. one (eqb (place (N.tail b)) s) (eqb t (place (N.tail b))))
+coming_few N place s t xs = total_few _ xs (λ b. one (eqb (place (N.tail b)) s) (eqb t (place (N.tail b))))
   where
     one : (z x : Bool) → cond z 0 (one_if x) ≤ 1
     one true x = omega arith
@@ -169,6 +164,9 @@ coming_most w v t i xs l o =
     let c = ap length (listed_into w w v xs refl l o) in let d = out_most (reversed_network (network_of w.setup)) v in omega (arith, a, b, c, d)
 
 -- one arc more
+one_more : (f : ℕ → ℕ) (a i : ℕ) (xs : List ℕ) → i < length xs → a ≡ get_or xs i a → total f (take (i + 1) xs) ≡ total f (take i xs) + f a
+one_more f a i xs l h = let z = total_take f xs i 0 l in let u = ap f (get_or_read xs i a l h 0) in omega (arith, z, u)
+
 pub leading_more : (w : ShardLayoutData) (v a to i : ℕ) (xs capacities first : List ℕ) → IsPlanned w.setup w.shard
     → ListsArcsFrom w.setup.diffusion.roads v xs → i < length xs → a ≡ get_or xs i a
     → to ≡ shard_in w.setup.plan (arc_of w.setup.diffusion.roads a).head → to < length capacities →
@@ -178,16 +176,9 @@ leading_more w v a to i xs capacities first D o l h q m inv t k =
     let p = planned_head w a D (item_from w.setup.diffusion.roads v a i xs o l h) in
     let x = add_one capacities to t m in
     let y = inv t k in
-    let z = total_take (λ b. is t (place_in w.setup ((network_of w.setup).head b))) xs i 0 l in
-    let u : is t to ≡ is t (place_in w.setup ((network_of w.setup).head (get_or xs i 0))) = ap (is t) (q ∙ p.1 ∙ ap (λ b. place_in w.setup ((network_of w.setup).head b)) (get_or_read xs i a l h 0)) in
+    let z = one_more (λ b. is t (place_in w.setup ((network_of w.setup).head b))) a i xs l h in
+    let u : is t to ≡ is t (place_in w.setup ((network_of w.setup).head a)) = ap (is t) (q ∙ p.1) in
     omega (arith, x, y, z, u)
-
-coming_more : (w : ShardLayoutData) (v a i t : ℕ) (xs : List ℕ) (x : ℕ) → i < length xs → a ≡ get_or xs i a
-    → x ≡ cond (eqb (place_in w.setup ((network_of w.setup).tail a)) w.shard) 0 (is t (place_in w.setup ((network_of w.setup).tail a))) →
-    coming_from (network_of w.setup) (place_in w.setup) w.shard t (take (i + 1) xs) ≡ coming_from (network_of w.setup) (place_in w.setup) w.shard t (take i xs) + x
-coming_more w v a i t xs x l h q =
-    let f : ℕ → ℕ = λ b. cond (eqb (place_in w.setup ((network_of w.setup).tail b)) w.shard) 0 (is t (place_in w.setup ((network_of w.setup).tail b))) in
-    let z = total_take f xs i 0 l in let u : x ≡ f (get_or xs i 0) = q ∙ ap f (get_or_read xs i a l h 0) in omega (arith, z, u)
 
 pub coming_other : (w : ShardLayoutData) (v a from i : ℕ) (xs capacities first : List ℕ) → IsPlanned w.setup w.shard
     → ListsArcsInto w.setup.diffusion.roads v xs → i < length xs → a ≡ get_or xs i a
@@ -199,10 +190,11 @@ coming_other w v a from i xs capacities first D o l h q ne m inv t k =
     let p : from ≡ place_in w.setup ((network_of w.setup).tail a) = q ∙ (planned_tail w a D (item_into w.setup.diffusion.roads v a i xs o l h)).1 in
     let x = add_one capacities from t m in
     let y = inv t k in
-    let z = coming_more w v a i t xs (is t from) l h (ap (is t) p
-    ∙ sym (cond-false (eqb (place_in w.setup ((network_of w.setup).tail a)) w.shard) 0 (is t (place_in w.setup ((network_of w.setup).tail a)))
-    (ne_eqb _ _ (λ e. ne (p ∙ e))))) in
-    omega (arith, x, y, z)
+    let z = one_more (λ b. cond (eqb (place_in w.setup ((network_of w.setup).tail b)) w.shard) 0 (is t (place_in w.setup ((network_of w.setup).tail b)))) a i xs l h in
+    let u = cond-false {A = ℕ} (eqb (place_in w.setup ((network_of w.setup).tail a)) w.shard) 0 (is t (place_in w.setup ((network_of w.setup).tail a)))
+    (ne_eqb _ _ (λ e. ne (p ∙ e))) in
+    let s = ap (is t) p in
+    omega (arith, x, y, z, u, s)
 
 pub coming_own : (w : ShardLayoutData) (v a from i : ℕ) (xs capacities first : List ℕ) → IsPlanned w.setup w.shard
     → ListsArcsInto w.setup.diffusion.roads v xs → i < length xs → a ≡ get_or xs i a
@@ -212,19 +204,21 @@ pub coming_own : (w : ShardLayoutData) (v a from i : ℕ) (xs capacities first :
 coming_own w v a from i xs capacities first D o l h q same inv t k =
     let p : from ≡ place_in w.setup ((network_of w.setup).tail a) = q ∙ (planned_tail w a D (item_into w.setup.diffusion.roads v a i xs o l h)).1 in
     let y = inv t k in
-    let z = coming_more w v a i t xs 0 l h (sym (cond-true {A = ℕ} (eqb (place_in w.setup ((network_of w.setup).tail a)) w.shard) 0
-    (is t (place_in w.setup ((network_of w.setup).tail a))) (eq-eqb _ _ (sym p ∙ same)))) in
-    omega (arith, y, z)
+    let z = one_more (λ b. cond (eqb (place_in w.setup ((network_of w.setup).tail b)) w.shard) 0 (is t (place_in w.setup ((network_of w.setup).tail b)))) a i xs l h in
+    let u = cond-true {A = ℕ} (eqb (place_in w.setup ((network_of w.setup).tail a)) w.shard) 0 (is t (place_in w.setup ((network_of w.setup).tail a))) (eq-eqb _ _ (sym p ∙ same)) in
+    omega (arith, y, z, u)
 
 -- all arcs of a vertex
+all_counted : (f : ℕ → ℕ → ℕ) (n i : ℕ) (xs ys capacities first : List ℕ) → xs ≡ ys → length xs ≤ i →
+    ((t : ℕ) → t < n → get_or capacities t 0 ≡ get_or first t 0 + total (f t) (take i xs)) → (t : ℕ) → t < n → get_or capacities t 0 ≡ get_or first t 0 + total (f t) ys
+all_counted f n i xs ys capacities first e d inv t k = let a = inv t k in let b = total_whole (f t) xs i d in let c = ap (total (f t)) e in omega (arith, a, b, c)
+
 pub leading_done : (w old : ShardLayoutData) (v i : ℕ) (xs capacities first : List ℕ) → w ≡ old → 1 ≤ v → ListsArcsFrom w.setup.diffusion.roads v xs → length xs ≤ i →
     length capacities ≡ length first →
     ((t : ℕ) → t < old.setup.plan.shards → get_or capacities t 0 ≡ get_or first t 0 + leading_to (network_of old.setup) (place_in old.setup) t (take i xs)) → CountsOut old v first capacities
 leading_done w old v i xs capacities first e l o d long inv = (
   long,
-  λ t k. let a = inv t k in
-      let b = total_whole (λ b. is t (place_in old.setup ((network_of old.setup).head b))) xs i d in
-      let c = ap (leading_to (network_of old.setup) (place_in old.setup) t) (listed_from w old v xs e l o) in omega (arith, a, b, c),
+  all_counted (λ t b. is t (place_in old.setup ((network_of old.setup).head b))) old.setup.plan.shards i xs _ capacities first (listed_from w old v xs e l o) d inv,
 )
 
 pub coming_done : (w old : ShardLayoutData) (v i : ℕ) (xs capacities first : List ℕ) → w ≡ old → 1 ≤ v → ListsArcsInto w.setup.diffusion.roads v xs → length xs ≤ i → length capacities ≡ length first →
@@ -232,9 +226,8 @@ pub coming_done : (w old : ShardLayoutData) (v i : ℕ) (xs capacities first : L
     ≡ get_or first t 0 + coming_from (network_of old.setup) (place_in old.setup) old.shard t (take i xs)) → CountsInto old v first capacities
 coming_done w old v i xs capacities first e l o d long inv = (
   long,
-  λ t k. let a = inv t k in
-      let b = total_whole (λ b. cond (eqb (place_in old.setup ((network_of old.setup).tail b)) old.shard) 0 (is t (place_in old.setup ((network_of old.setup).tail b)))) xs i d in
-      let c = ap (coming_from (network_of old.setup) (place_in old.setup) old.shard t) (listed_into w old v xs e l o) in omega (arith, a, b, c),
+  all_counted (λ t b. cond (eqb (place_in old.setup ((network_of old.setup).tail b)) old.shard) 0 (is t (place_in old.setup ((network_of old.setup).tail b)))) old.setup.plan.shards
+      i xs _ capacities first (listed_into w old v xs e l o) d inv,
 )
 
 -- between which numbers those of a shard lie
@@ -253,19 +246,16 @@ extent_within place s n e m E =
     ]
 
 -- if they follow one another, the own vertices are known without a list
-pub own_run : (w : ShardLayoutData) (e : Extent) → IsExtent (placed (place_in w.setup) w.shard 1 w.setup.diffusion.roads.vertices) e
+pub own_run : (w : ShardLayoutData) (e : Extent) → IsExtent (own_placed w) e
     → e.first + e.count ≡ e.last + 1 → 0 ∷ range_with_len e.first e.count ≡ local_vertices w.setup w.shard
 own_run w e E run =
     let c = E.count in
     ap (λ xs. 0 ∷ xs) (ap (range_with_len e.first) E.count
-    ∙ sym (follow_first (placed (place_in w.setup) w.shard 1 w.setup.diffusion.roads.vertices) e.first e.last
-    (placed_picked (place_in w.setup) w.shard 1 w.setup.diffusion.roads.vertices).increasing E.first E.last (omega (arith, run, c))))
+    ∙ sym (follow_first (own_placed w) e.first e.last (placed_picked (place_in w.setup) w.shard 1 w.setup.diffusion.roads.vertices).increasing E.first E.last (omega (arith, run, c))))
 
 -- vertices that were gone through, and what was counted of them
 abbrev pub CountedSo : ShardLayoutData → ℕ → List ℕ → Type 0
-CountedSo w i capacities = (t : ℕ) → t < w.setup.plan.shards
-    → get_or capacities t 0 ≡ cond (is_first w.setup w.shard) (is t w.shard) 0 + total (seen_at (network_of w.setup) (place_in w.setup) w.shard t)
-    (take i (placed (place_in w.setup) w.shard 1 w.setup.diffusion.roads.vertices))
+CountedSo w i capacities = (t : ℕ) → t < w.setup.plan.shards → get_or capacities t 0 ≡ counted w t (take i (own_placed w))
 
 pub counted_small : (w : ShardLayoutData) (i : ℕ) (capacities : List ℕ) → IsPlanned w.setup w.shard → length capacities ≡ w.setup.plan.shards
     → CountedSo w i capacities → (t : ℕ) → get_or capacities t 0 ≤ 2 ^ 32
@@ -283,12 +273,11 @@ counted_middle w v i capacities middle D long inv out t = elim (cases_lt t w.set
   | inr l ↦ (let k = out.0 in let a = get_or_past middle t 0 (omega (arith, l, long, k)) in omega (arith, a))
 ]
 
-pub counted_all : (w : ShardLayoutData) (i : ℕ) (capacities : List ℕ) → IsPlanned w.setup w.shard
-    → length (placed (place_in w.setup) w.shard 1 w.setup.diffusion.roads.vertices) ≤ i → length capacities ≡ w.setup.plan.shards
+pub counted_all : (w : ShardLayoutData) (i : ℕ) (capacities : List ℕ) → IsPlanned w.setup w.shard → length (own_placed w) ≤ i → length capacities ≡ w.setup.plan.shards
     → CountedSo w i capacities → CountsAll w capacities
 counted_all w i capacities D l long inv = (
   long,
-  λ t k. let a = inv t k in let b = total_whole (seen_at (network_of w.setup) (place_in w.setup) w.shard t) (placed (place_in w.setup) w.shard 1 w.setup.diffusion.roads.vertices) i l in
+  λ t k. let a = inv t k in let b = total_whole (seen_at (network_of w.setup) (place_in w.setup) w.shard t) (own_placed w) i l in
       let d = seen_whole w t D in omega (arith, a, b, d),
 )
 
@@ -298,7 +287,7 @@ counted_none w capacities h t k = let a = h t k in omega (arith, a)
 
 -- the vertex at a place after the environment's
 module _ (w : ShardLayoutData) (own : List ℕ) (same : own ≡ local_vertices w.setup w.shard) (j v : ℕ) (behind : 1 ≤ j) (inside : j < length own) (read : v ≡ get_or own j 0) where
-  vertex_read : (j - 1 < length (placed (place_in w.setup) w.shard 1 w.setup.diffusion.roads.vertices)) × (v ≡ get_or (placed (place_in w.setup) w.shard 1 w.setup.diffusion.roads.vertices) (j - 1) 0)
+  vertex_read : (j - 1 < length (own_placed w)) × (v ≡ get_or (own_placed w) (j - 1) 0)
   vertex_read = let e : j ≡ suc (j - 1) = omega (arith, behind) in let l = ap length same in
       ((omega (arith, inside, behind, l)), read ∙ (λ i. get_or (same i) (e i) 0))
 
@@ -310,11 +299,9 @@ module _ (w : ShardLayoutData) (own : List ℕ) (same : own ≡ local_vertices w
   pub counted_more : (capacities middle new : List ℕ) → CountedSo w (j - 1) capacities → CountsOut w v capacities middle → CountsInto w v middle new → CountedSo w (j + 1 - 1) new
   counted_more capacities middle new inv out into t k =
       let a = inv t k in let b = out.1 t k in let c = into.1 t k in
-      let d = total_take (seen_at (network_of w.setup) (place_in w.setup) w.shard t) (placed (place_in w.setup) w.shard 1 w.setup.diffusion.roads.vertices) (j - 1) 0 vertex_read.0 in
+      let d = total_take (seen_at (network_of w.setup) (place_in w.setup) w.shard t) (own_placed w) (j - 1) 0 vertex_read.0 in
       let e = ap (seen_at (network_of w.setup) (place_in w.setup) w.shard t) vertex_read.1 in
-      let g = ap (λ n. total (seen_at (network_of w.setup) (place_in w.setup) w.shard t)
-      (take n (placed (place_in w.setup) w.shard 1 w.setup.diffusion.roads.vertices))) (let z : j + 1 - 1 ≡ j - 1 + 1 = omega (arith, behind) in
-      z) in
+      let g = ap (λ n. total (seen_at (network_of w.setup) (place_in w.setup) w.shard t) (take n (own_placed w))) (let z : j + 1 - 1 ≡ j - 1 + 1 = omega (arith, behind) in z) in
       omega (arith, a, b, c, d, e, g)
 
 -- where the arcs begin

@@ -1,8 +1,11 @@
 -- What is counted of a shard before its tables are made.
 use Rattle.std.specs.Prelude.{◌≡◌, ℕ, ◌+◌, ◌-◌, ◌<◌, Bool, cond, eqb, List, length, get_or, take}
+use Rattle.road_graph.specs.GraphData.{GraphData}
 use Rattle.scholten_core.specs.Network.{Network}
 use Rattle.shard_store.specs.declared.layout.Extent.{Extent}
-use Rattle.shard_store.specs.Setup.{SetupData, place_in, network_of}
+use Rattle.shard_store.specs.declared.queue_order.QueueOrder.TheVariants.{Arrival}
+use Rattle.shard_store.specs.Plans.{PlanData}
+use Rattle.shard_store.specs.Setup.{SetupData, place_in, network_of, setup_of}
 use Rattle.shard_store.specs.Outgoing.{arcs_out, outgoing}
 use Rattle.shard_store.specs.Totals.{total, is}
 use Rattle.shard_store.specs.Capacities.{outbox_bound}
@@ -15,6 +18,10 @@ is_first t s = eqb (place_in t 0) s
 pub record ShardLayoutData : Type 0 where
   pub setup : SetupData (Unit {0})
   pub shard : ℕ
+
+-- it, by its roads, source, plan and number; the order of its items does not matter to it
+abbrev pub layout_view : GraphData → ℕ → PlanData → ℕ → ShardLayoutData
+layout_view roads source plan shard = record { setup = setup_of tt roads source plan Arrival; shard = shard }
 
 -- the first and the last vertex of an ascending list, 1 and 0 if it is empty, and how many it has
 pub record IsExtent (vs : List ℕ) (e : Extent) : Type 0 where

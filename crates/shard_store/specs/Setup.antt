@@ -1,6 +1,6 @@
 -- What all parts of a diffusion share: the diffusion, the plan that says which shard each vertex is in, and the order in which parts take their items.
 use Rattle.std.specs.Prelude.{◌≡◌, ℕ, ◌-◌, ◌<◌, ◌∷◌, length, get_or}
-use Rattle.road_graph.specs.GraphData.{HasVertex, IsGraph}
+use Rattle.road_graph.specs.GraphData.{GraphData, HasVertex, IsGraph}
 use Rattle.scholten_core.specs.Network.{Network}
 use Rattle.scholten_core.specs.DiffusionData.{DiffusionData, network_in as network_asked}
 use Rattle.shard_store.specs.declared.queue_order.QueueOrder.{QueueOrder}
@@ -11,6 +11,10 @@ pub record SetupData (S : Type 0) : Type 0 where
   pub diffusion : DiffusionData S
   pub plan : PlanData
   pub order : QueueOrder
+
+-- it, by its algebra, roads, source, plan and order
+abbrev pub setup_of : {S : Type 0} → S → GraphData → ℕ → PlanData → QueueOrder → SetupData S
+setup_of algebra roads source plan order = record { diffusion = record { algebra = algebra; roads = roads; source = source }; plan = plan; order = order }
 
 -- the network of its diffusion
 abbrev pub network_of : {S : Type 0} → SetupData S → Network

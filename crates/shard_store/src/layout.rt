@@ -55,15 +55,15 @@ pub struct ShardLayout<'g> {
 }
 
 impl<'g> Model for ShardLayout<'g> {
-    ghost use Rattle.shard_store.specs.Layout.{ShardLayoutData};
-    ghost use Rattle.shard_store.specs.Setup.{IsPlanned};
+    ghost use Rattle.shard_store.specs.Layout.{ShardLayoutData, layout_view};
+    ghost use Rattle.shard_store.specs.Setup.{IsPlanned, setup_of};
     ghost use Rattle.shard_store.specs.declared.queue_order.QueueOrder.TheVariants.{Arrival};
 
     ghost Value = { ShardLayoutData };
 
-    ghost view = { λ w. record { setup = record { diffusion = record { algebra = tt; roads = w.graph.now; source = w.source }; plan = w.plan.now; order = Arrival }; shard = w.shard } };
+    ghost view = { λ w. layout_view w.graph.now w.source w.plan.now w.shard };
 
-    ghost invariant = { λ w. IsPlanned (record { diffusion = record { algebra = tt {0}; roads = w.graph.now; source = w.source }; plan = w.plan.now; order = Arrival }) w.shard };
+    ghost invariant = { λ w. IsPlanned (setup_of (tt {0}) w.graph.now w.source w.plan.now Arrival) w.shard };
 }
 
 impl<'g> ShardLayout<'g> {

@@ -117,7 +117,7 @@ impl<A: PathAlgebra> Queue<A> {
         ensures room { self.new.room ≡ self.old.room }
     {
         if self.taken >= self.front.len() {
-            turn(&mut self.front, &mut self.back);
+            refill(&mut self.front, &mut self.back);
             self.taken = 0;
         }
         match self.front.get(self.taken) {
@@ -215,10 +215,10 @@ fn front_room(order: QueueOrder, capacity: usize) -> usize
     }
 }
 
-/// Clears the front list, and swaps the two.
+/// Makes the back list the front one, and the front one, cleared, the back one.
 #[cold]
 #[inline(never)]
-fn turn<V: Copy>(front: &mut Vec<Item<V>>, back: &mut Vec<Item<V>>)
+fn refill<V: Copy>(front: &mut Vec<Item<V>>, back: &mut Vec<Item<V>>)
     ensures front { front.new ≡ back.old }
     ensures back { back.new.items ≡ [] }
     ensures room { vec_capacity back.new ≡ vec_capacity front.old }

@@ -1,5 +1,6 @@
 //! What all parts of a diffusion share.
 ghost use Rattle.std.specs.Prelude.{◌≡◌};
+ghost use Rattle.shard_store.specs.Setup.{setup_of};
 
 use crate::plan::Plan;
 use crate::queue_order::QueueOrder;
@@ -18,11 +19,11 @@ pub struct Setup<A> {
 }
 
 impl<A> Model for Setup<A> {
-    ghost use Rattle.shard_store.specs.Setup.{SetupData};
+    ghost use Rattle.shard_store.specs.Setup.{SetupData, setup_of};
 
     ghost Value = { SetupData A };
 
-    ghost view = { λ q. record { diffusion = record { algebra = q.algebra; roads = q.graph.value; source = q.source }; plan = q.plan.value; order = q.order } };
+    ghost view = { λ q. setup_of q.algebra q.graph.value q.source q.plan.value q.order };
 }
 
 impl<A> Setup<A> {
@@ -34,11 +35,7 @@ impl<A> Setup<A> {
         source: Vertex,
         order: QueueOrder,
     ) -> Setup<A>
-        ensures { result ≡ record {
-          diffusion = record { algebra = algebra; roads = graph.now; source = source };
-          plan = plan.now;
-          order = order;
-        } }
+        ensures { result ≡ setup_of algebra graph.now source plan.now order }
     {
         Setup {
             algebra,

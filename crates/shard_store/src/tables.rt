@@ -204,7 +204,7 @@ impl<V: Copy> ArcTable<V> {
     }
 
     /// The label that the arc at a place was last offered.
-    pub fn told(&self, i: usize) -> Option<V>
+    pub fn last_offer(&self, i: usize) -> Option<V>
         requires { i < length self.now.told }
         ensures { result ≡ get_or self.now.told i None }
     {
@@ -216,7 +216,7 @@ impl<V: Copy> ArcTable<V> {
     }
 
     /// Notes that the arc at a place was offered a label, or none.
-    pub fn tell(&mut self, i: usize, label: Option<V>)
+    pub fn set_last_offer(&mut self, i: usize, label: Option<V>)
         requires { i < length self.old.told }
         ensures { self.new ≡ record self.old { told = set self.old.told i label } }
     {

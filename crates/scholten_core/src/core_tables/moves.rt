@@ -70,7 +70,7 @@ impl<'g, A: PathAlgebra> CoreTables<'g, A> {
         ensures { result ≡ due (A.meaning self.now.diffusion.algebra) (network_of self.now) v
             (state_of self.now) b }
     {
-        self.token(b).is_idle() && !is_same(self.algebra, self.told(b), self.label(v))
+        self.token(b).is_idle() && !is_same(self.algebra, self.last_offer(b), self.label(v))
     }
 
     /// Offers the label to an arc if it is due: sends it, extended, unless the extension is refused.

@@ -3,11 +3,10 @@ ghost use Rattle.std.specs.Prelude.{◌≡◌, ◌≢◌, ◌+◌, ◌<◌, suc,
 ghost use Rattle.scholten_core.specs.Deficit.{busy_out};
 ghost use Rattle.shard_part.specs.PartState.{state_in};
 ghost use Rattle.shard_part.specs.Exchange.{Fits};
-ghost use Rattle.shard_part.specs.LocalInvariant.{LocalInvariant};
-ghost use Rattle.shard_part.specs.Moves.{IsTallied};
 ghost use Rattle.shard_part.specs.Readings.{IsOwn, has_ended, tally_in};
+ghost use Rattle.shard_part.specs.Part.{PartInvariant};
 ghost use Rattle.shard_store.specs.Capacities.{queue_bound, outbox_bound};
-ghost use Rattle.shard_store.specs.Setup.{network_of, place_in, IsPlanned};
+ghost use Rattle.shard_store.specs.Setup.{network_of, place_in};
 
 use crate::part::Part;
 use path_algebra::PathAlgebra;
@@ -41,10 +40,7 @@ impl<'g, A: PathAlgebra> Part<'g, A> {
     pub fn shard(&self) -> Shard
         ensures shard { result ≡ self.now.shard }
         // What holds of every part, for callers that rely on it.
-        ensures planned { IsPlanned self.now.setup self.now.shard }
-        ensures sound { LocalInvariant (network_of self.now.setup) (place_in self.now.setup)
-            self.now }
-        ensures tallied { IsTallied self.now }
+        ensures holds { PartInvariant self.now }
     {
         self.state.shard()
     }

@@ -7,6 +7,7 @@ ghost use Rattle.scholten_core.specs.Diffusion.{state_after};
 ghost use Rattle.shard_part.specs.Represents.{HoldsShare};
 ghost use Rattle.shard_store.specs.Rows.{rows_of, AreIdle};
 ghost use Rattle.shard_store.specs.Outgoing.{local_vertices};
+ghost use Rattle.shard_store.specs.Setup.{setup_of};
 ghost use Rattle.shard_part.specs.Opening.{opened_part, first_items};
 
 use crate::laws::plan_holds;
@@ -34,11 +35,7 @@ impl<'g, A: PathAlgebra> PartState<'g, A> {
         requires plan { length plan.now.list ≡ graph.now.vertices }
         requires shard { shard < plan.now.shards }
         ensures part { IfOk result (λ d. d ≡ opened_part (A.meaning algebra)
-            (record {
-              diffusion = record { algebra = algebra; roads = graph.now; source = source };
-              plan = plan.now;
-              order = order;
-            }) shard) }
+            (setup_of algebra graph.now source plan.now order) shard) }
         ensures share { IfOk result (λ d. HoldsShare A.meaning (state_after (A.meaning algebra)
             (network graph.now source) []) d) }
     {

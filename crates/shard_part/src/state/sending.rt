@@ -3,12 +3,11 @@ ghost use Rattle.std.specs.Prelude.{◌≡◌, ◌≢◌, ◌<◌, length, get_o
 ghost use Rattle.road_graph.specs.GraphData.{arc_of, road_of};
 ghost use Rattle.scholten_core.specs.declared.item.Item.TheVariants.{Signal as SignalOn};
 ghost use Rattle.scholten_core.specs.Diffusion.{is_due as due};
-ghost use Rattle.scholten_core.specs.Items.{item_arc};
 ghost use Rattle.shard_store.specs.Setup.{network_of, place_in};
-ghost use Rattle.shard_part.specs.PartState.{state_in, vertex_of, maker_of, IsArc};
+ghost use Rattle.shard_part.specs.PartState.{state_in, IsArc};
 ghost use Rattle.shard_store.specs.Outgoing.{outgoing};
 ghost use Rattle.shard_part.specs.LocalInvariant.{IsClear};
-ghost use Rattle.shard_part.specs.Moves.{IsPlace, IsArcRow, put_item, counted_made, with_item, with_message, offered, offered_all};
+ghost use Rattle.shard_part.specs.Moves.{IsPlace, IsArcRow, IsArcOut, MaySend, put_item, counted_made, with_item, with_message, offered, offered_all};
 
 use crate::state::PartState;
 use path_algebra::PathAlgebra;
@@ -49,16 +48,14 @@ impl<'g, A: PathAlgebra> PartState<'g, A> {
     fn offer(&mut self, v: VertexPlace, b: ArcPlace, road: OutRoad)
         requires place { IsPlace self.old v.vertex v.at }
         requires vertex { v.vertex ≢ 0 }
-        requires row { IsArcRow self.old b.arc b.at }
-        requires tail { (network_of self.old.setup).tail b.arc ≡ v.vertex }
-        requires arc { IsArc (network_of self.old.setup) b.arc }
+        requires out { IsArcOut self.old v.vertex b.arc b.at }
         requires graph { b.arc ≢ 0 }
         requires road { road ≡ road_of (arc_of self.old.setup.diffusion.roads b.arc) }
         ensures { self.new ≡ offered (A.meaning self.old.setup.diffusion.algebra) v.vertex b.arc
             self.old }
     {
         if self.is_due(v, b) {
-            self.tell_anew(v, b, road);
+            self.make_offer(v, b, road);
         }
     }
 
@@ -68,16 +65,14 @@ impl<'g, A: PathAlgebra> PartState<'g, A> {
         requires vertex { v.vertex ≢ 0 }
         requires inside { k < length (outgoing (network_of self.old.setup) v.vertex) }
         requires turn { get_or (outgoing (network_of self.old.setup) v.vertex) k 0 ≡ b.arc }
-        requires row { IsArcRow self.old b.arc b.at }
-        requires tail { (network_of self.old.setup).tail b.arc ≡ v.vertex }
-        requires arc { IsArc (network_of self.old.setup) b.arc }
+        requires out { IsArcOut self.old v.vertex b.arc b.at }
         requires graph { b.arc ≢ 0 }
         ensures { self.new ≡ offered (A.meaning self.old.setup.diffusion.algebra) v.vertex b.arc
             self.old }
     {
         if self.is_due(v, b) {
             let road = self.road_at(v, k);
-            self.tell_anew(v, b, road);
+            self.make_offer(v, b, road);
         }
     }
 
@@ -91,17 +86,15 @@ impl<'g, A: PathAlgebra> PartState<'g, A> {
     {
         neither(
             self.is_busy(b),
-            is_same(self.algebra, self.told(b), self.label_at(v)),
+            is_same(self.algebra, self.last_offer(b), self.label_at(v)),
         )
     }
 
     /// Offers the label of the vertex at a place to the due arc b out of it.
-    fn tell_anew(&mut self, v: VertexPlace, b: ArcPlace, road: OutRoad)
+    fn make_offer(&mut self, v: VertexPlace, b: ArcPlace, road: OutRoad)
         requires place { IsPlace self.old v.vertex v.at }
         requires vertex { v.vertex ≢ 0 }
-        requires row { IsArcRow self.old b.arc b.at }
-        requires tail { (network_of self.old.setup).tail b.arc ≡ v.vertex }
-        requires arc { IsArc (network_of self.old.setup) b.arc }
+        requires out { IsArcOut self.old v.vertex b.arc b.at }
         requires graph { b.arc ≢ 0 }
         requires road { road ≡ road_of (arc_of self.old.setup.diffusion.roads b.arc) }
         requires due { due (A.meaning self.old.setup.diffusion.algebra) (network_of self.old.setup)
@@ -112,7 +105,7 @@ impl<'g, A: PathAlgebra> PartState<'g, A> {
         let label = self.label_at(v);
         let value = extended(self.algebra, label, road.weight);
         let to = self.plan.shard_of(road.head);
-        self.tell(b, label);
+        self.set_last_offer(b, label);
         self.message(v, b, value, to);
     }
 
@@ -120,9 +113,7 @@ impl<'g, A: PathAlgebra> PartState<'g, A> {
     fn message(&mut self, v: VertexPlace, b: ArcPlace, value: Option<A::Value>, to: Shard)
         requires place { IsPlace self.old v.vertex v.at }
         requires vertex { v.vertex ≢ 0 }
-        requires row { IsArcRow self.old b.arc b.at }
-        requires tail { (network_of self.old.setup).tail b.arc ≡ v.vertex }
-        requires arc { IsArc (network_of self.old.setup) b.arc }
+        requires out { IsArcOut self.old v.vertex b.arc b.at }
         requires made { place_in self.old.setup ((network_of self.old.setup).tail b.arc) ≡
             self.old.shard }
         requires shard { to ≡ place_in self.old.setup ((network_of self.old.setup).head b.arc) }
@@ -149,11 +140,7 @@ impl<'g, A: PathAlgebra> PartState<'g, A> {
 
     /// Makes an item: sends it and counts it.
     fn put(&mut self, item: Item<A::Value>, to: Shard)
-        requires arc { IsArc (network_of self.old.setup) (item_arc item) }
-        requires made { place_in self.old.setup (maker_of (network_of self.old.setup) item) ≡
-            self.old.shard }
-        requires shard { to ≡ place_in self.old.setup (vertex_of (network_of self.old.setup) item) }
-        requires clear { IsClear self.old (item_arc item) }
+        requires { MaySend self.old item to }
         ensures { self.new ≡ with_item item self.old }
     {
         self.send(item, to);
@@ -162,11 +149,7 @@ impl<'g, A: PathAlgebra> PartState<'g, A> {
 
     /// Puts an item into the queue or the outbox where it belongs.
     fn send(&mut self, item: Item<A::Value>, to: Shard)
-        requires arc { IsArc (network_of self.old.setup) (item_arc item) }
-        requires made { place_in self.old.setup (maker_of (network_of self.old.setup) item) ≡
-            self.old.shard }
-        requires shard { to ≡ place_in self.old.setup (vertex_of (network_of self.old.setup) item) }
-        requires clear { IsClear self.old (item_arc item) }
+        requires { MaySend self.old item to }
         ensures { self.new ≡ put_item item self.old }
     {
         if to == self.shard {

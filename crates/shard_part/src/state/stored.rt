@@ -205,18 +205,18 @@ impl<'g, A: PathAlgebra> PartState<'g, A> {
     }
 
     /// The label that the arc at a place was last offered.
-    pub(super) fn told(&self, b: ArcPlace) -> Option<A::Value>
+    pub(super) fn last_offer(&self, b: ArcPlace) -> Option<A::Value>
         requires { IsArcRow self.now b.arc b.at }
         ensures { result ≡ (state_in self.now).told b.arc }
     {
-        self.tables.arcs.told(b.at)
+        self.tables.arcs.last_offer(b.at)
     }
 
     /// Notes the label that the arc at a place was offered.
-    pub(super) fn tell(&mut self, b: ArcPlace, label: Option<A::Value>)
+    pub(super) fn set_last_offer(&mut self, b: ArcPlace, label: Option<A::Value>)
         requires { IsArcRow self.old b.arc b.at }
         ensures { self.new ≡ record self.old { told = set self.old.told b.arc label } }
     {
-        self.tables.arcs.tell(b.at, label);
+        self.tables.arcs.set_last_offer(b.at, label);
     }
 }

@@ -1,6 +1,6 @@
 use Rattle.std.proofs.Common.{refl}
-use Rattle.station.specs.Opened.{setup_of}
 use Rattle.shard_store.specs.declared.queue_order.QueueOrder.TheVariants.{BestFirst}
+use Rattle.shard_store.specs.Setup.{setup_of}
 use Rattle.engine_trials.proofs.stations.best_alone.Goals as goal
 
 pub returns : goal.returns

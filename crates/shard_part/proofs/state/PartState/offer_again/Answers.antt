@@ -2,5 +2,5 @@ use Rattle.std.proofs.Common.{ap, ◌∙◌}
 use Rattle.road_graph.specs.GraphData.{arc_of, road_of}
 use Rattle.shard_part.proofs.state.PartState.offer_again.Goals as goal
 
-pub tell_anew-requires-clause-road : goal.tell_anew-requires-clause-road
-tell_anew-requires-clause-road g c = λ κs w. c.road_at-road.ensures ∙ ap (λ b. road_of (arc_of c.args.self.now.setup.diffusion.roads b)) c.requires.turn
+pub make_offer-requires-clause-road : goal.make_offer-requires-clause-road
+make_offer-requires-clause-road g c = λ κs w. c.road_at-road.ensures ∙ ap (λ b. road_of (arc_of c.args.self.now.setup.diffusion.roads b)) c.requires.turn

@@ -1,6 +1,7 @@
 use Rattle.std.proofs.Common.{◌≡◌, ◌-◌, length, map}
 use Rattle.std.specs.List.Sorted.{IsPermutation}
 use Rattle.shard_store.specs.Rows.{rows_of}
+use Rattle.shard_store.specs.Setup.{setup_of}
 use Rattle.shard_part.specs.Moves.{RepInvariant, abstraction}
 use Rattle.shard_part.proofs.state.PartState.pop_best.Given as goal
 
@@ -8,7 +9,7 @@ use Rattle.shard_part.proofs.state.PartState.pop_best.Given as goal
 abbrev pub invariant-loop-item : goal.invariant-loop-item
 invariant-loop-item g l =
     let s = l.self-inside in
-    let p = abstraction (record { diffusion = record { algebra = s.algebra; roads = s.graph.now; source = s.source }; plan = s.plan.now; order = s.order }) s.shard (rows_of s.tables) s.queue.items
+    let p = abstraction (setup_of s.algebra s.graph.now s.source s.plan.now s.order) s.shard (rows_of s.tables) s.queue.items
     (map (λ b. b.items) s.outs.items) s.sent s.delivered s.signalled s.accepted in
     record {
       same : p ≡ record l.fn.self { queue = s.queue.items };

@@ -1,6 +1,6 @@
 use Rattle.std.proofs.Common.{arith, ap, sym, set, ◌∙◌}
 use Rattle.shard_store.proofs.Records.{arc_inside, told_written, untold_written}
-use Rattle.shard_store.proofs.tables.ArcTable.tell.Goals as goal
+use Rattle.shard_store.proofs.tables.ArcTable.set_last_offer.Goals as goal
 
 pub index_mut-requires : goal.index_mut-requires
 index_mut-requires g c = let l = (arc_inside c.self.inside.marks.items c.self.inside.labels.items c.args.self.now c.args.i c.self.invariant

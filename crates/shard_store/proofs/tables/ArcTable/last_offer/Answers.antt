@@ -1,6 +1,6 @@
 use Rattle.std.proofs.Common.{arith}
 use Rattle.shard_store.proofs.Records.{arc_inside, told_read, untold_read}
-use Rattle.shard_store.proofs.tables.ArcTable.told.Goals as goal
+use Rattle.shard_store.proofs.tables.ArcTable.last_offer.Goals as goal
 
 pub index-requires : goal.index-requires
 index-requires g c = let l = (arc_inside c.self.inside.marks.items c.self.inside.labels.items c.args.self.now c.args.i c.self.invariant c.self.view_is

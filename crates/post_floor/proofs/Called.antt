@@ -1,4 +1,4 @@
--- What the calls know of their seat between two plain reads and writes of a slot.
+-- What the calls know of their seat between two plain reads and writes of a slot, and what they ask of a step.
 use Rattle.std.proofs.Common.{◌≡◌, ℕ, List, [], ◌∷◌, sym, ap, ◌∙◌, subst, get_or}
 use Rattle.std.proofs.lemmas.Option.{same_Some}
 use Rattle.std.specs.Prelude as std
@@ -7,8 +7,10 @@ use Rattle.atomic_table.specs.Table.{Me, rest}
 use Rattle.circular_buffer.specs.Buffer.{Buffer, buffer}
 use Rattle.path_algebra.specs.Algebra.{Algebra}
 use Rattle.scholten_core.specs.declared.item.Item.{Item}
+use Rattle.scholten_core.specs.Network.{WellFormed}
+use Rattle.scholten_core.proofs.Networks.{well_formed}
 use Rattle.shard_part.specs.PartState.{PartData, vertex_of, maker_of, IsArc}
-use Rattle.shard_store.specs.Setup.{SetupData, network_of, place_in}
+use Rattle.shard_store.specs.Setup.{IsPlanned, SetupData, network_of, place_in}
 use Rattle.shard_part.specs.LocalInvariant.{LocalInvariant}
 use Rattle.shard_part.specs.Weights.{All}
 use Rattle.scholten_core.specs.Items.{item_arc}
@@ -59,3 +61,10 @@ publishing {S} {V} {meaning} {id} {pass} {pass'} {t} {k} {to} {p} {q} m m' {x} {
       made = subst (λ (z : ℕ × ℕ). MadeAt t z.0 (get_or p.outs z.1 [])) (λ i. (sym between.comes_from i, to_is i))
           (subst (λ (u : SetupData S). MadeAt u p.shard (get_or p.outs to [])) is (made_here p (get_or p.outs to []) to (sound.gone to)));
     }
+
+pub formed : {S : Type 0} (t : SetupData S) → IsPlanned t 0 → WellFormed (network_of t)
+formed t P = well_formed t.diffusion.roads t.diffusion.source P.roads P.source.0
+
+-- what a step promises of the part d holds of each part of the list d ∷ []
+pub all_told : {P : Type 0} (T : P → Type 0) {d : P} {ps : List P} → ps ≡ d ∷ [] → T d → All T ps
+all_told {P} T told a = subst (λ (l : List P). All T l) (sym told) (a, tt)

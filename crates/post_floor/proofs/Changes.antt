@@ -1,12 +1,10 @@
 -- Each of the steps on a mailbox keeps the rule of the floor.
-use Rattle.std.proofs.Common.{◌≡◌, ◌≢◌, ◌⊎◌, ℕ, ◌+◌, ◌<◌, ◌≤◌, List, [], ◌∷◌, ◌++◌, length, map, set, get_or, refl, sym, ap, ◌∙◌, subst, inl, inr, arith, length-set, get_or-set_other, get_or-set_same}
-use Rattle.std.specs.Prelude as std
+use Rattle.std.proofs.Common.{◌≡◌, ◌≢◌, ℕ, ◌+◌, ◌<◌, List, [], ◌∷◌, ◌++◌, length, map, set, get_or, refl, sym, ap, ◌∙◌, subst, inl, inr, arith, length-set, get_or-set_other, get_or-set_same}
 use Rattle.std.proofs.lemmas.Bool.{cases_eq}
-use mathlib.Core.Option.{Option, none, some}
+use mathlib.Core.Option.{Option, some}
 use lib.ListN.{get_elem?}
 use Rattle.atomic_table.specs.Table.{State, Me}
-use Rattle.atomic_table.proofs.Lists.{at_set}
-use Rattle.circular_buffer.specs.Buffer.{buffer}
+use Rattle.atomic_table.proofs.Lists.{at_set, set_here, set_else}
 use Rattle.path_algebra.specs.Algebra.{Algebra}
 use Rattle.scholten_core.specs.declared.event.Event.{Event}
 use Rattle.scholten_core.specs.declared.item.Item.{Item}
@@ -19,14 +17,13 @@ use Rattle.shard_store.specs.Setup.{SetupData, network_of, place_in}
 use Rattle.shard_store.specs.Totals.{total, is}
 use Rattle.shard_part.specs.Weights.{part_weight}
 use Rattle.shard_part.specs.Handling.{HandledAll}
-use Rattle.shard_part.specs.Represents.{HoldsShareIn}
+use Rattle.shard_part.specs.Represents.{HoldsShareIn, core_of}
 use Rattle.shard_store.proofs.Totals.{sum_at}
 use Rattle.shard_part.proofs.Showing.{AllLawful}
 use Rattle.shard_part.proofs.TakenCounts.{run_append}
-use Rattle.shard_part.specs.Arriving.{MadeAt}
 use Rattle.post_floor.specs.declared.view.View.{View}
-use Rattle.post_floor.specs.Boxes.{empty, filling, full, reading, box_count, dest, origin}
-use Rattle.post_floor.specs.Floor.{Slot, Place, fill_claims, read_claims, box, in_transit, mailbox_capacity, empty_slot, MailboxInvariant, core_of, AreAllInOrder, FloorInvariant}
+use Rattle.post_floor.specs.Boxes.{filling, reading, box_count, dest}
+use Rattle.post_floor.specs.Floor.{Slot, Place, fill_claims, read_claims, box, in_transit, MailboxInvariant, AreAllInOrder, FloorInvariant}
 use Rattle.post_floor.proofs.Totals.{total_set}
 use Rattle.shard_part.specs.Exact.{done_by}
 use Rattle.post_floor.proofs.Keeps.{gone, Relisted, goes_on, idle_after}
@@ -51,30 +48,6 @@ module _ {S V : Type 0} (meaning : S → Algebra V) (t : SetupData S) (L : AllLa
       let Q = (ended A N (L t.diffusion.algebra) W events h).0 in
       ap (λ (d : CoreState V). d.token 0) (run_append A N (opening A N) events more ∙ quiet_stays A N more (core_of meaning t events) Q) ∙ h
 
-  -- Only the mailbox k changes, by the view of the seat id. Its part has gone from b to d by items of its own, and then to e; u is the view but for that.
-  pub record Change (s : Tab) (id k n' : ℕ) (homes' : List (Option (Slot V))) (v u : View S V) (b d e : PartData S V) (items : List (Item V)) : Type 0 where
-    pub at : get_elem? s.views id ≡ some v
-    pub one : v.parts ≡ b ∷ []
-    pub moves : HandledAll meaning b items d
-    pub lists : Relisted meaning t d e
-    pub below : k < box_count t.plan.shards
-    pub long : length homes' ≡ box_count t.plan.shards
-    pub others : (j : ℕ) → j ≢ k → get_elem? homes' j ≡ get_elem? s.homes j
-    pub weighs : (h : ℕ → Item V → ℕ)
-        → part_weight h e + box (h (dest t.plan.shards k)) n' (get_elem? homes' k) ≡ part_weight h d + box (h (dest t.plan.shards k))
-        (get_or s.words k 0) (get_elem? s.homes k)
-    pub fills : (j : ℕ) → j ≢ k → fill_claims j u ≡ fill_claims j v
-    pub reads : (j : ℕ) → j ≢ k → read_claims j u ≡ read_claims j v
-    pub fill : fill_claims k u + is filling (get_or s.words k 0) ≡ fill_claims k v + is filling n'
-    pub read : read_claims k u + is reading (get_or s.words k 0) ≡ read_claims k v + is reading n'
-    pub low : n' ≤ reading
-    pub apart : n' ≡ full → origin t.plan.shards k ≢ dest t.plan.shards k
-    pub empty : n' ≡ empty → get_elem? homes' k ≡ some (some (empty_slot t k))
-    pub full : n' ≡ full → (xs : List (Item V)) × (get_elem? homes' k ≡ some (some (std.Some (buffer xs (mailbox_capacity t k))))) × MadeAt t (origin t.plan.shards k) xs
-    pub out : (n' ≡ filling) ⊎ (n' ≡ reading) → get_elem? homes' k ≡ some none
-    pub seen : u.seen ≡ v.seen
-    pub ordered : AreAllInOrder t.plan.shards (set s.words k n') (set s.views id (gone meaning t v u e (done_by meaning items b d moves)))
-
   box_else : (ws : List ℕ) (hs hs' : List (Option (Slot V))) (k n' j : ℕ) (f : Item V → ℕ) → j ≢ k → get_elem? hs' j ≡ get_elem? hs j
       → box f (get_or (set ws k n') j 0) (get_elem? hs' j) ≡ box f (get_or ws j 0) (get_elem? hs j)
   box_else ws hs hs' k n' j f ne e = let p : get_or (set ws k n') j 0 ≡ get_or ws j 0 = get_or-set_other ws k j n' 0 ne in
@@ -88,69 +61,83 @@ module _ {S V : Type 0} (meaning : S → Algebra V) (t : SetupData S) (L : AllLa
       let q : get_or (set ws k n') k 0 ≡ n' = get_or-set_same ws k n' 0 wide in
       p ∙ ap (λ (z : ℕ). in_transit n ws hs h + box (h (dest n k)) z (get_elem? hs' k)) q
 
-  module _ (s : Tab) (r : FloorInvariant meaning t s) (id k n' : ℕ) (homes' : List (Option (Slot V))) (v u : View S V) (b d e : PartData S V)
-      (items : List (Item V)) (c : Change s id k n' homes' v u b d e items) where
-    abbrev New : View S V
-    New = gone meaning t v u e (done_by meaning items b d c.moves)
+  module _ (s : Tab) (r : FloorInvariant meaning t s) (id k : ℕ) (v : View S V) (b d : PartData S V) (items : List (Item V)) (T : HandledAll meaning b items d)
+      (at : get_elem? s.views id ≡ some v) (one : v.parts ≡ b ∷ []) (lt : k < box_count t.plan.shards) where
+    -- Only the mailbox k changes, by the view of the seat id. Its part has gone from b to d by items of its own, and then to e; u is the view but for that.
+    pub record Change (n' : ℕ) (homes' : List (Option (Slot V))) (u : View S V) (e : PartData S V) : Type 0 where
+      pub lists : Relisted meaning t d e
+      pub now : Option (Slot V)
+      pub homes_are : homes' ≡ set s.homes k now
+      pub weighs : (h : ℕ → Item V → ℕ)
+          → part_weight h e + box (h (dest t.plan.shards k)) n' (some now) ≡ part_weight h d + box (h (dest t.plan.shards k)) (get_or s.words k 0) (get_elem? s.homes k)
+      pub fills : (j : ℕ) → j ≢ k → fill_claims j u ≡ fill_claims j v
+      pub reads : (j : ℕ) → j ≢ k → read_claims j u ≡ read_claims j v
+      pub fill : fill_claims k u + is filling (get_or s.words k 0) ≡ fill_claims k v + is filling n'
+      pub read : read_claims k u + is reading (get_or s.words k 0) ≡ read_claims k v + is reading n'
+      pub valid : MailboxInvariant t k n' (some now) (is filling n') (is reading n')
+      pub seen : u.seen ≡ v.seen
+      pub ordered : AreAllInOrder t.plan.shards (set s.words k n') (set s.views id (gone meaning t v u e (done_by meaning items b d T)))
 
-    inside : k < length s.words
-    inside = let wide = r.wide in let lt = c.below in omega (arith, wide, lt)
+    module _ (n' : ℕ) (homes' : List (Option (Slot V))) (u : View S V) (e : PartData S V) (c : Change n' homes' u e) where
+      abbrev New : View S V
+      New = gone meaning t v u e (done_by meaning items b d T)
 
-    box_here : MailboxInvariant t k (get_or (set s.words k n') k 0) (get_elem? homes' k) (total (fill_claims k) (set s.views id New)) (total (read_claims k) (set s.views id New))
-    box_here = let ok = r.boxes k c.below in
-        subst (λ (z : ℕ). MailboxInvariant t k z (get_elem? homes' k) (total (fill_claims k) (set s.views id New))
-        (total (read_claims k) (set s.views id New))) (sym (get_or-set_same s.words k n' 0 inside))
-        (record {
-          low = c.low;
-          fills_is = let p = total_set (fill_claims k) s.views id v New c.at in let q = ok.fills_is in let f = c.fill in omega (arith, p, q, f);
-          reads_is = let p = total_set (read_claims k) s.views id v New c.at in let q = ok.reads_is in let f = c.read in omega (arith, p, q, f);
-          empty_home = c.empty;
-          full_home = c.full;
-          apart = c.apart;
-          out = c.out;
-        })
+      inside : k < length s.words
+      inside = let wide = r.wide in omega (arith, wide, lt)
 
-    box_there : (j : ℕ) → j < box_count t.plan.shards → j ≢ k
-        → MailboxInvariant t j (get_or (set s.words k n') j 0) (get_elem? homes' j) (total (fill_claims j) (set s.views id New))
-        (total (read_claims j) (set s.views id New))
-    box_there j jl ne =
-        let p : get_or s.words j 0 ≡ get_or (set s.words k n') j 0 = sym (get_or-set_other s.words k j n' 0 ne) in
-        let q : get_elem? s.homes j ≡ get_elem? homes' j = sym (c.others j ne) in
-        let f : total (fill_claims j) s.views ≡ total (fill_claims j) (set s.views id New) = let a = total_set (fill_claims j) s.views id v New c.at in let y = c.fills j ne in omega (arith, a, y) in
-        let g : total (read_claims j) s.views ≡ total (read_claims j) (set s.views id New) = let a = total_set (read_claims j) s.views id v New c.at in let y = c.reads j ne in omega (arith, a, y) in
-        subst (λ (z : ℕ × Place V × ℕ × ℕ). MailboxInvariant t j z.0 z.1 z.2 z.3) (λ i. (p i, q i, f i, g i)) (r.boxes j jl)
+      here : get_elem? homes' k ≡ some c.now
+      here = ap (λ (z : List (Option (Slot V))). get_elem? z k) c.homes_are ∙ set_here s.homes k c.now (let l = r.roomy in omega (arith, l, lt))
 
-    pub changes : FloorInvariant meaning t (record { words = set s.words k n'; homes = homes'; views = set s.views id New })
-        × HoldsShareIn (meaning t.diffusion.algebra) (network_of t) (place_in t) (core_of meaning t (r.events ++ map event_of items)) e × (e.setup ≡ t)
-    changes =
-        let n : ℕ = t.plan.shards in
-        let G = goes_on meaning t L W s r id v u b d e items c.moves (in_transit n (set s.words k n') homes') c.at c.one c.lists
-        (λ h. let p = mail_at n s.words s.homes homes' k n' h c.below inside c.others in let q = c.weighs h in omega (arith, p, q)) in
-        let apart : box_count n ≢ k = λ q. let lt = c.below in omega (arith, q, lt) in
-        let done_same : get_or (set s.words k n') (box_count n) 0 ≡ get_or s.words (box_count n) 0 = get_or-set_other s.words k (box_count n) n' 0 apart in (
-          record {
-            events = r.events ++ map event_of items;
-            shown = G.shown;
-            whole = G.whole;
-            below = G.below;
-            idle = idle_after meaning t s.views id New e refl r.idle;
-            counts = G.counts;
-            own = G.own;
-            best = G.best;
-            boxes = λ j jl. elim (cases_eq j k) [
-              | inl same ↦ subst (λ (z : ℕ). MailboxInvariant t z (get_or (set s.words k n') z 0) (get_elem? homes' z)
-                  (total (fill_claims z) (set s.views id New)) (total (read_claims z) (set s.views id New))) (sym same) box_here
-              | inr ne ↦ box_there j jl ne
-            ];
-            done = λ o. ended_more r.events (map event_of items) (r.done (sym done_same ∙ o));
-            seen = λ i y a sn. done_same ∙ (elim (at_set s.views id i New y a) [
-              | inl z ↦ r.seen id v c.at (sym c.seen ∙ ap (λ (x : View S V). x.seen) z.1 ∙ sn)
-              | inr z ↦ r.seen i y z.1 sn
-            ]);
-            wide = length-set s.words k n' ∙ r.wide;
-            roomy = c.long;
-            ordered = c.ordered;
-          },
-          G.share,
-          G.setup,
-        )
+      others : (j : ℕ) → j ≢ k → get_elem? homes' j ≡ get_elem? s.homes j
+      others j ne = ap (λ (z : List (Option (Slot V))). get_elem? z j) c.homes_are ∙ set_else s.homes k j c.now ne
+
+      box_here : MailboxInvariant t k (get_or (set s.words k n') k 0) (get_elem? homes' k) (total (fill_claims k) (set s.views id New)) (total (read_claims k) (set s.views id New))
+      box_here =
+          let f : is filling n' ≡ total (fill_claims k) (set s.views id New) = let p = total_set (fill_claims k) s.views id v New at in let q = (r.boxes k lt).fills_is in let x = c.fill in omega (arith, p, q, x) in
+          let g : is reading n' ≡ total (read_claims k) (set s.views id New) = let p = total_set (read_claims k) s.views id v New at in let q = (r.boxes k lt).reads_is in let x = c.read in omega (arith, p, q, x) in
+          let word = get_or-set_same s.words k n' 0 inside in
+          subst (λ (z : ℕ × Place V × ℕ × ℕ). MailboxInvariant t k z.0 z.1 z.2 z.3) (λ i. (sym word i, sym here i, f i, g i)) c.valid
+
+      box_there : (j : ℕ) → j < box_count t.plan.shards → j ≢ k
+          → MailboxInvariant t j (get_or (set s.words k n') j 0) (get_elem? homes' j) (total (fill_claims j) (set s.views id New))
+          (total (read_claims j) (set s.views id New))
+      box_there j jl ne =
+          let p : get_or s.words j 0 ≡ get_or (set s.words k n') j 0 = sym (get_or-set_other s.words k j n' 0 ne) in
+          let f : total (fill_claims j) s.views ≡ total (fill_claims j) (set s.views id New) = let a = total_set (fill_claims j) s.views id v New at in let y = c.fills j ne in omega (arith, a, y) in
+          let g : total (read_claims j) s.views ≡ total (read_claims j) (set s.views id New) = let a = total_set (read_claims j) s.views id v New at in let y = c.reads j ne in omega (arith, a, y) in
+          subst (λ (z : ℕ × Place V × ℕ × ℕ). MailboxInvariant t j z.0 z.1 z.2 z.3) (λ i. (p i, sym (others j ne) i, f i, g i)) (r.boxes j jl)
+
+      pub changes : FloorInvariant meaning t (record { words = set s.words k n'; homes = homes'; views = set s.views id New })
+          × HoldsShareIn (meaning t.diffusion.algebra) (network_of t) (place_in t) (core_of meaning t (r.events ++ map event_of items)) e × (e.setup ≡ t)
+      changes =
+          let n : ℕ = t.plan.shards in
+          let G = goes_on meaning t L W s r id v u b d e items T (in_transit n (set s.words k n') homes') at one c.lists
+          (λ h. let p = mail_at n s.words s.homes homes' k n' h lt inside others in let q = c.weighs h in
+          let z = ap (box (h (dest n k)) n') here in omega (arith, p, q, z)) in
+          let done_same : get_or (set s.words k n') (box_count n) 0 ≡ get_or s.words (box_count n) 0 = get_or-set_other s.words k (box_count n) n' 0 (λ q. omega (arith, q, lt)) in (
+            record {
+              events = r.events ++ map event_of items;
+              shown = G.shown;
+              whole = G.whole;
+              below = G.below;
+              idle = idle_after meaning t s.views id New e refl r.idle;
+              counts = G.counts;
+              own = G.own;
+              best = G.best;
+              boxes = λ j jl. elim (cases_eq j k) [
+                | inl same ↦ subst (λ (z : ℕ). MailboxInvariant t z (get_or (set s.words k n') z 0) (get_elem? homes' z)
+                    (total (fill_claims z) (set s.views id New)) (total (read_claims z) (set s.views id New))) (sym same) box_here
+                | inr ne ↦ box_there j jl ne
+              ];
+              done = λ o. ended_more r.events (map event_of items) (r.done (sym done_same ∙ o));
+              seen = λ i y a sn. done_same ∙ (elim (at_set s.views id i New y a) [
+                | inl z ↦ r.seen id v at (sym c.seen ∙ ap (λ (x : View S V). x.seen) z.1 ∙ sn)
+                | inr z ↦ r.seen i y z.1 sn
+              ]);
+              wide = length-set s.words k n' ∙ r.wide;
+              roomy = ap length c.homes_are ∙ length-set s.homes k c.now ∙ r.roomy;
+              ordered = c.ordered;
+            },
+            G.share,
+            G.setup,
+          )

@@ -18,14 +18,14 @@ use Rattle.shard_store.specs.Setup.{SetupData, network_of, place_in, IsPlanned}
 use Rattle.shard_store.specs.Totals.{total, is}
 use Rattle.shard_part.specs.Weights.{All, part_weight}
 use Rattle.shard_part.specs.Handling.{HandledAll}
-use Rattle.shard_part.specs.Represents.{HoldsTables, HoldsShareIn, RepresentsIn, Represents}
+use Rattle.shard_part.specs.Represents.{HoldsTables, HoldsShareIn, RepresentsIn, Represents, core_of}
 use Rattle.shard_part.specs.OnePart.{AreBestFirstIfOne, OwnOutboxIsEmpty}
 use Rattle.shard_part.proofs.OnePartTakesTheBest.{best_first_more, own_stays, all_best}
 use Rattle.shard_store.proofs.Totals.{total_append}
 use Rattle.shard_part.proofs.Showing.{AllLawful, all_parts, all_append, shown_holds, swap_shown}
 use Rattle.shard_part.proofs.TakenCounts.{run_append, handled_same}
 use Rattle.post_floor.specs.declared.view.View.{View}
-use Rattle.post_floor.specs.Floor.{Slot, flat, AddUp, CountsNone, in_transit, core_of, FloorInvariant}
+use Rattle.post_floor.specs.Floor.{Slot, flat, AddUp, CountsNone, in_transit, FloorInvariant}
 use Rattle.post_floor.specs.Plays.{IsViewOf, StepsTo}
 use Rattle.post_floor.proofs.Totals.{total_set}
 use Rattle.post_floor.proofs.Parts.{stands}

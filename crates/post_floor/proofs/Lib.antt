@@ -1,4 +1,4 @@
-mod Totals
+pub mod Totals
 pub mod Parts
 mod Order
 pub mod Ordering
@@ -6,8 +6,7 @@ mod OneShard
 mod Keeps
 mod Changes
 mod Exchanges
-mod Done
-mod Told
+pub mod Done
 mod Called
 mod Turning
 mod Claiming

@@ -1,6 +1,7 @@
 -- With one shard there is one part, and no mailbox is full.
 use Rattle.std.proofs.Common.{◌≡◌, ℕ, ◌<◌, Bool, cond, List, [], ◌∷◌, ◌++◌, length, get_or, refl, sym, ap, ◌∙◌, subst, inl, inr, arith, ne_eqb, length-append}
 use Rattle.std.proofs.lemmas.Bool.{cases_eq}
+use Rattle.std.proofs.lemmas.List.{nil_from_length}
 use lib.ListN.{get_elem?}
 use Rattle.atomic_table.specs.Table.{State}
 use Rattle.path_algebra.specs.Algebra.{Algebra}
@@ -18,8 +19,7 @@ use Rattle.post_floor.specs.Floor.{Slot, flat, box, load_place, in_transit, Floo
 use Rattle.post_floor.proofs.Opened.{ends_below}
 
 total_short : {X : Type 0} (f : X → ℕ) (xs : List X) → length xs ≡ 0 → total f xs ≡ 0
-total_short f [] l = refl
-total_short f (x ∷ xs) l = absurd (omega (arith, l))
+total_short f xs l = ap (total f) (nil_from_length xs l)
 
 module _ {S V : Type 0} where
   -- parts that are all of shard 0 are as many as are of it

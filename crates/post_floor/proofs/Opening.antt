@@ -13,7 +13,7 @@ use Rattle.shard_part.specs.PartState.{PartData}
 use Rattle.shard_store.specs.Setup.{SetupData, place_in, IsPlanned}
 use Rattle.shard_store.specs.Totals.{total, is}
 use Rattle.shard_part.specs.Weights.{All}
-use Rattle.shard_part.specs.Represents.{Represents}
+use Rattle.shard_part.specs.Represents.{Represents, core_of}
 use Rattle.shard_part.specs.OnePart.{OwnOutboxIsEmpty}
 use Rattle.shard_part.specs.Opening.{opened_parts}
 use Rattle.shard_store.proofs.Totals.{sum_zero, sum_below_same}
@@ -69,7 +69,7 @@ module _ {S V : Type 0} (meaning : S → Algebra V) (t : SetupData S) (P : IsPla
       (λ k lt. ap (λ (z : ℕ). box (h (dest n k)) z (get_elem? hs k)) (zero_at k)) ∙ sum_zero (λ _. 0) (box_count n) (λ _. refl) in
       let all : flat (v ∷ []) ≡ ps = append-nil ps in record {
         events = [];
-        shown = subst (λ (l : List (PartData S V)). Represents meaning t l (in_transit n ws hs) (Rattle.post_floor.specs.Floor.core_of meaning t [])) (sym all)
+        shown = subst (λ (l : List (PartData S V)). Represents meaning t l (in_transit n ws hs) (core_of meaning t [])) (sym all)
             (record { same = opened_same (meaning t.diffusion.algebra) t P; shown = opened_show (meaning t.diffusion.algebra) t P (in_transit n ws hs) none' });
         whole = λ j lt. ap (total (λ (p : PartData S V). is j p.shard)) all ∙ one_each (meaning t.diffusion.algebra) t j 0 n (omega arith) (omega (arith, lt));
         below = subst (All (λ (p : PartData S V). p.shard < n)) (sym all) (all_below (meaning t.diffusion.algebra) t n 0 n (omega arith));

@@ -8,10 +8,10 @@ use Rattle.scholten_core.proofs.EveryRun.{ended_is_quiet, ended_is_best}
 use Rattle.scholten_core.proofs.Networks.{well_formed}
 use Rattle.shard_part.specs.PartState.{PartData}
 use Rattle.shard_store.specs.Setup.{SetupData, network_of, place_in, IsPlanned}
-use Rattle.shard_part.specs.Represents.{Represents}
+use Rattle.shard_part.specs.Represents.{Represents, core_of}
 use Rattle.shard_part.proofs.Showing.{AllLawful}
 use Rattle.shard_part.proofs.UnderWay.{ended_empty}
-use Rattle.post_floor.specs.Floor.{core_of, RepresentsQuiet}
+use Rattle.post_floor.specs.Floor.{RepresentsQuiet}
 
 module _ {S V : Type 0} (meaning : S → Algebra V) (t : SetupData S) (L : AllLawful meaning) (P : IsPlanned t 0) where
   pub all_over : (ps : List (PartData S V)) (mailed : (ℕ → Item V → ℕ) → ℕ) (events : List Event)

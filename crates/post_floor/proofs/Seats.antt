@@ -11,13 +11,13 @@ use Rattle.shard_part.specs.PartState.{PartData}
 use Rattle.shard_store.specs.Setup.{SetupData, network_of, place_in}
 use Rattle.shard_store.specs.Totals.{total, is}
 use Rattle.shard_part.specs.Weights.{All, part_weight}
-use Rattle.shard_part.specs.Represents.{HoldsTables}
+use Rattle.shard_part.specs.Represents.{HoldsTables, core_of}
 use Rattle.shard_part.specs.OnePart.{OwnOutboxIsEmpty}
 use Rattle.shard_store.proofs.Totals.{total_append}
 use Rattle.shard_part.proofs.Showing.{all_append, all_parts}
 use Rattle.post_floor.specs.declared.view.View.{View}
 use Rattle.post_floor.specs.Boxes.{box_count, AreInOrder}
-use Rattle.post_floor.specs.Floor.{Slot, flat, fill_claims, read_claims, CountsNone, MailboxInvariant, core_of, IsSeatOf, words_between, FloorInvariant}
+use Rattle.post_floor.specs.Floor.{Slot, flat, fill_claims, read_claims, CountsNone, MailboxInvariant, IsSeatOf, words_between, FloorInvariant}
 use Rattle.post_floor.specs.Seats.{tail, first_alone, cut_left, cut_right, aside_left, aside_right, both, spent}
 use Rattle.post_floor.proofs.Totals.{total_set}
 use Rattle.post_floor.proofs.Parts.{flat_total, flat_each, flat_at}

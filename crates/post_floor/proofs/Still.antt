@@ -1,5 +1,5 @@
 -- A floor on which nothing can move shows a state that has ended.
-use Rattle.std.proofs.Common.{◌≡◌, ◌≢◌, ◌⊎◌, ℕ, zero, suc, ◌+◌, ◌*◌, ◌/◌, ◌%◌, ◌<◌, Bool, true, false, not, ◌&&◌, eqb, eq-eqb, List, [], ◌∷◌, get_or, refl, sym, ap, ◌∙◌, subst, inl, inr, arith}
+use Rattle.std.proofs.Common.{◌≡◌, ◌≢◌, ◌⊎◌, ℕ, zero, suc, ◌+◌, ◌*◌, ◌/◌, ◌%◌, ◌<◌, true, List, [], ◌∷◌, get_or, refl, sym, ap, ◌∙◌, subst, inl, inr, arith}
 use Rattle.std.proofs.lemmas.Bool.{cases_eq}
 use Rattle.std.proofs.lemmas.Nat.{div-add-mod'}
 use Rattle.std.proofs.Math.Nat.{mod-lt}
@@ -8,24 +8,25 @@ use lib.ListN.{get_elem?}
 use Rattle.atomic_table.specs.Table.{State}
 use Rattle.path_algebra.specs.Algebra.{Algebra}
 use Rattle.scholten_core.specs.declared.item.Item.{Item}
-use Rattle.scholten_core.specs.Diffusion.{HasEnded, is_idle}
+use Rattle.scholten_core.specs.Diffusion.{HasEnded}
 use Rattle.scholten_core.proofs.Networks.{well_formed}
-use Rattle.shard_part.specs.PartState.{PartData, token_if}
+use Rattle.shard_part.specs.PartState.{PartData}
 use Rattle.shard_store.specs.Setup.{SetupData, network_of, place_in, IsPlanned}
 use Rattle.shard_store.specs.Totals.{total, is}
 use Rattle.shard_part.specs.Weights.{All, part_weight, outs_weight}
 use Rattle.shard_store.proofs.Totals.{sum_below_same, sum_zero}
 use Rattle.shard_part.proofs.Showing.{AllLawful, is_self}
-use Rattle.shard_part.specs.Represents.{HoldsTables}
+use Rattle.shard_part.specs.Represents.{HoldsTables, core_of}
 use Rattle.shard_part.specs.Readings.{has_ended}
 use Rattle.shard_part.proofs.UnderWay.{ended_empty}
 use Rattle.post_floor.specs.declared.view.View.{View}
 use Rattle.post_floor.specs.Boxes.{empty, filling, full, reading, box_count, mailbox, dest, origin, slot_after, AreInOrder}
-use Rattle.post_floor.specs.Floor.{Slot, flat, fill_claims, read_claims, box, in_transit, words_between, IsSeatOf, core_of, FloorInvariant, Rests, IsStill}
+use Rattle.post_floor.specs.Floor.{Slot, flat, fill_claims, read_claims, box, in_transit, words_between, IsSeatOf, FloorInvariant, Rests, IsStill}
 use Rattle.post_floor.proofs.Totals.{total_none, is_one}
 use Rattle.post_floor.proofs.Parts.{flat_total, flat_each, flat_at}
 use Rattle.post_floor.proofs.Opened.{ends_below}
 use Rattle.post_floor.proofs.Order.{after_onto}
+use Rattle.post_floor.proofs.Done.{knows_over}
 
 -- a sum that is not 0 has a member that is not 0
 some_at : {A : Type 0} (f : A → ℕ) (xs : List A) → 0 < total f xs → (i : ℕ) × (x : A) × (get_elem? xs i ≡ some x) × (0 < f x)
@@ -51,10 +52,6 @@ all_map P Q (x ∷ xs) h a = (h 0 x refl a.0, all_map P Q xs (λ i y e. h (suc i
 outs_zero : {V : Type 0} (h : ℕ → Item V → ℕ) (k : ℕ) (os : List (List (Item V))) → ((j : ℕ) → get_or os j [] ≡ []) → outs_weight h k os ≡ 0
 outs_zero h k [] e = refl
 outs_zero h k (o ∷ os) e = let p : total (h k) o ≡ 0 = ap (total (h k)) (e 0) in let q = outs_zero h (suc k) os (λ j. e (suc j)) in omega (arith, p, q)
-
-idle_not : (V : Type 0) (z : Bool) → is_idle (token_if {V = V} z) ≡ true → not z ≡ true
-idle_not V true e = absurd cc
-idle_not V false e = refl
 
 -- a mailbox by its ends and its slot
 box_is : (n k : ℕ) → mailbox n (origin n k) (dest n k) (k % 4) ≡ k
@@ -180,7 +177,4 @@ module _ {S V : Type 0} (meaning : S → Algebra V) (t : SetupData S) (s : State
       let same : p.setup ≡ t = all_at (λ (q : PartData S V). q.setup ≡ t) v.parts i p (flat_at (λ (q : PartData S V). q.setup ≡ t) s.views id v r.shown.same at) has in
       let T = all_at (HoldsTables (meaning t.diffusion.algebra) (network_of t) (place_in t) (core_of meaning t r.events)) v.parts i p
       (flat_at (HoldsTables (meaning t.diffusion.algebra) (network_of t) (place_in t) (core_of meaning t r.events)) s.views id v r.shown.shown.tables at) has in
-      let mine : eqb (place_in t ((network_of t).tail 0)) p.shard ≡ true = ap (λ z. eqb (place_in t z) p.shard) W.tail_zero ∙ eq-eqb (place_in t 0) p.shard (sym here) in
-      let own : eqb (place_in p.setup 0) p.shard ≡ true = ap (λ (u : SetupData S). eqb (place_in u 0) p.shard) same ∙ eq-eqb (place_in t 0) p.shard (sym here) in
-      let idle : is_idle (token_if {V = V} (get_or p.busy 0 false)) ≡ true = T.agree.idle 0 mine ∙ ap is_idle (still_has_ended L P) in
-      (λ k. own k && idle_not V (get_or p.busy 0 false) idle k)
+      knows_over meaning t W p (core_of meaning t r.events) same T (sym here) (still_has_ended L P)

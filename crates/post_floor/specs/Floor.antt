@@ -9,7 +9,7 @@ use Rattle.path_algebra.specs.Algebra.{Algebra}
 use Rattle.scholten_core.specs.declared.event.Event.{Event}
 use Rattle.scholten_core.specs.declared.item.Item.{Item}
 use Rattle.scholten_core.specs.Accounts.{Totals, totals_of}
-use Rattle.scholten_core.specs.Diffusion.{CoreState, state_after, HasEnded, IsQuiet}
+use Rattle.scholten_core.specs.Diffusion.{HasEnded, IsQuiet}
 use Rattle.scholten_core.specs.Reached.{LabelsAreBest}
 use Rattle.scholten_core.specs.Sums.{sum_below}
 use Rattle.shard_store.specs.Setup.{SetupData, network_of, place_in, IsPlanned}
@@ -17,7 +17,7 @@ use Rattle.shard_part.specs.PartState.{PartData}
 use Rattle.shard_store.specs.Totals.{total, is}
 use Rattle.shard_part.specs.Weights.{All, part_weight}
 use Rattle.shard_store.specs.Capacities.{outbox_bound}
-use Rattle.shard_part.specs.Represents.{Represents}
+use Rattle.shard_part.specs.Represents.{Represents, core_of}
 use Rattle.shard_part.specs.Arriving.{MadeAt}
 use Rattle.shard_part.specs.OnePart.{AreBestFirstIfOne, OwnOutboxIsEmpty}
 use Rattle.post_floor.specs.declared.view.View.{View}
@@ -118,23 +118,19 @@ pub record MailboxInvariant {S V : Type 0} (t : SetupData S) (k w : ℕ) (y : Pl
   pub out : (w ≡ filling) ⊎ (w ≡ reading) → y ≡ some none
 
 module _ {S V : Type 0} (meaning : S → Algebra V) (t : SetupData S) where
-  -- the state that a list of events leads to
-  abbrev pub core_of : List Event → CoreState V
-  core_of events = state_after (meaning t.diffusion.algebra) (network_of t) events
-
   -- What holds between any two steps: some events lead from the opening to a state that all views and all mailboxes represent, the views are of all
   -- shards, their counts add up to what the events did, each mailbox is as its word says, the slots between
   -- two shards are in order, and the done word says so only if the state has ended. No part has an item in its outbox to its own
   -- shard, and if there is one part, best first, the events take the best waiting message first.
   pub record FloorInvariant (s : State (Slot V) (View S V)) : Type 0 where
     pub events : List Event
-    pub shown : Represents meaning t (flat s.views) (in_transit t.plan.shards s.words s.homes) (core_of events)
+    pub shown : Represents meaning t (flat s.views) (in_transit t.plan.shards s.words s.homes) (core_of meaning t events)
     pub whole : (j : ℕ) → j < t.plan.shards → total (λ p. is j p.shard) (flat s.views) ≡ 1
     pub below : All (λ p. p.shard < t.plan.shards) (flat s.views)
     pub idle : (id : ℕ) (v : View S V) → get_elem? s.views id ≡ some v → v.parts ≡ [] → CountsNone v
     pub counts : AddUp s.views (totals_of (meaning t.diffusion.algebra) (network_of t) events)
     pub boxes : (k : ℕ) → k < box_count t.plan.shards → MailboxInvariant t k (get_or s.words k 0) (get_elem? s.homes k) (total (fill_claims k) s.views) (total (read_claims k) s.views)
-    pub done : get_or s.words (box_count t.plan.shards) 0 ≡ done_now → HasEnded (core_of events)
+    pub done : get_or s.words (box_count t.plan.shards) 0 ≡ done_now → HasEnded (core_of meaning t events)
     pub seen : (id : ℕ) (v : View S V) → get_elem? s.views id ≡ some v → v.seen ≡ true → get_or s.words (box_count t.plan.shards) 0 ≡ done_now
     pub wide : length s.words ≡ box_count t.plan.shards + 1
     pub roomy : length s.homes ≡ box_count t.plan.shards
@@ -145,18 +141,18 @@ module _ {S V : Type 0} (meaning : S → Algebra V) (t : SetupData S) where
   -- one view has all parts of a diffusion: with the mailboxes it represents a state that some events lead to, its counts are what these did, and if the done word says so, or it has seen that, the state has ended
   pub record FinalView (v : View S V) (ws : List ℕ) (hs : List (Option (Slot V))) : Type 0 where
     pub events : List Event
-    pub shown : Represents meaning t v.parts (in_transit t.plan.shards ws hs) (core_of events)
+    pub shown : Represents meaning t v.parts (in_transit t.plan.shards ws hs) (core_of meaning t events)
     pub counts : AddUp (v ∷ []) (totals_of (meaning t.diffusion.algebra) (network_of t) events)
-    pub done : get_or ws (box_count t.plan.shards) 0 ≡ done_now → HasEnded (core_of events)
-    pub seen : v.seen ≡ true → HasEnded (core_of events)
+    pub done : get_or ws (box_count t.plan.shards) 0 ≡ done_now → HasEnded (core_of meaning t events)
+    pub seen : v.seen ≡ true → HasEnded (core_of meaning t events)
     pub best : IsPlanned t 0 → AreBestFirstIfOne meaning t events
 
   -- after these events all is over: parts and mailboxes represent a state that has ended and is quiet, its labels are best, and no queue, outbox or mailbox holds an item
   pub record RepresentsQuiet (parts : List (PartData S V)) (mailed : (ℕ → Item V → ℕ) → ℕ) (events : List Event) : Type 0 where
-    pub shown : Represents meaning t parts mailed (core_of events)
-    pub ended : HasEnded (core_of events)
-    pub quiet : IsQuiet (core_of events)
-    pub best : LabelsAreBest (meaning t.diffusion.algebra) t.diffusion.roads t.diffusion.source (core_of events)
+    pub shown : Represents meaning t parts mailed (core_of meaning t events)
+    pub ended : HasEnded (core_of meaning t events)
+    pub quiet : IsQuiet (core_of meaning t events)
+    pub best : LabelsAreBest (meaning t.diffusion.algebra) t.diffusion.roads t.diffusion.source (core_of meaning t events)
     pub empty : total (part_weight (λ _ _. 1)) parts + mailed (λ _ _. 1) ≡ 0
 
 module _ {S V : Type 0} where

@@ -11,11 +11,11 @@ use Rattle.shard_store.specs.Tallies.{top}
 use Rattle.shard_store.specs.Setup.{SetupData}
 use Rattle.shard_part.specs.PartState.{PartData}
 use Rattle.shard_part.specs.Handling.{HandledAll}
-use Rattle.shard_part.specs.Represents.{HoldsShare}
+use Rattle.shard_part.specs.Represents.{HoldsShare, core_of}
 use Rattle.shard_part.specs.Arriving.{joined, MayReceive}
 use Rattle.post_floor.specs.declared.view.View.{View}
 use Rattle.post_floor.specs.Boxes.{empty, full, done_now, next_slot, mailbox, origin, dest, IsBetween}
-use Rattle.post_floor.specs.Floor.{Slot, mailbox_capacity, empty_slot, core_of, fill_claims, read_claims}
+use Rattle.post_floor.specs.Floor.{Slot, mailbox_capacity, empty_slot, fill_claims, read_claims}
 
 -- the list with its first k left out
 abbrev pub without : ℕ → List ℕ → List ℕ

@@ -13,7 +13,7 @@ use circular_buffer::HeapCircularBuffer;
 use path_algebra::PathAlgebra;
 
 /// Moves the first claim to the end.
-fn turn_claims(claims: &mut HeapCircularBuffer<usize>)
+fn rotate(claims: &mut HeapCircularBuffer<usize>)
     requires { (0 < length claims.old.items) × (length claims.old.items ≤ claims.old.capacity) }
     ensures { claims.new ≡ buffer (cycled claims.old.items) claims.old.capacity }
 {
@@ -33,7 +33,7 @@ fn is_first(claims: &HeapCircularBuffer<usize>, word: usize) -> bool
 }
 
 /// Rotates the claims and the slots until those of a mailbox are the first.
-pub(crate) fn bring<A: PathAlgebra>(
+pub(crate) fn rotate_to<A: PathAlgebra>(
     pass: &mut Pass<A>,
     claims: &mut HeapCircularBuffer<usize>,
     word: usize,
@@ -50,7 +50,7 @@ pub(crate) fn bring<A: PathAlgebra>(
     ensures first { (y : _) × (pass.new.me.1 ≡ (word, y) ∷ rest pass.new.me.1) }
 {
     while !is_first(claims, word) {
-        turn_claims(claims);
+        rotate(claims);
         pass.turn();
     }
 }

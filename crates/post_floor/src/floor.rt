@@ -8,7 +8,7 @@ ghost use Rattle.post_floor.specs.Data.{IsAt, IsFresh, IsSameSeat, fill_box, rea
 ghost use Rattle.post_floor.specs.Floor.{fill_claims, read_claims};
 ghost use Rattle.post_floor.specs.Plays.{FillOutcome, PublishOutcome, ReadOutcome, ClearOutcome, LookOutcome, published_to};
 
-use crate::claims::bring;
+use crate::claims::rotate_to;
 use crate::close::{Closed, all_seated, free, join_all, pass_of};
 use crate::exchange::{publish_batch, read_batch};
 use crate::hints::{Hints, Limit};
@@ -82,25 +82,25 @@ impl<A: PathAlgebra> Floor<A> {
         ))
     }
 
-    /// From now on a shard takes no message that is worse than the best value that another one shows, extended by an arc of this weight.
+    /// From now on a shard takes no message that is worse than the best value that another one advertises, extended by an arc of this weight.
     pub fn hold_back(&mut self, ahead: u32)
         ensures { self.new ≡ self.old }
     {
         self.hints.hold_back(ahead);
     }
 
-    /// How far a part may run ahead now, if shards are held back and another one shows a value.
+    /// How far a part may run ahead now, if shards are held back and another one advertises a value.
     pub fn limit(&self, part: &Part<'_, A>) -> Option<Limit<A::Value>>
         ensures { IfSome result (λ l. IsTrue (A.order l.best l.value)) }
     {
         self.hints.limit(part.algebra(), part.shard())
     }
 
-    /// Shows the best value that waits at a part, if shards are held back.
-    pub fn show(&self, part: &Part<'_, A>) {
-        if self.hints.hold() {
+    /// Advertises the best value that waits at a part, if shards are held back.
+    pub fn advertise(&self, part: &Part<'_, A>) {
+        if self.hints.holds_back() {
             self.hints
-                .show(part.algebra(), part.shard(), part.best_waiting());
+                .advertise(part.algebra(), part.shard(), part.best_waiting());
         }
     }
 
@@ -139,7 +139,7 @@ impl<A: PathAlgebra> Floor<A> {
         let at = to.0 as usize;
         let slot = seat.next_fill[at];
         let word = word_of(shards, seat.own, to, slot);
-        bring(&mut seat.pass, &mut seat.claims, word);
+        rotate_to(&mut seat.pass, &mut seat.claims, word);
         publish_batch(&self.table.shared, &mut seat.pass, part, to, word);
         seat.claims.pop_front();
         seat.next_fill[at] = next_slot(slot);
@@ -180,7 +180,7 @@ impl<A: PathAlgebra> Floor<A> {
         let at = from.0 as usize;
         let slot = seat.next_read[at];
         let word = word_of(shards, from, seat.own, slot);
-        bring(&mut seat.pass, &mut seat.claims, word);
+        rotate_to(&mut seat.pass, &mut seat.claims, word);
         clear_word::<A, Brand>(&self.table.shared, &mut seat.pass, part, word);
         seat.claims.pop_front();
         seat.next_read[at] = next_slot(slot);
@@ -195,12 +195,8 @@ impl<A: PathAlgebra> Floor<A> {
         ensures told { LookOutcome A.meaning true part.now (box_count self.now.setup.plan.shards)
             seat.old.knows seat.new.knows }
     {
-        announce_word::<A, Brand>(
-            &self.table.shared,
-            &mut seat.pass,
-            part,
-            mailbox_count(self.shards),
-        );
+        let done = mailbox_count(self.shards);
+        announce_word::<A, Brand>(&self.table.shared, &mut seat.pass, part, done);
     }
 
     /// Whether the end was announced. If so, the state that the floor represents has ended and is quiet, and the part holds its share of it.
@@ -211,12 +207,8 @@ impl<A: PathAlgebra> Floor<A> {
         ensures told { LookOutcome A.meaning result part.now (box_count self.now.setup.plan.shards)
             seat.old.knows seat.new.knows }
     {
-        look_word::<A, Brand>(
-            &self.table.shared,
-            &mut seat.pass,
-            part,
-            mailbox_count(self.shards),
-        ) == DONE
+        let done = mailbox_count(self.shards);
+        look_word::<A, Brand>(&self.table.shared, &mut seat.pass, part, done) == DONE
     }
 
     /// Closes the floor with the seats of all its shards, whatever claims they have open. If a shard's seat is missing, floor and seats come back as they were.

@@ -1,4 +1,4 @@
-//! What each shard shows to the others of the best value that waits there. No promise rests on it.
+//! What each shard advertises to the others of the best value that waits there. No promise rests on it.
 ghost use Rattle.std.specs.Prelude.{◌≡◌, IsTrue, IfSome};
 
 use crossbeam_utils::CachePadded;
@@ -7,13 +7,13 @@ use shard_part::Shard;
 use std::alloc::{AllocError, Global};
 use std::sync::atomic::{AtomicU64, Ordering};
 
-/// Nothing waits, or nothing was shown yet.
+/// Nothing waits, or nothing was advertised yet.
 const NOTHING: u64 = u64::MAX;
 
 /// How far a shard may run ahead of the others.
 #[derive(Clone, Copy)]
 pub struct Limit<V> {
-    /// The best value that another shard shows.
+    /// The best value that another shard advertises.
     pub best: V,
     /// The same after one more arc: what is worse is held back.
     pub value: V,
@@ -27,7 +27,7 @@ pub(crate) struct Hints {
 }
 
 impl Hints {
-    /// Nothing is shown, and no shard is held back.
+    /// Nothing is advertised, and no shard is held back.
     pub(crate) fn new(alloc: Global, shards: usize) -> Result<Hints, AllocError> {
         let mut words = Vec::with_capacity(alloc, shards)?;
         for _ in 0..shards {
@@ -42,12 +42,12 @@ impl Hints {
     }
 
     /// Whether shards are held back.
-    pub(crate) fn hold(&self) -> bool {
+    pub(crate) fn holds_back(&self) -> bool {
         self.ahead.is_some()
     }
 
-    /// Shows the best value that waits at a shard.
-    pub(crate) fn show<A: PathAlgebra>(&self, algebra: A, own: Shard, best: Option<A::Value>) {
+    /// Advertises the best value that waits at a shard.
+    pub(crate) fn advertise<A: PathAlgebra>(&self, algebra: A, own: Shard, best: Option<A::Value>) {
         let code = match best {
             Some(value) => algebra.code(value),
             None => NOTHING,
@@ -57,7 +57,7 @@ impl Hints {
         }
     }
 
-    /// The best value that another shard shows.
+    /// The best value that another shard advertises.
     fn best_of_others<A: PathAlgebra>(&self, algebra: A, own: Shard) -> Option<A::Value>
         ensures { IfSome result (λ x. IsTrue ((A.meaning algebra).is_value x)) }
     {
@@ -71,7 +71,7 @@ impl Hints {
         best
     }
 
-    /// How far a shard may run ahead now, if shards are held back and another one shows a value.
+    /// How far a shard may run ahead now, if shards are held back and another one advertises a value.
     pub(crate) fn limit<A: PathAlgebra>(&self, algebra: A, own: Shard) -> Option<Limit<A::Value>>
         ensures { IfSome result (λ l. IsTrue (A.order l.best l.value)) }
     {

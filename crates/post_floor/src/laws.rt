@@ -12,8 +12,9 @@ ghost use Rattle.shard_store.specs.Totals.{total};
 ghost use Rattle.shard_part.specs.OnePart.{HasOneBestFirstPart};
 ghost use Rattle.shard_part.specs.PartState.{PartData};
 ghost use Rattle.shard_part.specs.Readings.{has_ended};
+ghost use Rattle.shard_part.specs.Represents.{core_of};
 ghost use Rattle.post_floor.specs.declared.view.View.{View};
-ghost use Rattle.post_floor.specs.Floor.{Slot, flat, in_transit, FloorInvariant, FinalView, RepresentsQuiet, IsStill, core_of};
+ghost use Rattle.post_floor.specs.Floor.{Slot, flat, in_transit, FloorInvariant, FinalView, RepresentsQuiet, IsStill};
 
 use path_algebra::PathAlgebra;
 

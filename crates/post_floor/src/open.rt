@@ -59,7 +59,7 @@ pub(crate) fn batches<A: PathAlgebra>(
 }
 
 /// The seat of one part, with no claim: the first slot of each row comes next.
-fn sit<A: PathAlgebra>(
+fn seat_one<A: PathAlgebra>(
     alloc: Global,
     pass: Pass<A>,
     shard: Shard,
@@ -100,7 +100,7 @@ pub(crate) fn seat_all<A: PathAlgebra>(
     let mut seats = Vec::new(alloc);
     for shard in 0..shards {
         let own = table.split_seat::<Cut>(&mut pass);
-        let seat = sit(alloc, own, Shard(shard as u8), shards)?;
+        let seat = seat_one(alloc, own, Shard(shard as u8), shards)?;
         seats.push(seat)?;
     }
     Ok(seats)

@@ -1,43 +1,40 @@
 -- With one shard each turn before the end goes on.
-use Rattle.std.proofs.Common.{◌≡◌, ◌≢◌, ℕ, zero, suc, ◌+◌, ◌⊎◌, Bool, true, false, ◌&&◌, eqb, eq-eqb, List, [], ◌∷◌, ◌++◌, length, get_or, refl, sym, ap, ◌∙◌, subst, inl, inr, arith, length-append}
-use Rattle.std.specs.Prelude.{Contains, not}
+use Rattle.std.proofs.Common.{◌≡◌, ◌≢◌, ℕ, zero, suc, ◌+◌, ◌⊎◌, true, false, List, [], ◌∷◌, ◌++◌, length, get_or, refl, sym, ap, ◌∙◌, subst, inl, inr, arith, length-append}
+use Rattle.std.specs.Prelude.{Contains}
+use Rattle.std.proofs.lemmas.List.{nil_from_length}
 use Rattle.path_algebra.specs.Algebra.{Algebra}
 use Rattle.scholten_core.specs.declared.event.Event.{Event}
 use Rattle.scholten_core.specs.declared.item.Item.{Item}
 use Rattle.scholten_core.specs.Network.{Network, WellFormed}
-use Rattle.scholten_core.specs.Diffusion.{CoreState, opening, step, run_from, state_after, is_idle, count_enabled, HasEnded}
+use Rattle.scholten_core.specs.Diffusion.{CoreState, opening, step, run_from, count_enabled, HasEnded}
 use Rattle.scholten_core.proofs.Networks.{well_formed}
 use Rattle.shard_store.specs.Setup.{SetupData, network_of, place_in, IsPlanned}
 use Rattle.shard_store.proofs.Graphs.{place_below}
-use Rattle.shard_part.specs.PartState.{PartData, token_if}
+use Rattle.shard_part.specs.PartState.{PartData}
 use Rattle.shard_part.specs.OnePart.{OwnOutboxIsEmpty}
 use Rattle.shard_part.specs.Opening.{opened_part, opened_parts}
 use Rattle.shard_part.specs.Part.{HandledMany, IsShownOn}
 use Rattle.shard_part.specs.Readings.{has_ended}
-use Rattle.shard_part.specs.Represents.{HoldsShareIn, Represents}
+use Rattle.shard_part.specs.Represents.{HoldsShareIn, Represents, core_of}
 use Rattle.shard_part.specs.Waiting.{QueueWaits, OutboxWaits, MailWaits}
 use Rattle.shard_part.proofs.OnePartTakesTheBest.{own_stays}
 use Rattle.shard_part.proofs.OpenedAll.{opened_show, opened_same}
 use Rattle.shard_part.proofs.TakenCounts.{handled_same}
 use Rattle.atomic_table.specs.Seated.{TableId}
 use Rattle.post_floor.specs.Data.{FloorData, read_box}
-use Rattle.post_floor.specs.Floor.{core_of}
 use Rattle.post_floor.specs.Plays.{HoldsReachedShare}
+use Rattle.post_floor.proofs.Done.{knows_over}
 use Rattle.station.specs.declared.turn.Report.{Report}
 use Rattle.station.specs.Opened.{station_of}
 use Rattle.station.specs.Station.{StationData}
 use Rattle.station.specs.Tries.{AreTries}
 use Rattle.station.specs.Turn.{Turned, Tried, Worked, SentOff, received}
 use Rattle.station.specs.OneShard.{HasOneShard, HasAll, WentOn}
-use Rattle.station.proofs.QuietRound.{none_at_all, none_beyond}
+use Rattle.station.proofs.QuietRound.{none_beyond}
 
 only : {X : Type 0} (x y : X) → Contains (x ∷ []) y → y ≡ x
 only x y (zero, l, e) = sym e
 only x y (suc k, l, e) = absurd (omega (arith, l))
-
-idle_not : (V : Type 0) (z : Bool) → is_idle (token_if {V = V} z) ≡ true → not z ≡ true
-idle_not V true e = absurd cc
-idle_not V false e = refl
 
 count_append : {V : Type 0} (A : Algebra V) (N : Network) (c : CoreState V) (es fs : List Event)
     → count_enabled A N c (es ++ fs) ≡ count_enabled A N c es + count_enabled A N (run_from A N c es) fs
@@ -84,8 +81,8 @@ module _ {S V : Type 0} (meaning : S → Algebra V) (t : SetupData S) (O : HasOn
 
     -- with nothing in its queue the part knows the end
     empty_knows : (waits : (t : SetupData S) (events : List Event) (parts : List (PartData S V)) (mail : (ℕ → Item V → ℕ) → ℕ) → WellFormed (network_of t)
-        → Represents meaning t parts mail (state_after (meaning t.diffusion.algebra) (network_of t) events)
-        → HasEnded (state_after (meaning t.diffusion.algebra) (network_of t) events) ⊎ (QueueWaits parts ⊎ (OutboxWaits parts ⊎ MailWaits mail)))
+        → Represents meaning t parts mail (core_of meaning t events)
+        → HasEnded (core_of meaning t events) ⊎ (QueueWaits parts ⊎ (OutboxWaits parts ⊎ MailWaits mail)))
         → p.queue ≡ [] → has_ended p ≡ true
     empty_knows waits none =
         let over : HasEnded (core_of meaning t events) = elim (waits t events (p ∷ []) (λ _. 0) formed shown) [
@@ -99,11 +96,7 @@ module _ {S V : Type 0} (meaning : S → Algebra V) (t : SetupData S) (O : HasOn
           ]
         ] in
         let here : place_in t 0 ≡ p.shard = (let l = place_below t 0 O.planned 0 in let e = O.one in omega (arith, l, e, shard)) in
-        let T = shown.shown.tables.0 in
-        let mine : eqb (place_in t (N.tail 0)) p.shard ≡ true = ap (λ z. eqb (place_in t z) p.shard) formed.tail_zero ∙ eq-eqb (place_in t 0) p.shard here in
-        let home : eqb (place_in p.setup 0) p.shard ≡ true = ap (λ (u : SetupData S). eqb (place_in u 0) p.shard) same ∙ eq-eqb (place_in t 0) p.shard here in
-        let idle : is_idle (token_if {V = V} (get_or p.busy 0 false)) ≡ true = T.agree.idle 0 mine ∙ ap is_idle over in
-        (λ k. home k && idle_not V (get_or p.busy 0 false) idle k)
+        knows_over meaning t formed p (core_of meaning t events) same shown.shown.tables.0 here over
 
   pub opened_has_all : (id : TableId) → HasAll meaning t [] (station_of id t.plan.shards (opened_part A t 0))
   opened_has_all id =
@@ -118,10 +111,10 @@ module _ {S V : Type 0} (meaning : S → Algebra V) (t : SetupData S) (O : HasOn
 
 module _ {S V : Type 0} (meaning : S → Algebra V) (f : FloorData S) (O : HasOneShard f.setup) (budget : ℕ) (events : List Event) (before : StationData S V) (r : Report) (after : StationData S V)
     (shows : (t : SetupData S) (events : List Event) (before after : List (PartData S V)) (p q : PartData S V) (n : ℕ) (mail : (ℕ → Item V → ℕ) → ℕ) → WellFormed (network_of t)
-    → Represents meaning t (before ++ p ∷ after) mail (state_after (meaning t.diffusion.algebra) (network_of t) events) → HandledMany meaning p n q → IsShownOn meaning t events (before ++ q ∷ after) mail n)
+    → Represents meaning t (before ++ p ∷ after) mail (core_of meaning t events) → HandledMany meaning p n q → IsShownOn meaning t events (before ++ q ∷ after) mail n)
     (waits : (t : SetupData S) (events : List Event) (parts : List (PartData S V)) (mail : (ℕ → Item V → ℕ) → ℕ) → WellFormed (network_of t)
-    → Represents meaning t parts mail (state_after (meaning t.diffusion.algebra) (network_of t) events)
-    → HasEnded (state_after (meaning t.diffusion.algebra) (network_of t) events) ⊎ (QueueWaits parts ⊎ (OutboxWaits parts ⊎ MailWaits mail)))
+    → Represents meaning t parts mail (core_of meaning t events)
+    → HasEnded (core_of meaning t events) ⊎ (QueueWaits parts ⊎ (OutboxWaits parts ⊎ MailWaits mail)))
     (H : HasAll meaning f.setup events before) (going : before.ended ≡ false) (D : Turned meaning f budget before r after) where
   abbrev work : Worked meaning budget before.part r after.part
   work = D.worked
@@ -134,7 +127,7 @@ module _ {S V : Type 0} (meaning : S → Algebra V) (f : FloorData S) (O : HasOn
       (subst (λ n. AreTries 2 0 (λ j. j ≢ before.seat.shard) (read_box f before.seat) n tried.full before.seat.knows.steps tried.read) O.one tried.reads)
 
   filled : work.filled ≡ before.part
-  filled = work.received_all ∙ ap (received before.part) (none_at_all work.batches (work.taken ∙ sym tried.taken ∙ ap length nothing_came))
+  filled = work.received_all ∙ ap (received before.part) (nil_from_length work.batches (work.taken ∙ sym tried.taken ∙ ap length nothing_came))
 
   handled : HandledMany meaning before.part r.handled work.emptied
   handled = subst (λ (p : PartData S V). HandledMany meaning p r.handled work.emptied) filled work.handled

@@ -6,10 +6,9 @@ use Rattle.std.proofs.lemmas.List.Elements.{All-map, All-weaker}
 use Rattle.path_algebra.specs.Algebra.{Algebra}
 use Rattle.shard_part.specs.Opening.{opened_part, opened_parts}
 use Rattle.shard_part.specs.PartState.{PartData}
-use Rattle.shard_store.specs.Setup.{SetupData, network_of}
+use Rattle.shard_store.specs.Setup.{SetupData}
 use Rattle.shard_part.specs.Weights.{All}
-use Rattle.shard_part.specs.Represents.{HoldsShare}
-use Rattle.scholten_core.specs.Diffusion.{state_after}
+use Rattle.shard_part.specs.Represents.{HoldsShare, core_of}
 use Rattle.post_floor.specs.Data.{FloorData}
 use Rattle.post_floor.specs.Plays.{HoldsReachedShare}
 use Rattle.post_floor.proofs.Opened.{opened_shows}
@@ -30,9 +29,9 @@ opened_next A t n ps qs p e o h =
 
 -- a part as it is opened holds its share of the opening
 pub known_opened : {S V : Type 0} (meaning : S → Algebra V) (t : SetupData S) (s : ℕ) (p : PartData S V)
-    → p ≡ opened_part (meaning t.diffusion.algebra) t s → HoldsShare meaning (state_after (meaning t.diffusion.algebra) (network_of t) []) p
+    → p ≡ opened_part (meaning t.diffusion.algebra) t s → HoldsShare meaning (core_of meaning t []) p
     → HoldsReachedShare meaning p
-known_opened meaning t s p e h = subst (λ z. HoldsReachedShare meaning z) (sym e) ([], subst (HoldsShare meaning (state_after (meaning t.diffusion.algebra) (network_of t) [])) e h)
+known_opened meaning t s p e h = subst (λ z. HoldsReachedShare meaning z) (sym e) ([], subst (HoldsShare meaning (core_of meaning t [])) e h)
 
 pub some_seat : {X Y : Type 0} (f : X → Y) (ps qs : List X) (p : X) (ds : List Y) → ps ≡ qs ++ p ∷ [] → ds ≡ map f ps → ds ≡ [] → ⊥
 some_seat f ps qs p ds e m h = let a = ap length (sym h ∙ m) in let b = length-map ps f in let c = ap length e in let d = length_push qs p in omega (arith, a, b, c, d)

@@ -1,5 +1,5 @@
 -- A part that holds its share of an ended state.
-use Rattle.std.proofs.Common.{◌≡◌, ℕ, suc, ◌+◌, Bool, true, false, [], ◌∷◌, get_or, refl, sym, ap, ◌∙◌, subst, arith, eq-eqb}
+use Rattle.std.proofs.Common.{◌≡◌, ℕ, suc, ◌+◌, false, [], ◌∷◌, get_or, refl, sym, ap, ◌∙◌, subst, arith, eq-eqb}
 use Rattle.std.proofs.lemmas.List.{nil_from_length}
 use Rattle.path_algebra.specs.Algebra.{Algebra, IsLawful}
 use Rattle.path_algebra.specs.Walks.{IsBestLabel}
@@ -8,19 +8,16 @@ use Rattle.scholten_core.specs.declared.token.Token.{Token}
 use Rattle.scholten_core.specs.Diffusion.{CoreState, is_idle}
 use Rattle.scholten_core.specs.Items.{item_of}
 use Rattle.scholten_core.proofs.EveryRun.{ended_is_best}
-use Rattle.shard_part.specs.PartState.{PartData, token_if}
+use Rattle.shard_part.specs.PartState.{PartData}
 use Rattle.shard_store.specs.Setup.{network_of, place_in, IsPlanned}
 use Rattle.shard_store.specs.Totals.{total}
 use Rattle.shard_part.specs.Weights.{in_flight, at_place}
-use Rattle.shard_store.proofs.Totals.{sum_below_same, sum_zero}
+use Rattle.shard_part.specs.Represents.{core_of}
+use Rattle.shard_store.proofs.Totals.{sum_zero}
 use Rattle.shard_part.proofs.Room.{each_one, outs_member}
-use Rattle.post_floor.specs.Floor.{core_of}
 use Rattle.post_floor.specs.Plays.{HoldsEndedShare}
+use Rattle.post_floor.proofs.Done.{idle_not}
 use Rattle.station.specs.Station.{IsOverPart}
-
-not_busy : (V : Type 0) (z : Bool) → is_idle (token_if {V = V} z) ≡ true → z ≡ false
-not_busy V true e = absurd cc
-not_busy V false e = refl
 
 module _ {S V : Type 0} (meaning : S → Algebra V) where
   pub is_over : (p : PartData S V) (s : ℕ) → IsLawful (meaning p.setup.diffusion.algebra) → IsPlanned p.setup s → HoldsEndedShare meaning p → IsOverPart meaning p
@@ -29,12 +26,11 @@ module _ {S V : Type 0} (meaning : S → Algebra V) where
       let c : CoreState V = core_of meaning p.setup events in
       let B = ended_is_best A p.setup.diffusion.roads p.setup.diffusion.source L P.roads P.source.0 events h in
       let one : ℕ → Item V → ℕ = λ _ _. 1 in
-      let none' : in_flight N place c one ≡ 0 = sum_below_same (λ b. total (at_place N place one) (item_of b (c.token b))) (λ _. 0) (suc N.arcs)
-      (λ b lt. ap (λ (k : Token V). total (at_place N place one) (item_of b k)) (Q.0 b)) ∙ sum_zero (λ _. 0) (suc N.arcs) (λ _. refl) in
+      let none' : in_flight N place c one ≡ 0 = sum_zero (λ b. total (at_place N place one) (item_of b (c.token b))) (suc N.arcs) (λ b. ap (λ (k : Token V). total (at_place N place one) (item_of b k)) (Q.0 b)) in
       let w = H.weighs one in record {
         best = λ v own. subst (IsBestLabel A p.setup.diffusion.roads (p.setup.diffusion.source ∷ []) v) (sym (H.tables.agree.label v (eq-eqb _ _ own.1))) (B v own.0);
         neutral = λ v own. H.tables.agree.engager v (eq-eqb _ _ own.1) ∙ Q.1 v;
-        idle = λ b here. not_busy V (get_or p.busy b false) (H.tables.agree.idle b (eq-eqb _ _ here) ∙ ap is_idle (Q.0 b));
+        idle = λ b here. idle_not V (get_or p.busy b false) (H.tables.agree.idle b (eq-eqb _ _ here) ∙ ap is_idle (Q.0 b));
         queue = nil_from_length p.queue (let n = each_one (one p.shard) p.queue (λ i. refl) in omega (arith, w, n, none'));
         outs = λ j. nil_from_length (get_or p.outs j []) (let n = each_one (one (0 + j)) (get_or p.outs j []) (λ i. refl) in let m = outs_member one 0 j p.outs in omega (arith, w, n, m, none'));
       }

@@ -1,8 +1,8 @@
 -- A quiet round leaves the floor still.
 use Rattle.std.proofs.Common.{◌≡◌, ◌≢◌, ◌⊎◌, ℕ, zero, suc, ◌+◌, ◌<◌, ◌≤◌, Bool, true, List, [], ◌∷◌, ◌++◌, map, length, get_or, refl, sym, ap, ◌∙◌, subst, inl, inr, arith, append_assoc}
 use Rattle.std.specs.Prelude.{Contains}
-use Rattle.std.proofs.lemmas.Bool.{cases_eq, cases_lt, ne_eqb}
-use Rattle.std.proofs.lemmas.List.{append_cancel_left}
+use Rattle.std.proofs.lemmas.Bool.{cases_eq, cases_lt}
+use Rattle.std.proofs.lemmas.List.{append_cancel_left, nil_from_length}
 use mathlib.Core.Option.{some, some-injective}
 use lib.ListN.{get_elem?}
 use Rattle.atomic_table.specs.Table.{State}
@@ -11,7 +11,6 @@ use Rattle.scholten_core.specs.declared.item.Item.{Item}
 use Rattle.scholten_core.specs.Network.{Network}
 use Rattle.scholten_core.specs.Diffusion.{CoreState}
 use Rattle.scholten_core.specs.Items.{item_of}
-use Rattle.scholten_core.specs.Sums.{one_if}
 use Rattle.shard_store.specs.Setup.{SetupData, network_of, place_in, IsPlanned}
 use Rattle.shard_store.specs.Totals.{total, is}
 use Rattle.shard_store.proofs.Graphs.{place_below}
@@ -21,32 +20,23 @@ use Rattle.shard_part.specs.Weights.{All, at_place, in_flight}
 use Rattle.shard_part.specs.Handling.{HandledAll}
 use Rattle.shard_part.specs.OnePart.{OwnOutboxIsEmpty}
 use Rattle.shard_part.specs.Readings.{has_ended}
+use Rattle.shard_part.specs.Represents.{core_of}
 use Rattle.shard_part.proofs.Room.{each_one, outs_member}
 use Rattle.shard_part.proofs.Showing.{all_parts, is_self}
 use Rattle.post_floor.specs.declared.view.View.{View}
 use Rattle.post_floor.specs.declared.view.WordStep.{WordStep}
 use Rattle.post_floor.specs.Boxes.{empty, full, box_count}
 use Rattle.post_floor.specs.Data.{FloorData, fill_box, read_box}
-use Rattle.post_floor.specs.Floor.{Slot, core_of, fill_claims, read_claims, words_between, FloorInvariant, Rests, IsStill}
+use Rattle.post_floor.specs.Floor.{Slot, fill_claims, read_claims, words_between, FloorInvariant, Rests, IsStill}
 use Rattle.post_floor.specs.Plays.{HoldsReachedShare}
 use Rattle.post_floor.proofs.Ordering.{box_below}
 use Rattle.post_floor.proofs.Parts.{flat_at}
+use Rattle.post_floor.proofs.Totals.{is_else, total_none}
 use Rattle.station.specs.Station.{ReportedEnd}
 use Rattle.station.specs.Tries.{at, AreTries, used}
 use Rattle.station.specs.Turn.{SentOff, Tried, Worked, received}
 use Rattle.station.specs.Round.{nothing_done, AreFound, IsSameMail, HasNoClaim, TurnAt, IsQuietTurn, AreQuietTurns, IsQuietRound}
 use Rattle.station.proofs.QuietTries.{Missed, AllMissed, all_missed}
-
-pub none_at_all : {A : Type 0} (xs : List A) → length xs ≡ 0 → xs ≡ []
-none_at_all [] e = refl
-none_at_all (x ∷ xs) e = absurd (omega (arith, e))
-
-weighs_none : {A : Type 0} (f : A → ℕ) (xs : List A) → ((x : A) → f x ≡ 0) → total f xs ≡ 0
-weighs_none f [] h = refl
-weighs_none f (x ∷ xs) h = let p = h x in let q = weighs_none f xs h in omega (arith, p, q)
-
-is_other : (j k : ℕ) → (j ≡ k → ⊥) → is j k ≡ 0
-is_other j k ne = ap one_if (ne_eqb j k ne)
 
 contains_split : {A : Type 0} (y : A) (ys : List A) (x : A) → Contains (y ∷ ys) x → (y ≡ x) ⊎ Contains ys x
 contains_split y ys x (zero, l, e) = inl e
@@ -75,9 +65,9 @@ module _ {S V : Type 0} (meaning : S → Algebra V) where
   -- work of which nothing came leaves the part as it was, with an empty queue
   idle_work : (budget : ℕ) (p q : PartData S V) (ended : Bool) → 0 < budget → (W : Worked meaning budget p (nothing_done ended) q) → (W.emptied ≡ p) × (q ≡ p) × (W.outboxes ≡ []) × (q.queue ≡ [])
   idle_work budget p q ended enough W =
-      let filled : W.filled ≡ p = W.received_all ∙ ap (received p) (none_at_all W.batches W.taken) in
+      let filled : W.filled ≡ p = W.received_all ∙ ap (received p) (nil_from_length W.batches W.taken) in
       let emptied : W.emptied ≡ p = sym (handled_none W.filled W.emptied W.handled.0 W.handled.1 W.handled.2) ∙ filled in
-      let unsent : W.outboxes ≡ [] = none_at_all W.outboxes W.published in
+      let unsent : W.outboxes ≡ [] = nil_from_length W.outboxes W.published in
       let left : W.emptied ≡ q = subst (λ (js : List ℕ). SentOff js W.emptied q) unsent W.sent in (
         emptied,
         sym left ∙ emptied,
@@ -89,50 +79,45 @@ module _ {S V : Type 0} (meaning : S → Algebra V) where
       )
 
   none_in_flight : (N : Network) (place : ℕ → ℕ) (c : CoreState V) (h : ℕ → Item V → ℕ) → ((i : Item V) → at_place N place h i ≡ 0) → in_flight N place c h ≡ 0
-  none_in_flight N place c h none = sum_zero (λ b. total (at_place N place h) (item_of b (c.token b))) (suc N.arcs) (λ b. weighs_none (at_place N place h) (item_of b (c.token b)) none)
+  none_in_flight N place c h none = sum_zero (λ b. total (at_place N place h) (item_of b (c.token b))) (suc N.arcs) (λ b. total_none (at_place N place h) (item_of b (c.token b)) (λ _ i _. none i))
 
   -- no outbox of a part has items for a shard that is not there
   pub none_beyond : (p : PartData S V) → IsPlanned p.setup 0 → HoldsReachedShare meaning p → (j : ℕ) → p.setup.plan.shards ≤ j → get_or p.outs j [] ≡ []
   none_beyond p P known j beyond =
       let N = network_of p.setup in let h : ℕ → Item V → ℕ = λ k i. is j k in
-      let away : (i : Item V) → at_place N (place_in p.setup) h i ≡ 0 = λ i. let l = place_below p.setup 0 P (vertex_of N i) in is_other j (place_in p.setup (vertex_of N i)) (λ e. omega (arith, e, l, beyond)) in
+      let away : (i : Item V) → at_place N (place_in p.setup) h i ≡ 0 = λ i. let l = place_below p.setup 0 P (vertex_of N i) in is_else j (place_in p.setup (vertex_of N i)) (λ e. omega (arith, e, l, beyond)) in
       let under_way = none_in_flight N (place_in p.setup) (core_of meaning p.setup known.0) h away in
       let most = known.1.weighs h in
       let here = outs_member h 0 j p.outs in
       let each = each_one (h (0 + j)) (get_or p.outs j []) (λ i. ap (is j) (let e : 0 + j ≡ j = omega arith in e) ∙ is_self j) in
-      none_at_all (get_or p.outs j []) (omega (arith, most, under_way, here, each))
+      nil_from_length (get_or p.outs j []) (omega (arith, most, under_way, here, each))
 
 module _ {S V : Type 0} (meaning : S → Algebra V) (f : FloorData S) (budget : ℕ) (enough : 0 < budget) (P : IsPlanned f.setup 0) where
   abbrev n : ℕ
   n = f.setup.plan.shards
 
+  abbrev at_floor : View S V → List (PartData S V) × List ℕ × List ℕ
+  at_floor v = (v.parts, v.next_fill, v.next_read)
+
   -- a view has the same parts and next slots as another
-  record SameAt (v w : View S V) : Type 0 where
-    parts : w.parts ≡ v.parts
-    next_fill : w.next_fill ≡ v.next_fill
-    next_read : w.next_read ≡ v.next_read
+  abbrev SameAt : View S V → View S V → Type 0
+  SameAt v w = at_floor w ≡ at_floor v
 
   all_rest : (words : List ℕ) (v w : View S V) → SameAt v w → (ps : List (PartData S V)) → All (Rests n words v) ps → All (Rests n words w) ps
   all_rest words v w e [] a = tt
   all_rest words v w e (p ∷ ps) (r, a) = (
     record {
-      next_fill = ap length e.next_fill ∙ r.next_fill;
-      next_read = ap length e.next_read ∙ r.next_read;
+      next_fill = ap (λ z. length z.1) e ∙ r.next_fill;
+      next_read = ap (λ z. length z.2) e ∙ r.next_read;
       queue = r.queue;
-      from = λ j l ne. subst (λ (next : List ℕ). words_between n words j p.shard (get_or next j 0) ≢ full) (sym e.next_read) (r.from j l ne);
-      to = λ j. subst (λ (next : List ℕ). (get_or p.outs j [] ≡ []) ⊎ ((j < n) × (j ≢ p.shard) × (words_between n words p.shard j (get_or next j 0) ≢ empty))) (sym e.next_fill) (r.to j);
+      from = λ j l ne. subst (λ (next : List ℕ). words_between n words j p.shard (get_or next j 0) ≢ full) (ap (λ z. z.2) (sym e)) (r.from j l ne);
+      to = λ j. subst (λ (next : List ℕ). (get_or p.outs j [] ≡ []) ⊎ ((j < n) × (j ≢ p.shard) × (words_between n words p.shard j (get_or next j 0) ≢ empty))) (ap (λ z. z.1) (sym e)) (r.to j);
     },
     all_rest words v w e ps a,
   )
 
   same_rests : (words : List ℕ) (v w : View S V) → SameAt v w → All (Rests n words v) v.parts → All (Rests n words w) w.parts
-  same_rests words v w e a = subst (λ (ps : List (PartData S V)). All (Rests n words w) ps) (sym e.parts) (all_rest words v w e v.parts a)
-
-  same_back : (v w : View S V) → SameAt v w → SameAt w v
-  same_back v w e = record { parts = sym e.parts; next_fill = sym e.next_fill; next_read = sym e.next_read }
-
-  same_on : (u v w : View S V) → SameAt u v → SameAt v w → SameAt u w
-  same_on u v w d e = record { parts = e.parts ∙ d.parts; next_fill = e.next_fill ∙ d.next_fill; next_read = e.next_read ∙ d.next_read }
+  same_rests words v w e a = subst (λ (ps : List (PartData S V)). All (Rests n words w) ps) (ap (λ z. z.0) (sym e)) (all_rest words v w e v.parts a)
 
   module _ (s : State (Slot V) (View S V)) (t : TurnAt S V) (q : IsQuietTurn meaning f budget s t) where
     abbrev work : Worked meaning budget t.before.part (nothing_done t.after.ended) t.after.part
@@ -146,15 +131,15 @@ module _ {S V : Type 0} (meaning : S → Algebra V) (f : FloorData S) (budget : 
     tries = q.turned.tried q.unaware
 
     view_same : SameAt t.before.seat.knows t.after.seat.knows
-    view_same = record {
-      parts = q.now.shows.parts ∙ ap (λ p. p ∷ []) work_none.1 ∙ sym q.was.shows.parts;
-      next_fill = tries.next_fill ∙ ap (λ js. used js t.before.seat.knows.next_fill) work_none.2;
-      next_read = tries.next_read ∙ ap (λ js. used js t.before.seat.knows.next_read) (none_at_all tries.full tries.taken);
-    }
+    view_same = λ i. (
+      (q.now.shows.parts ∙ ap (λ p. p ∷ []) work_none.1 ∙ sym q.was.shows.parts) i,
+      (tries.next_fill ∙ ap (λ js. used js t.before.seat.knows.next_fill) work_none.2) i,
+      (tries.next_read ∙ ap (λ js. used js t.before.seat.knows.next_read) (nil_from_length tries.full tries.taken)) i,
+    )
 
     reads_missed : AllMissed 2 0 (λ j. j ≢ t.before.seat.shard) (read_box f t.before.seat) n t.before.seat.knows.steps tries.read
     reads_missed = all_missed 2 0 (λ j. j ≢ t.before.seat.shard) (read_box f t.before.seat) n t.before.seat.knows.steps tries.read
-        (subst (λ (js : List ℕ). AreTries 2 0 (λ j. j ≢ t.before.seat.shard) (read_box f t.before.seat) n js t.before.seat.knows.steps tries.read) (none_at_all tries.full tries.taken) tries.reads)
+        (subst (λ (js : List ℕ). AreTries 2 0 (λ j. j ≢ t.before.seat.shard) (read_box f t.before.seat) n js t.before.seat.knows.steps tries.read) (nil_from_length tries.full tries.taken) tries.reads)
 
     -- an outbox to another shard that is not empty
     abbrev waits : ℕ → Type 0
@@ -249,7 +234,7 @@ module _ {S V : Type 0} (meaning : S → Algebra V) (f : FloorData S) (budget : 
       reads = λ k. still_all (λ v. read_claims k v ≡ 0) s t q (ap (total (is k)) q.now.free.1) (R.claims.reads k);
     };
     own = still_all (λ v. All OwnOutboxIsEmpty v.parts) s t q
-        (subst (λ (ps : List (PartData S V)). All OwnOutboxIsEmpty ps) (sym (view_same s t q).parts) (R.own t.id t.before.seat.knows q.view)) R.own;
+        (subst (λ (ps : List (PartData S V)). All OwnOutboxIsEmpty ps) (ap (λ z. z.0) (sym (view_same s t q))) (R.own t.id t.before.seat.knows q.view)) R.own;
   }
 
   -- a view with the same parts and next slots is there
@@ -263,7 +248,7 @@ module _ {S V : Type 0} (meaning : S → Algebra V) (f : FloorData S) (budget : 
       ap (λ i. get_elem? t.left.views i) same ∙ q.same.own,
       subst (λ (u : View S V). SameAt u t.after.seat.knows) (some-injective t.before.seat.knows v (sym q.view ∙ ap (λ i. get_elem? s.views i) (sym same) ∙ at')) (view_same s t q),
     )
-    | inr ne ↦ (v, q.same.others id ne ∙ at', record { parts = refl; next_fill = refl; next_read = refl })
+    | inr ne ↦ (v, q.same.others id ne ∙ at', refl)
   ]
 
   kept_back : (s : State (Slot V) (View S V)) (t : TurnAt S V) → IsQuietTurn meaning f budget s t → (id : ℕ) (w : View S V) → get_elem? t.left.views id ≡ some w → HasSame id w s
@@ -272,9 +257,9 @@ module _ {S V : Type 0} (meaning : S → Algebra V) (f : FloorData S) (budget : 
       t.before.seat.knows,
       ap (λ i. get_elem? s.views i) same ∙ q.view,
       subst (λ (u : View S V). SameAt u t.before.seat.knows) (some-injective t.after.seat.knows w (sym q.same.own ∙ ap (λ i. get_elem? t.left.views i) (sym same) ∙ at'))
-          (same_back t.before.seat.knows t.after.seat.knows (view_same s t q)),
+          (sym (view_same s t q)),
     )
-    | inr ne ↦ (w, sym (q.same.others id ne) ∙ at', record { parts = refl; next_fill = refl; next_read = refl })
+    | inr ne ↦ (w, sym (q.same.others id ne) ∙ at', refl)
   ]
 
   -- a quiet turn, of a station whose view has had the same part from the state s on
@@ -290,7 +275,7 @@ module _ {S V : Type 0} (meaning : S → Algebra V) (f : FloorData S) (budget : 
   turn_of s end (u ∷ turns) (q, rest) t c = elim (contains_split u turns t c) [
     | inl here ↦ subst (TurnOf s) here (record { at_state = s; quiet = q; view = u.before.seat.knows; is_there = q.view; parts = q.was.shows.parts })
     | inr there ↦ (let T = turn_of u.left end turns rest t there in let k = kept_back s u q t.id T.view T.is_there in
-        record { at_state = T.at_state; quiet = T.quiet; view = k.0; is_there = k.1; parts = k.2.parts ∙ T.parts })
+        record { at_state = T.at_state; quiet = T.quiet; view = k.0; is_there = k.1; parts = ap (λ z. z.0) k.2 ∙ T.parts })
   ]
 
   -- what quiet turns leave, and which of the parts rest as long as the mailboxes stay the same
@@ -306,8 +291,8 @@ module _ {S V : Type 0} (meaning : S → Algebra V) (f : FloorData S) (budget : 
   after_none s end e R = subst (λ (z : State (Slot V) (View S V)). After s z []) (sym e) (record {
     words = λ k l. refl;
     claims = R.claims;
-    on = λ id v at'. (v, at', record { parts = refl; next_fill = refl; next_read = refl });
-    back = λ id w at'. (w, at', record { parts = refl; next_fill = refl; next_read = refl });
+    on = λ id v at'. (v, at', refl);
+    back = λ id w at'. (w, at', refl);
     rests = λ now mail id c w at'. absurd (let none = c.1 in omega (arith, none));
   })
 
@@ -315,8 +300,8 @@ module _ {S V : Type 0} (meaning : S → Algebra V) (f : FloorData S) (budget : 
   after_turn s end t turns q R A = record {
     words = λ k l. A.words k l ∙ q.same.words k l;
     claims = A.claims;
-    on = λ id v at'. let k = kept_on s t q id v at' in let m = A.on id k.0 k.1 in (m.0, m.1, same_on v k.0 m.0 k.2 m.2);
-    back = λ id w at'. let m = A.back id w at' in let k = kept_back s t q id m.0 m.1 in (k.0, k.1, same_on w m.0 k.0 m.2 k.2);
+    on = λ id v at'. let k = kept_on s t q id v at' in let m = A.on id k.0 k.1 in (m.0, m.1, m.2 ∙ k.2);
+    back = λ id w at'. let m = A.back id w at' in let k = kept_back s t q id m.0 m.1 in (k.0, k.1, k.2 ∙ m.2);
     rests = λ now mail id c w at'. elim (contains_split t.id (map (λ t. t.id) turns) id c) [
       | inl here ↦ (let m = A.on t.id t.after.seat.knows q.same.own in
           let same : m.0 ≡ w = some-injective m.0 w (sym m.1 ∙ ap (λ i. get_elem? end.views i) here ∙ at') in
@@ -336,7 +321,7 @@ module _ {S V : Type 0} (meaning : S → Algebra V) (f : FloorData S) (budget : 
     all_rest_at_end : (now : List ℕ) → IsSameMail n s.words now → (id : ℕ) (w : View S V) → get_elem? end.views id ≡ some w → All (Rests n now w) w.parts
     all_rest_at_end now mail id w at' = elim (empty_or_not w.parts) [
       | inl none ↦ subst (λ (ps : List (PartData S V)). All (Rests n now w) ps) (sym none) tt
-      | inr some' ↦ (let b = after.back id w at' in after.rests now mail id (round.each id b.0 b.1 (λ e. some' (sym b.2.parts ∙ e))) w at')
+      | inr some' ↦ (let b = after.back id w at' in after.rests now mail id (round.each id b.0 b.1 (λ e. some' (ap (λ z. z.0) (sym b.2) ∙ e))) w at')
     ]
 
     -- the floor is still after the round
@@ -348,7 +333,7 @@ module _ {S V : Type 0} (meaning : S → Algebra V) (f : FloorData S) (budget : 
     still_before = record {
       fills = free.fills;
       reads = free.reads;
-      parts = λ id v at'. let k = after.on id v at' in same_rests s.words k.0 v (same_back v k.0 k.2) (all_rest_at_end s.words (λ k l. refl) id k.0 k.1);
+      parts = λ id v at'. let k = after.on id v at' in same_rests s.words k.0 v (sym k.2) (all_rest_at_end s.words (λ k l. refl) id k.0 k.1);
     }
 
     -- if parts know that they have ended, their stations report it

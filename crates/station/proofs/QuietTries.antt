@@ -1,5 +1,5 @@
 -- Tries of which none found what it wanted.
-use Rattle.std.proofs.Common.{◌≡◌, ◌≢◌, ℕ, zero, suc, ◌<◌, Bool, true, false, List, [], ◌∷◌, ◌++◌, refl, sym, ap, ◌∙◌, subst, inl, inr, arith, append_assoc}
+use Rattle.std.proofs.Common.{◌≡◌, ◌≢◌, ℕ, zero, suc, ◌<◌, Bool, true, false, List, [], ◌∷◌, ◌++◌, refl, sym, ap, ◌∙◌, subst, inl, inr, arith, append-nil, append_assoc}
 use Rattle.std.proofs.lemmas.Bool.{cases_eq}
 use Rattle.post_floor.specs.declared.view.WordStep.{WordStep}
 use Rattle.station.specs.Tries.{at, if_found, IsTry, AreTries}
@@ -8,10 +8,6 @@ none_before : (xs : List ℕ) (b : Bool) (j : ℕ) → [] ≡ xs ++ if_found b j
 none_before [] true j e = absurd cc
 none_before [] false j e = (refl, refl)
 none_before (x ∷ xs) b j e = absurd cc
-
-no_more : {A : Type 0} (xs : List A) → xs ++ [] ≡ xs
-no_more [] = refl
-no_more (x ∷ xs) = ap (λ l. x ∷ l) (no_more xs)
 
 module _ (wanted : ℕ) (box : ℕ → ℕ) where
   -- one of these steps found another number than the wanted one in the mailbox of j
@@ -47,7 +43,7 @@ module _ (wanted stored : ℕ) (due : ℕ → Type 0) (box : ℕ → ℕ) where
 
   -- if none was found as wanted, each that was due was missed
   pub all_missed : (n : ℕ) (before after : List WordStep) → AreTries wanted stored due box n [] before after → AllMissed n before after
-  all_missed zero before after T = record { more = []; made = T.1 ∙ sym (no_more before); missed = λ j l d. absurd (omega (arith, l)) }
+  all_missed zero before after T = record { more = []; made = T.1 ∙ sym (append-nil before); missed = λ j l d. absurd (omega (arith, l)) }
   all_missed (suc k) before after (b, earlier, steps, T, I, e) =
       let none' = none_before earlier b k e in
       missed_next k before steps after (all_missed k before steps (subst (λ (z : List ℕ). AreTries wanted stored due box k z before steps) none'.0 T))

@@ -10,8 +10,8 @@ use Rattle.scholten_core.proofs.EveryRun.{labels_are_walk_values}
 use Rattle.shard_store.specs.Setup.{IsPlanned, network_of, place_in}
 use Rattle.shard_part.specs.PartState.{PartData, state_in}
 use Rattle.shard_part.specs.Weights.{in_flight, part_weight}
-use Rattle.shard_part.specs.Represents.{HoldsShare}
-use Rattle.shard_part.specs.Part.{HandledMany, HandledWithin, IsHeldBack, IsRunOn}
+use Rattle.shard_part.specs.Represents.{HoldsShare, core_of}
+use Rattle.shard_part.specs.Part.{HandledMany, HandledWithin, IsHeldBack, IsRunOn, RunsOn}
 use Rattle.shard_part.specs.Readings.{IsOwn, has_ended}
 use Rattle.shard_store.specs.Queue.{IsHeldBy}
 use Rattle.shard_store.specs.Tallies.{top}
@@ -19,7 +19,6 @@ use Rattle.shard_part.proofs.Showing.{AllLawful}
 use Rattle.post_floor.specs.declared.view.View.{View}
 use Rattle.post_floor.specs.Boxes.{box_count, mailbox}
 use Rattle.post_floor.specs.Data.{FloorData, SeatData, fill_box, read_box}
-use Rattle.post_floor.specs.Floor.{core_of}
 use Rattle.post_floor.specs.Plays.{IsViewOf, HoldsReachedShare}
 use Rattle.station.specs.Station.{StationData, BelongsTo, ReportedEnd, IsStation}
 use Rattle.station.specs.declared.turn.Report.{Report}
@@ -141,7 +140,7 @@ module _ {S V : Type 0} (meaning : S → Algebra V) where
   -- a turn before the end
   pub turned : AllLawful meaning → (f : FloorData S) (budget handled taken published : ℕ) (held : Bool) (limit : Option V) (s : StationData S V) (a b d : SeatData S V) (filled emptied q : PartData S V) (o : Bool) → s.ended ≡ false
       → AllCameIn meaning taken s.part filled → emptied.setup ≡ filled.setup → emptied.shard ≡ filled.shard → HandledMany meaning filled handled emptied
-      → ((before : List Event) → HoldsShare meaning (core_of meaning filled.setup before) filled → IsRunOn meaning before filled handled emptied)
+      → RunsOn meaning filled handled emptied
       → handled ≤ budget → HandledWithin meaning limit filled handled emptied → IsAsFar (meaning s.part.setup.diffusion.algebra).no_worse budget handled held limit emptied
       → (filled.setup.plan.shards ≡ 1 → (handled ≡ budget) ⊎ (emptied.queue ≡ []))
       → (has_ended q ≡ true → o ≡ true) → AreReady f d q → s.seat.shard < f.setup.plan.shards

@@ -11,8 +11,8 @@ use Rattle.shard_store.specs.Setup.{SetupData, network_of}
 use Rattle.shard_store.specs.Totals.{total}
 use Rattle.shard_store.specs.Tallies.{tally_of}
 use Rattle.shard_part.specs.OnePart.{AreBestFirstIfOne}
+use Rattle.shard_part.specs.Represents.{core_of}
 use Rattle.post_floor.specs.Data.{SeatData}
-use Rattle.post_floor.specs.Floor.{core_of}
 use Rattle.station.specs.declared.gathering.Gathered.{Gathered}
 use Rattle.station.specs.declared.gathering.GatherFault.{GatherFault}
 use Rattle.station.specs.declared.gathering.GatherFault.TheVariants.{Missing, Memory}

@@ -6,8 +6,7 @@ use Rattle.scholten_core.specs.Diffusion.{opening, count_enabled}
 use Rattle.scholten_core.specs.SimpleWalks.{message_bound}
 use Rattle.shard_store.specs.Setup.{SetupData, network_of, IsPlanned}
 use Rattle.shard_part.specs.OnePart.{OwnOutboxIsEmpty}
-use Rattle.shard_part.specs.Represents.{Represents}
-use Rattle.post_floor.specs.Floor.{core_of}
+use Rattle.shard_part.specs.Represents.{Represents, core_of}
 use Rattle.station.specs.declared.turn.Report.{Report}
 use Rattle.station.specs.Station.{StationData, ReportedEnd}
 

@@ -3,19 +3,12 @@ use Rattle.std.specs.Prelude.{◌≡◌, ℕ, false, List, [], ◌∷◌, map}
 use Rattle.std.specs.List.{All}
 use Rattle.atomic_table.specs.Seated.{TableId}
 use Rattle.path_algebra.specs.Algebra.{Algebra}
-use Rattle.road_graph.specs.GraphData.{GraphData}
-use Rattle.shard_store.specs.Plans.{PlanData}
-use Rattle.shard_store.specs.declared.queue_order.QueueOrder.{QueueOrder}
 use Rattle.shard_store.specs.Setup.{SetupData}
 use Rattle.shard_part.specs.PartState.{PartData}
 use Rattle.post_floor.specs.Data.{FloorData, seat_of, first_parts}
 use Rattle.post_floor.specs.Plays.{IsViewOf, HoldsReachedShare}
 use Rattle.post_floor.specs.Seats.{knows}
 use Rattle.station.specs.Station.{StationData, BelongsTo}
-
--- what all parts of a diffusion share, by its algebra, roads, source and plan, and the order in which parts take their items
-abbrev pub setup_of : {S : Type 0} → S → GraphData → ℕ → PlanData → QueueOrder → SetupData S
-setup_of algebra roads source plan order = record { diffusion = record { algebra = algebra; roads = roads; source = source }; plan = plan; order = order }
 
 -- the station of a part as it is opened, at a floor of n shards
 abbrev pub station_of : {S V : Type 0} → TableId → ℕ → PartData S V → StationData S V

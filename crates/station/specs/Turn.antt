@@ -1,17 +1,14 @@
 -- What one turn does to a station.
 use Rattle.std.specs.Prelude.{◌≡◌, ◌≢◌, ◌⊎◌, ℕ, ◌+◌, ◌-◌, ◌*◌, ◌≤◌, Bool, true, false, eqb, Option, Some, IsTrue, List, [], ◌∷◌, ◌++◌, length, get_or}
 use Rattle.path_algebra.specs.Algebra.{Algebra}
-use Rattle.scholten_core.specs.declared.event.Event.{Event}
 use Rattle.scholten_core.specs.declared.item.Item.{Item}
 use Rattle.shard_store.specs.Queue.{IsHeldBy}
 use Rattle.shard_part.specs.Arriving.{joined}
 use Rattle.shard_part.specs.PartState.{PartData, state_in}
-use Rattle.shard_part.specs.Represents.{HoldsShare}
-use Rattle.shard_part.specs.Part.{HandledMany, HandledWithin, IsHeldBack, IsRunOn}
+use Rattle.shard_part.specs.Part.{HandledMany, HandledWithin, IsHeldBack, IsRunOn, RunsOn}
 use Rattle.shard_part.specs.Readings.{IsOwn, has_ended}
 use Rattle.post_floor.specs.Boxes.{box_count}
 use Rattle.post_floor.specs.Data.{FloorData, SeatData, fill_box, read_box}
-use Rattle.post_floor.specs.Floor.{core_of}
 use Rattle.post_floor.specs.Plays.{HoldsReachedShare, published_to}
 use Rattle.station.specs.declared.turn.Report.{Report}
 use Rattle.station.specs.Station.{StationData, BelongsTo, ReportedEnd}
@@ -70,7 +67,7 @@ module _ {S V : Type 0} (meaning : S → Algebra V) where
     pub handled : HandledMany meaning filled r.handled emptied
     pub known : HoldsReachedShare meaning filled
     pub events : IsRunOn meaning known.0 filled r.handled emptied
-    pub in_each : (before : List Event) → HoldsShare meaning (core_of meaning filled.setup before) filled → IsRunOn meaning before filled r.handled emptied
+    pub in_each : RunsOn meaning filled r.handled emptied
     pub outboxes : List ℕ
     pub published : length outboxes ≡ r.published
     pub sent : SentOff outboxes emptied q

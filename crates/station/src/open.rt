@@ -4,7 +4,8 @@ ghost use Rattle.road_graph.specs.GraphData.{HasVertex};
 ghost use Rattle.shard_part.specs.Weights.{All};
 ghost use Rattle.post_floor.specs.Data.{seat_of, first_parts};
 ghost use Rattle.post_floor.specs.Plays.{HoldsReachedShare};
-ghost use Rattle.station.specs.Opened.{AreOpened, IsFreshPart, setup_of, station_of};
+ghost use Rattle.station.specs.Opened.{AreOpened, IsFreshPart, station_of};
+ghost use Rattle.shard_store.specs.Setup.{setup_of};
 
 use crate::station::Station;
 use path_algebra::PathAlgebra;

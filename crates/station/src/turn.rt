@@ -1,11 +1,7 @@
 //! The steps of one turn.
-ghost use Rattle.std.specs.Prelude.{◌≡◌, ◌⊎◌, ◌<◌, ◌≤◌, List, [], Option, None, length, true, IfSome, IsTrue};
-ghost use Rattle.scholten_core.specs.declared.event.Event.{Event};
-ghost use Rattle.scholten_core.specs.Diffusion.{state_after};
-ghost use Rattle.shard_store.specs.Setup.{network_of};
-ghost use Rattle.shard_part.specs.Part.{HandledMany, HandledWithin, IsRunOn};
+ghost use Rattle.std.specs.Prelude.{◌≡◌, ◌⊎◌, ◌<◌, ◌≤◌, [], Option, None, length, true, IfSome, IsTrue};
+ghost use Rattle.shard_part.specs.Part.{HandledMany, HandledWithin, RunsOn};
 ghost use Rattle.shard_part.specs.Readings.{has_ended};
-ghost use Rattle.shard_part.specs.Represents.{HoldsShare};
 ghost use Rattle.post_floor.specs.Plays.{HoldsEndedShare, HoldsReachedShare};
 ghost use Rattle.station.specs.Station.{IsOverPart};
 ghost use Rattle.station.specs.Steps.{AreReady, AreBehind, CameIn, AllCameIn, TriedFrom, AllTriedFrom, WentOff, TriedTo, AllTriedTo, Looked};
@@ -103,9 +99,7 @@ pub(crate) fn handle_all<A: PathAlgebra>(
     ensures taken { HandledMany A.meaning part.old result.0 part.new }
     ensures setup { part.new.setup ≡ part.old.setup }
     ensures shard { part.new.shard ≡ part.old.shard }
-    ensures events { (events : List Event) → HoldsShare A.meaning
-        (state_after (A.meaning part.old.setup.diffusion.algebra) (network_of part.old.setup)
-        events) part.old → IsRunOn A.meaning events part.old result.0 part.new }
+    ensures events { RunsOn A.meaning part.old result.0 part.new }
     ensures budget { result.0 ≤ budget }
     ensures all { (limit : Option A.Value) × HandledWithin A.meaning limit part.old result.0
         part.new × IsAsFar A.order budget result.0 result.1 limit part.new }
@@ -117,13 +111,13 @@ pub(crate) fn handle_all<A: PathAlgebra>(
         None => None,
     };
     let handled = part.handle_within(budget, value);
-    floor.show(part);
-    let held = is_stopped(part, handled, budget);
+    floor.advertise(part);
+    let held = is_held_back(part, handled, budget);
     (handled, held)
 }
 
 /// Whether items wait, though not as many were handled as might have been.
-fn is_stopped<A: PathAlgebra>(part: &Part<'_, A>, handled: u32, budget: u32) -> bool
+fn is_held_back<A: PathAlgebra>(part: &Part<'_, A>, handled: u32, budget: u32) -> bool
     ensures { (handled < budget) → (0 < length part.now.queue) → IsTrue result }
 {
     handled < budget && part.queued() > 0

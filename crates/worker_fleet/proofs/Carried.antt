@@ -7,6 +7,7 @@ use Rattle.worker_fleet.specs.Moves.{Steps, still, then, MovesEach}
 use Rattle.path_algebra.specs.Algebra.{Algebra}
 use Rattle.post_floor.specs.Data.{FloorData}
 use Rattle.station.specs.Station.{StationData}
+use Rattle.worker_fleet.proofs.Moved.{MovesEach-by}
 use Rattle.worker_fleet.specs.Turns.{NextOn, IsOnItsFloor, StationHasEnded, StationIsOpen}
 
 module _ {X : Type 0} (P : X → Type 0) (xs ys : List X) (x : X) (e : xs ≡ x ∷ ys) (h : All P xs) where
@@ -22,23 +23,13 @@ module _ {X : Type 0} (S : X → X → Type 0) (P : X → Type 0) (keep : (p q :
   Steps-keeps _ x z (then {n = n} {y = y} r s) h = keep y z s (Steps-keeps n x y r h)
 
   pub MovesEach-some : (ns : List ℕ) (xs ys : List X) → MovesEach S ns xs ys → Some_of P xs → Some_of P ys
-  unfolding MovesEach Some_of
-  MovesEach-some [] [] [] m h = h
-  MovesEach-some (n ∷ ns) (x ∷ xs) (y ∷ ys) m (inl h) = inl (Steps-keeps n x y m.0 h)
-  MovesEach-some (n ∷ ns) (x ∷ xs) (y ∷ ys) m (inr h) = inr (MovesEach-some ns xs ys m.1 h)
-  MovesEach-some [] [] (y ∷ ys) m h = absurd m
-  MovesEach-some [] (x ∷ xs) ys m h = absurd m
-  MovesEach-some (n ∷ ns) [] ys m h = absurd m
-  MovesEach-some (n ∷ ns) (x ∷ xs) [] m h = absurd m
+  unfolding Some_of
+  MovesEach-some ns xs ys m = MovesEach-by S (λ ns xs ys. Some_of P xs → Some_of P ys) (λ h. h)
+      (λ n x y ns xs ys s r h. elim h [ inl here ↦ inl (Steps-keeps n x y s here) | inr there ↦ inr (r there) ]) ns xs ys m
 
   pub MovesEach-all : (ns : List ℕ) (xs ys : List X) → MovesEach S ns xs ys → All P xs → All P ys
-  unfolding MovesEach
-  MovesEach-all [] [] [] m h = h
-  MovesEach-all (n ∷ ns) (x ∷ xs) (y ∷ ys) m h = All-cons P y ys (Steps-keeps n x y m.0 (All-head P x xs h)) (MovesEach-all ns xs ys m.1 (All-tail P x xs h))
-  MovesEach-all [] [] (y ∷ ys) m h = absurd m
-  MovesEach-all [] (x ∷ xs) ys m h = absurd m
-  MovesEach-all (n ∷ ns) [] ys m h = absurd m
-  MovesEach-all (n ∷ ns) (x ∷ xs) [] m h = absurd m
+  MovesEach-all ns xs ys m = MovesEach-by S (λ ns xs ys. All P xs → All P ys) (λ h. h)
+      (λ n x y ns xs ys s r h. All-cons P y ys (Steps-keeps n x y s (All-head P x xs h)) (r (All-tail P x xs h))) ns xs ys m
 
 pub IsOnItsFloor-next : {A V : Type 0} (meaning : A → Algebra V) (floors : List (FloorData A)) (budget : ℕ) (p q : ℕ × StationData A V)
     → IsOnItsFloor floors p → NextOn meaning floors budget p q → IsOnItsFloor floors q

@@ -1,8 +1,9 @@
 -- What the stations of a diffusion keep while they are dealt, moved, and put together.
-use Rattle.std.proofs.Common.{zero, suc, ◌≡◌, ℕ, ◌<◌, ◌+◌, List, [], ◌∷◌, ◌++◌, length, get_or, refl, subst, append_assoc, arith, inl, inr, Bool, true, false, if◌then◌else◌, nat_eq, nat_lt, Vec}
+use Rattle.std.proofs.Common.{zero, suc, ◌≡◌, ℕ, ◌<◌, ◌+◌, List, [], ◌∷◌, ◌++◌, length, get_or, refl, ap, subst, append_assoc, arith, inl, inr, Bool, true, false, if◌then◌else◌, nat_eq, nat_lt, Vec}
 use Rattle.std.specs.List.{All}
 use Rattle.std.proofs.lemmas.List.Elements.{All-nil, All-cons, All-head, All-tail, All-append}
 use Rattle.std.proofs.lemmas.Grind.{common_steps}
+use Rattle.std.proofs.lemmas.List.{nil_from_length}
 use Rattle.station.specs.Station.{StationData}
 use Rattle.worker_fleet.specs.declared.driving.Driven.{Driven}
 use Rattle.worker_fleet.specs.Dealt.{following, dealt, share_of, of_group}
@@ -119,5 +120,4 @@ module _ {A V : Type 0} where
 
   pub gathered_none : (q : ℕ) (rest : List (Driven A V)) → length rest ≡ 0 → gathered q rest ≡ []
   unfolding gathered
-  gathered_none q [] e = refl
-  gathered_none q (r ∷ rs) e = absurd (omega (arith, e))
+  gathered_none q rest e = ap (gathered q) (nil_from_length rest e)

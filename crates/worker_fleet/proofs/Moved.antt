@@ -4,7 +4,7 @@ use Rattle.std.specs.Prelude.{sum, slice_get, Some, None}
 use Rattle.std.proofs.lemmas.List.Sums.{sum_by-set, sum_by-cons}
 use Rattle.std.proofs.lemmas.Grind.{common_steps}
 use Rattle.std.proofs.lemmas.Option.{slice_get_read}
-use Rattle.worker_fleet.specs.Moves.{still, then, MovesEach}
+use Rattle.worker_fleet.specs.Moves.{Steps, still, then, MovesEach}
 
 pub zeros : {X : Type 0} → List X → List ℕ
 zeros [] = []
@@ -14,6 +14,21 @@ pub more_at : List ℕ → ℕ → List ℕ
 more_at ns i = set ns i (get_or ns i 0 + 1)
 
 module _ {X : Type 0} (S : X → X → Type 0) where
+  -- what holds of no things, and with each that is moved of one more, holds of all
+  pub MovesEach-by : (F : List ℕ → List X → List X → Type 0) → F [] [] []
+      → ((n : ℕ) (x y : X) (ns : List ℕ) (xs ys : List X) → Steps S n x y → F ns xs ys → F (n ∷ ns) (x ∷ xs) (y ∷ ys))
+      → (ns : List ℕ) (xs ys : List X) → MovesEach S ns xs ys → F ns xs ys
+  unfolding MovesEach
+  MovesEach-by F none more [] [] [] m = none
+  MovesEach-by F none more (n ∷ ns) (x ∷ xs) (y ∷ ys) m = more n x y ns xs ys m.0 (MovesEach-by F none more ns xs ys m.1)
+  MovesEach-by F none more [] [] (y ∷ ys) m = absurd m
+  MovesEach-by F none more [] (x ∷ xs) ys m = absurd m
+  MovesEach-by F none more (n ∷ ns) [] ys m = absurd m
+  MovesEach-by F none more (n ∷ ns) (x ∷ xs) [] m = absurd m
+
+  pub MovesEach-length : (ns : List ℕ) (xs ys : List X) → MovesEach S ns xs ys → (length ns ≡ length xs) × (length ns ≡ length ys)
+  MovesEach-length ns xs ys m = MovesEach-by (λ ns xs ys. (length ns ≡ length xs) × (length ns ≡ length ys)) (refl, refl) (λ n x y ns xs ys s r. (ap suc r.0, ap suc r.1)) ns xs ys m
+
   pub MovesEach-none : (xs : List X) → MovesEach S (zeros xs) xs xs
   unfolding MovesEach zeros
   MovesEach-none [] = tt
@@ -57,15 +72,6 @@ sum-zeros (x ∷ xs) = omega (arith, sum_by-cons (λ (n : ℕ). n) 0 (zeros xs),
 pub sum-more : (ns : List ℕ) (i : ℕ) → i < length ns → sum (more_at ns i) ≡ sum ns + 1
 unfolding more_at
 sum-more ns i low = omega (arith, sum_by-set (λ (n : ℕ). n) ns i (get_or ns i 0 + 1) 0 low)
-
-pub MovesEach-length : {X : Type 0} (S : X → X → Type 0) (ns : List ℕ) (xs ys : List X) → MovesEach S ns xs ys → length ns ≡ length ys
-unfolding MovesEach
-MovesEach-length S [] [] [] m = refl
-MovesEach-length S (n ∷ ns) (x ∷ xs) (y ∷ ys) m = ap suc (MovesEach-length S ns xs ys m.1)
-MovesEach-length S [] [] (y ∷ ys) m = absurd m
-MovesEach-length S [] (x ∷ xs) ys m = absurd m
-MovesEach-length S (n ∷ ns) [] ys m = absurd m
-MovesEach-length S (n ∷ ns) (x ∷ xs) [] m = absurd m
 
 -- one thing of ys was moved by a step more, as it was read there
 pub MovesEach-read : {X : Type 0} (S : X → X → Type 0) (ns : List ℕ) (xs ys : List X) (i : ℕ) (y z : X) → i < length ys → y ≡ get_or ys i y → S y z

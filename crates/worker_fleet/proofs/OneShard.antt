@@ -35,15 +35,6 @@ less_in_all ns most j low less all =
     let m = sum_by-le (λ (n : ℕ). n) most (more_at ns j) h in
     subst (λ k. sum ns + 1 ≤ k * most) l (omega (arith, s, m))
 
-moved_length : {X : Type 0} (S : X → X → Type 0) (ns : List ℕ) (xs ys : List X) → MovesEach S ns xs ys → length ns ≡ length xs
-unfolding MovesEach
-moved_length S [] [] [] m = refl
-moved_length S (n ∷ ns) (x ∷ xs) (y ∷ ys) m = ap suc (moved_length S ns xs ys m.1)
-moved_length S [] [] (y ∷ ys) m = absurd m
-moved_length S [] (x ∷ xs) ys m = absurd m
-moved_length S (n ∷ ns) [] ys m = absurd m
-moved_length S (n ∷ ns) (x ∷ xs) [] m = absurd m
-
 module _ {A V : Type 0} where
   -- one of the stations has not ended
   abbrev SomeOpen : List (ℕ × StationData A V) → Type 0
@@ -119,7 +110,7 @@ module _ {A V : Type 0} (meaning : A → Algebra V) (algebra : A) (floors : List
       let o = some_open ys (λ all. let bad : Ended ≡ Stalled = sym (D.ended.1 all) ∙ stalled in cc) in
       let low = few_turns D.counts before ys D.moved whole o.0 o.1 o.2 in
       let long = MovesEach-length (NextOn meaning floors budget) D.counts before ys D.moved in
-      let inside : o.0 < length D.counts = (let l = o.1 in omega (arith, l, long)) in
+      let inside : o.0 < length D.counts = (let l = o.1 in let e = long.1 in omega (arith, l, e)) in
       let s = less_in_all D.counts turns o.0 inside low (λ i. let fair = D.took_turns.fair i o.0 o.1 o.2 in omega (arith, fair, low)) in
-      let wide = subst (λ k. sum D.counts + 1 ≤ k * turns) (moved_length (NextOn meaning floors budget) D.counts before ys D.moved) s in
+      let wide = subst (λ k. sum D.counts + 1 ≤ k * turns) long.0 s in
       let all = D.turns in let at = D.stalled stalled in absurd (omega (arith, wide, most, all, at))

@@ -1,7 +1,8 @@
 -- One more thing at the back of one list of many, while things are dealt and put together.
-use Rattle.std.proofs.Common.{◌≡◌, ◌≢◌, ℕ, ◌<◌, suc, List, [], ◌∷◌, ◌++◌, length, get_or, set, refl, append_assoc, add-one, arith, inl, inr, true, false, if◌then◌else◌, nat_eq, Vec, ◌+◌}
+use Rattle.std.proofs.Common.{◌≡◌, ◌≢◌, ℕ, ◌<◌, suc, List, [], ◌∷◌, ◌++◌, length, get_or, set, refl, ap, append_assoc, add-one, arith, inl, inr, true, false, if◌then◌else◌, nat_eq, Vec, ◌+◌}
 use Rattle.std.proofs.lemmas.Bool.{cases_eq}
 use Rattle.std.proofs.lemmas.Grind.{common_steps}
+use Rattle.std.proofs.lemmas.List.{nil_from_length}
 use Rattle.worker_fleet.specs.Dealt.{following, dealt, share_of, of_group, PushesAt}
 
 module _ {X Z : Type 0} (i : ℕ) (x : X) (old new : List (Vec X Z)) (low : i < length old) (p : PushesAt i x old new) where
@@ -35,8 +36,7 @@ module _ {X Z : Type 0} where
 
   pub share_none : (n w first : ℕ) (rest : List (Vec X Z)) → length rest ≡ 0 → share_of n w first rest ≡ []
   unfolding share_of
-  share_none n w first [] e = refl
-  share_none n w first (x ∷ xs) e = absurd (omega (arith, e))
+  share_none n w first rest e = ap (share_of n w first) (nil_from_length rest e)
 
   -- a group more is dealt
   pub deal_more : (n w group : ℕ) (things : Vec X Z) (all rest : List (Vec X Z)) (before after : List (ℕ × X)) → all ≡ things ∷ rest → after ≡ before ++ dealt n w 0 group things.items
@@ -52,10 +52,8 @@ module _ {X Z : Type 0} where
 
 pub dealt_none : {X : Type 0} (n w at group : ℕ) (rest : List X) → length rest ≡ 0 → dealt n w at group rest ≡ []
 unfolding dealt
-dealt_none n w at group [] e = refl
-dealt_none n w at group (x ∷ xs) e = absurd (omega (arith, e))
+dealt_none n w at group rest e = ap (dealt n w at group) (nil_from_length rest e)
 
 pub put_none : {X : Type 0} (q : ℕ) (rest : List (ℕ × X)) → length rest ≡ 0 → of_group q rest ≡ []
 unfolding of_group
-put_none q [] e = refl
-put_none q (x ∷ xs) e = absurd (omega (arith, e))
+put_none q rest e = ap (of_group q) (nil_from_length rest e)

@@ -112,7 +112,7 @@ MovedRound-none S xs = (zeros xs, MovesEach-none S xs, sum-zeros xs, (0, InRound
 pub MovedRound-more : {A V : Type 0} (S : ℕ × StationData A V → ℕ × StationData A V → Type 0) (n at : ℕ) (xs ys : List (ℕ × StationData A V)) (k : ℕ) (y z : ℕ × StationData A V)
     → IsNextOpen ys at k → y ≡ get_or ys k y → S y z → MovedRound S n at xs ys → MovedRound S (n + 1) (k + 1) xs (set ys k z)
 MovedRound-more S n at xs ys k y z next is s m =
-    let len = MovesEach-length S m.0 xs ys m.1 in
+    let len = (MovesEach-length S m.0 xs ys m.1).1 in
     let inside : k < length m.0 = omega (arith, len, next.inside) in
     (more_at m.0 k, MovesEach-read S m.0 xs ys k y z next.inside is s m.1, sum-more m.0 k inside ∙ ap (λ i. i + 1) m.2, GoesRound-next at k m.0 ys z len m.3 next)
 

@@ -109,7 +109,7 @@ fn turn_until<'g, A: PathAlgebra, G: Gate, C: Gate>(
             return None;
         }
         if k < at {
-            rest_unless(busy);
+            yield_unless(busy);
             busy = false;
         }
         if !gate.before(worker, done + 1) {
@@ -173,7 +173,7 @@ pub fn drive<'g, A: PathAlgebra, G: Gate>(
 }
 
 /// Lets other threads run, unless there was something to do.
-fn rest_unless(busy: bool) {
+fn yield_unless(busy: bool) {
     if !busy {
         thread::yield_now();
     }

@@ -136,7 +136,7 @@ fn first_stop<A: PathAlgebra>(answers: &[Driven<'_, A>]) -> Option<GroupFault>
 }
 
 /// The stations of each diffusion, from what all workers return.
-fn put_together<'g, A: PathAlgebra>(
+fn regroup<'g, A: PathAlgebra>(
     alloc: Global,
     answers: Vec<Driven<'g, A>>,
     width: usize,
@@ -176,7 +176,7 @@ fn end_group<'g, A: PathAlgebra>(
     if let Some(fault) = first_stop(answers.as_slice()) {
         return Err(fault);
     }
-    Ok(put_together(alloc, answers, width)?)
+    Ok(regroup(alloc, answers, width)?)
 }
 
 /// Runs the stations of a group of diffusions to their end, dealt in turn to workers on threads of their own.

@@ -14,8 +14,8 @@ split_seat-own-requires g c = let inv = c.loop-shard.invariant in let k = inv.5 
       (ap (λ v. v.reads) k) (ap (λ v. v.delivered) k) (ap (λ v. v.signalled) k) (ap (λ v. v.accepted) k),
 )
 
-pub sit-requires-clause-part : goal.sit-requires-clause-part
-sit-requires-clause-part g c κs within =
+pub seat_one-requires-clause-part : goal.seat_one-requires-clause-part
+seat_one-requires-clause-part g c κs within =
     let inv = c.loop-shard.invariant in
     let t = cut_opened (g.A.PathAlgebra.meaning c.args.table.now.key.diffusion.algebra) c.args.table.now.key c.args.shards inv.0
     c.loop-shard.pass.me.0.parts c.args.pass.me.0.parts (ap (λ m. m.0.parts) c.requires.parts) inv.2 (omega (arith, inv.3, c.loop-shard-test.true)) in (

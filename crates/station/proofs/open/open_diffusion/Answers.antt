@@ -2,12 +2,13 @@ use Rattle.std.proofs.Common.{◌≡◌, subst, sym, refl, ◌∙◌}
 use Rattle.shard_part.specs.Weights.{All}
 use Rattle.post_floor.specs.Plays.{HoldsReachedShare}
 use Rattle.station.specs.Opened.{IsFreshPart}
+use Rattle.shard_store.specs.Setup.{setup_of}
 use Rattle.station.proofs.Opening.{all_fresh, floor_setup, are_opened}
 use Rattle.station.proofs.open.open_diffusion.Goals as goal
 
 pub open-requires-clause-fresh : goal.open-requires-clause-fresh
 open-requires-clause-fresh g c κs within = (
-  record { diffusion = record { algebra = c.args.algebra; roads = c.args.graph.now; source = c.args.source }; plan = c.args.plan.now; order = c.args.order },
+  setup_of c.args.algebra c.args.graph.now c.args.source c.args.plan.now c.args.order,
   c.deref.ensures.value ∙ c.in_ok-parts.ensures.parts,
   refl,
   refl,
@@ -17,17 +18,16 @@ pub pair-requires-clause-parts : goal.pair-requires-clause-parts
 pair-requires-clause-parts g c κs within =
     let meaning = g.A.PathAlgebra.meaning in let e = c.in_ok-parts.ensures in let f = c.in_ok-floor.floor in
     let q = floor_setup (meaning c.args.algebra) f
-    (record { diffusion = record { algebra = c.args.algebra; roads = c.args.graph.now; source = c.args.source }; plan = c.args.plan.now; order = c.args.order })
+    (setup_of c.args.algebra c.args.graph.now c.args.source c.args.plan.now c.args.order)
     c.in_ok-parts.parts.items
     c.plan_holds.ensures.within.0 e.parts (subst (All (λ p. p.setup ≡ f.setup)) c.deref.ensures.value c.in_ok-floor.ensures.floor.1) in
     subst (All (IsFreshPart meaning f)) (sym e.parts)
-    (all_fresh meaning f (record
-    { diffusion = record { algebra = c.args.algebra; roads = c.args.graph.now; source = c.args.source }; plan = c.args.plan.now; order = c.args.order }) 0 c.args.plan.now.shards q
+    (all_fresh meaning f (setup_of c.args.algebra c.args.graph.now c.args.source c.args.plan.now c.args.order) 0 c.args.plan.now.shards q
     (subst (All (HoldsReachedShare meaning)) e.parts e.known))
 
 pub returns : goal.returns
 returns g c =
     are_opened g.A.PathAlgebra.meaning c.in_ok-floor.floor
-    (record { diffusion = record { algebra = c.args.algebra; roads = c.args.graph.now; source = c.args.source }; plan = c.args.plan.now; order = c.args.order })
+    (setup_of c.args.algebra c.args.graph.now c.args.source c.args.plan.now c.args.order)
     c.in_ok-parts.parts.items c.in_ok-stations.stations.items
     c.plan_holds.ensures.within.0 c.in_ok-parts.ensures.parts (subst (All (λ p. p.setup ≡ c.in_ok-floor.floor.setup)) c.deref.ensures.value c.in_ok-floor.ensures.floor.1) c.in_ok-stations.ensures

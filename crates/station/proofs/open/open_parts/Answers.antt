@@ -3,6 +3,7 @@ use Rattle.shard_part.specs.Weights.{All}
 use Rattle.shard_part.specs.Opening.{opened_parts}
 use Rattle.shard_part.proofs.Showing.{all_append}
 use Rattle.post_floor.specs.Plays.{HoldsReachedShare}
+use Rattle.shard_store.specs.Setup.{setup_of}
 use Rattle.station.proofs.Opening.{opened_next, known_opened}
 use Rattle.station.proofs.open.open_parts.Goals as goal
 
@@ -11,11 +12,11 @@ loop-shard-preserved g c =
     let i = c.loop-shard.invariant in let p = c.in_ok-part.part in let meaning = g.A.PathAlgebra.meaning in let e = c.in_ok-part.ensures in
     record {
       parts = opened_next (meaning c.args.algebra)
-          (record { diffusion = record { algebra = c.args.algebra; roads = c.args.graph.now; source = c.args.source }; plan = c.args.plan.now; order = c.args.order })
+          (setup_of c.args.algebra c.args.graph.now c.args.source c.args.plan.now c.args.order)
           c.loop-shard.shard c.loop-shard.parts.items c.push.new.list.items p i.parts e.part c.in_ok-push.ensures;
       known = subst (All (HoldsReachedShare meaning)) (sym c.in_ok-push.ensures) (all_append (HoldsReachedShare meaning) c.loop-shard.parts.items (p ∷ []) i.known (
         known_opened meaning
-            (record { diffusion = record { algebra = c.args.algebra; roads = c.args.graph.now; source = c.args.source }; plan = c.args.plan.now; order = c.args.order })
+            (setup_of c.args.algebra c.args.graph.now c.args.source c.args.plan.now c.args.order)
             c.loop-shard.shard p e.part e.share,
         tt,
       ));
@@ -27,4 +28,4 @@ returns-clause-parts g c =
     let last : c.loop-shard.shard ≡ c.args.plan.now.shards = omega (arith, low, high, n) in
     c.loop-shard.invariant.parts
     ∙ ap (opened_parts (g.A.PathAlgebra.meaning c.args.algebra)
-    (record { diffusion = record { algebra = c.args.algebra; roads = c.args.graph.now; source = c.args.source }; plan = c.args.plan.now; order = c.args.order }) 0) last
+    (setup_of c.args.algebra c.args.graph.now c.args.source c.args.plan.now c.args.order) 0) last

@@ -11,7 +11,7 @@ returns-clause-all g c =
     let limit = c.match-limit.value in (
       limit,
       c.handle_within-handled.ensures.within,
-      settle g.A.PathAlgebra.order p c.handle_within-handled.result c.args.budget c.is_stopped-held.result limit c.handle_within-handled.ensures.budget c.is_stopped-held.ensures
+      settle g.A.PathAlgebra.order p c.handle_within-handled.result c.args.budget c.is_held_back-held.result limit c.handle_within-handled.ensures.budget c.is_held_back-held.ensures
           (elim c.handle_within-handled.ensures.all [
             | inl e ↦ inl e
             | inr h ↦ inr (elim h [

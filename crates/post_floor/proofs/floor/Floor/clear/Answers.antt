@@ -17,11 +17,11 @@ word_of-word-requires g c =
     let row = slot_at z.read_slots c.from.view_is (inside z c.args.from c.requires.shard) c.index-slot.ensures in
     (c.self.invariant.2, inside z c.args.from c.requires.shard, z.below, row.1)
 
-pub bring-requires-clause-room : goal.bring-requires-clause-room
-bring-requires-clause-room g c κs within = (seated c.self.view_is c.seat.view_is c.self.invariant c.seat.invariant c.requires.at).few
+pub rotate_to-requires-clause-room : goal.rotate_to-requires-clause-room
+rotate_to-requires-clause-room g c κs within = (seated c.self.view_is c.seat.view_is c.self.invariant c.seat.invariant c.requires.at).few
 
-pub bring-requires-clause-claim : goal.bring-requires-clause-claim
-bring-requires-clause-claim g c κs within =
+pub rotate_to-requires-clause-claim : goal.rotate_to-requires-clause-claim
+rotate_to-requires-clause-claim g c κs within =
     let z = seated c.self.view_is c.seat.view_is c.self.invariant c.seat.invariant c.requires.at in
     let row = slot_at z.read_slots c.from.view_is (inside z c.args.from c.requires.shard) c.index-slot.ensures in
     let box = c.word_of-word.ensures.number ∙ z.reads c.args.from c.index-slot.result.now row.0 in
@@ -29,18 +29,24 @@ bring-requires-clause-claim g c κs within =
 
 pub clear_word-requires-clause-at : goal.clear_word-requires-clause-at
 clear_word-requires-clause-at g c κs within =
-    still_at (seated c.self.view_is c.seat.view_is c.self.invariant c.seat.invariant c.requires.at) c.bring.ensures.pass.0 c.bring.ensures.pass.2
+    still_at (seated c.self.view_is c.seat.view_is c.self.invariant c.seat.invariant c.requires.at) c.rotate_to.ensures.pass.0 c.rotate_to.ensures.pass.2
 
 pub clear_word-requires-clause-slot : goal.clear_word-requires-clause-slot
 clear_word-requires-clause-slot g c κs within =
-    first_empty _ _ _ _ _ _ _ (c.bring.ensures.open _ _ _ (seated c.self.view_is c.seat.view_is c.self.invariant c.seat.invariant c.requires.at).out) c.bring.ensures.first.1
+    first_empty _ _ _ _ _ _ _ (c.rotate_to.ensures.open _ _ _ (seated c.self.view_is c.seat.view_is c.self.invariant c.seat.invariant c.requires.at).out) c.rotate_to.ensures.first.1
 
 pub clear_word-requires-clause-claim : goal.clear_word-requires-clause-claim
 clear_word-requires-clause-claim g c κs within =
     let z = seated c.self.view_is c.seat.view_is c.self.invariant c.seat.invariant c.requires.at in
     let row = slot_at z.read_slots c.from.view_is (inside z c.args.from c.requires.shard) c.index-slot.ensures in
     let box = c.word_of-word.ensures.number ∙ z.reads c.args.from c.index-slot.result.now row.0 in
-    subst (λ v. 0 < read_claims c.word_of-word.result v) (sym c.bring.ensures.pass.2) (read_claim z box c.requires.claim)
+    subst (λ v. 0 < read_claims c.word_of-word.result v) (sym c.rotate_to.ensures.pass.2) (read_claim z box c.requires.claim)
+
+pub clear_word-requires-clause-next : goal.clear_word-requires-clause-next
+clear_word-requires-clause-next g c κs within =
+    let z = seated c.self.view_is c.seat.view_is c.self.invariant c.seat.invariant c.requires.at in
+    let row = slot_at z.read_slots c.from.view_is (inside z c.args.from c.requires.shard) c.index-slot.ensures in
+    read_next_at z c.word_of-word.ensures.between (inside z c.args.from c.requires.shard) c.word_of-word.ensures.number row.0 c.rotate_to.ensures.pass.2
 
 pub next_slot-requires : goal.next_slot-requires
 next_slot-requires g c =
@@ -56,20 +62,20 @@ index_mut-requires g c =
 pub returns-clause-at : goal.returns-clause-at
 returns-clause-at g c =
     let z = seated c.self.view_is c.seat.view_is c.self.invariant c.seat.invariant c.requires.at in
-    placed z (c.clear_word.ensures.pass.0 ∙ c.bring.ensures.pass.0) z.setup c.clear_word.ensures.told.0
+    placed z (c.clear_word.ensures.pass.0 ∙ c.rotate_to.ensures.pass.0) z.setup c.clear_word.ensures.told.0
 
 pub invariant_of-seat : goal.invariant_of-seat
 invariant_of-seat g c =
     let z = seated c.self.view_is c.seat.view_is c.self.invariant c.seat.invariant c.requires.at in
     let row = slot_at z.read_slots c.from.view_is (inside z c.args.from c.requires.shard) c.index-slot.ensures in
     let box = c.word_of-word.ensures.number ∙ z.reads c.args.from c.index-slot.result.now row.0 in
-    let told = subst (λ o. ClearOutcome o c.args.part.now c.word_of-word.result c.bring.new.pass.me.0 c.clear_word.new.pass.me.0)
+    let told = subst (λ o. ClearOutcome o c.args.part.now c.word_of-word.result c.rotate_to.new.pass.me.0 c.clear_word.new.pass.me.0)
     (ap (λ u. origin u.plan.shards c.word_of-word.result) z.setup ∙ (read_between z c.word_of-word.ensures.between).comes_from) c.clear_word.ensures.told.0 in
-    let view = c.bring.ensures.pass.2 in
+    let view = c.rotate_to.ensures.pass.2 in
     let claim = subst (λ v. 0 < read_claims c.word_of-word.result v) (sym view) (read_claim z box c.requires.claim) in
     released z z.setup z.shard view told
-    (λ j. read_less c.bring.new.pass.me.0 c.word_of-word.result c.args.from empty j claim)
-    (c.bring.ensures.open _ _ _ z.out) c.bring.ensures.first.1 c.clear_word.ensures.told.1 c.pop_front.ensures.items c.bring.ensures.room.0
+    (λ j. read_less c.rotate_to.new.pass.me.0 c.word_of-word.result c.args.from empty j claim)
+    (c.rotate_to.ensures.open _ _ _ z.out) c.rotate_to.ensures.first.1 c.clear_word.ensures.told.1 c.pop_front.ensures.items c.rotate_to.ensures.room.0
     (ap (λ v. v.next_fill) view ∙ z.fill) (moved_on (ap (λ v. v.next_read) view ∙ z.read) c.from.view_is row.0 c.next_slot.ensures)
     z.fill_slots (row_next z.read_slots c.from.view_is row.0 c.next_slot.ensures)
 
@@ -78,12 +84,6 @@ returns-clause-told g c =
     let z = seated c.self.view_is c.seat.view_is c.self.invariant c.seat.invariant c.requires.at in
     let row = slot_at z.read_slots c.from.view_is (inside z c.args.from c.requires.shard) c.index-slot.ensures in
     let box = c.word_of-word.ensures.number ∙ z.reads c.args.from c.index-slot.result.now row.0 in
-    let told = subst (λ o. ClearOutcome o c.args.part.now c.word_of-word.result c.bring.new.pass.me.0 c.clear_word.new.pass.me.0)
+    let told = subst (λ o. ClearOutcome o c.args.part.now c.word_of-word.result c.rotate_to.new.pass.me.0 c.clear_word.new.pass.me.0)
     (ap (λ u. origin u.plan.shards c.word_of-word.result) z.setup ∙ (read_between z c.word_of-word.ensures.between).comes_from) c.clear_word.ensures.told.0 in
-    renamed (λ k u. at_word k empty (end_read c.args.from k u)) box (c.bring.ensures.pass.2 ∙ sym z.knows) told
-
-pub clear_word-requires-clause-next : goal.clear_word-requires-clause-next
-clear_word-requires-clause-next g c κs within =
-    let z = seated c.self.view_is c.seat.view_is c.self.invariant c.seat.invariant c.requires.at in
-    let row = slot_at z.read_slots c.from.view_is (inside z c.args.from c.requires.shard) c.index-slot.ensures in
-    read_next_at z c.word_of-word.ensures.between (inside z c.args.from c.requires.shard) c.word_of-word.ensures.number row.0 c.bring.ensures.pass.2
+    renamed (λ k u. at_word k empty (end_read c.args.from k u)) box (c.rotate_to.ensures.pass.2 ∙ sym z.knows) told

@@ -17,11 +17,11 @@ word_of-word-requires g c =
     let row = slot_at z.fill_slots c.to.view_is (inside z c.args.to c.requires.shard.1) c.index-slot.ensures in
     (c.self.invariant.2, z.below, inside z c.args.to c.requires.shard.1, row.1)
 
-pub bring-requires-clause-room : goal.bring-requires-clause-room
-bring-requires-clause-room g c κs within = (seated c.self.view_is c.seat.view_is c.self.invariant c.seat.invariant c.requires.at).few
+pub rotate_to-requires-clause-room : goal.rotate_to-requires-clause-room
+rotate_to-requires-clause-room g c κs within = (seated c.self.view_is c.seat.view_is c.self.invariant c.seat.invariant c.requires.at).few
 
-pub bring-requires-clause-claim : goal.bring-requires-clause-claim
-bring-requires-clause-claim g c κs within =
+pub rotate_to-requires-clause-claim : goal.rotate_to-requires-clause-claim
+rotate_to-requires-clause-claim g c κs within =
     let z = seated c.self.view_is c.seat.view_is c.self.invariant c.seat.invariant c.requires.at in
     let row = slot_at z.fill_slots c.to.view_is (inside z c.args.to c.requires.shard.1) c.index-slot.ensures in
     let box = c.word_of-word.ensures.number ∙ z.fills c.args.to c.index-slot.result.now row.0 in
@@ -29,7 +29,7 @@ bring-requires-clause-claim g c κs within =
 
 pub publish_batch-requires-clause-at : goal.publish_batch-requires-clause-at
 publish_batch-requires-clause-at g c κs within =
-    still_at (seated c.self.view_is c.seat.view_is c.self.invariant c.seat.invariant c.requires.at) c.bring.ensures.pass.0 c.bring.ensures.pass.2
+    still_at (seated c.self.view_is c.seat.view_is c.self.invariant c.seat.invariant c.requires.at) c.rotate_to.ensures.pass.0 c.rotate_to.ensures.pass.2
 
 pub publish_batch-requires-clause-to : goal.publish_batch-requires-clause-to
 publish_batch-requires-clause-to g c κs within =
@@ -45,11 +45,17 @@ publish_batch-requires-clause-claim g c κs within =
     let z = seated c.self.view_is c.seat.view_is c.self.invariant c.seat.invariant c.requires.at in
     let row = slot_at z.fill_slots c.to.view_is (inside z c.args.to c.requires.shard.1) c.index-slot.ensures in
     let box = c.word_of-word.ensures.number ∙ z.fills c.args.to c.index-slot.result.now row.0 in
-    subst (λ v. 0 < fill_claims c.word_of-word.result v) (sym c.bring.ensures.pass.2) (fill_claim z box c.requires.claim)
+    subst (λ v. 0 < fill_claims c.word_of-word.result v) (sym c.rotate_to.ensures.pass.2) (fill_claim z box c.requires.claim)
 
 pub publish_batch-requires-clause-held : goal.publish_batch-requires-clause-held
 publish_batch-requires-clause-held g c κs within =
-    first_empty _ _ _ _ _ _ _ (c.bring.ensures.open _ _ _ (seated c.self.view_is c.seat.view_is c.self.invariant c.seat.invariant c.requires.at).out) c.bring.ensures.first.1
+    first_empty _ _ _ _ _ _ _ (c.rotate_to.ensures.open _ _ _ (seated c.self.view_is c.seat.view_is c.self.invariant c.seat.invariant c.requires.at).out) c.rotate_to.ensures.first.1
+
+pub publish_batch-requires-clause-next : goal.publish_batch-requires-clause-next
+publish_batch-requires-clause-next g c κs within =
+    let z = seated c.self.view_is c.seat.view_is c.self.invariant c.seat.invariant c.requires.at in
+    let row = slot_at z.fill_slots c.to.view_is (inside z c.args.to c.requires.shard.1) c.index-slot.ensures in
+    fill_next z c.word_of-word.ensures.between (inside z c.args.to c.requires.shard.1) c.word_of-word.ensures.number row.0 c.rotate_to.ensures.pass.2
 
 pub next_slot-requires : goal.next_slot-requires
 next_slot-requires g c =
@@ -65,18 +71,18 @@ index_mut-requires g c =
 pub returns-clause-at : goal.returns-clause-at
 returns-clause-at g c =
     let z = seated c.self.view_is c.seat.view_is c.self.invariant c.seat.invariant c.requires.at in
-    placed z (c.publish_batch.ensures.pass.0 ∙ c.bring.ensures.pass.0) (ap (λ p. p.setup) c.publish_batch.ensures.part ∙ z.setup) c.publish_batch.ensures.told.0
+    placed z (c.publish_batch.ensures.pass.0 ∙ c.rotate_to.ensures.pass.0) (ap (λ p. p.setup) c.publish_batch.ensures.part ∙ z.setup) c.publish_batch.ensures.told.0
 
 pub invariant_of-seat : goal.invariant_of-seat
 invariant_of-seat g c =
     let z = seated c.self.view_is c.seat.view_is c.self.invariant c.seat.invariant c.requires.at in
     let row = slot_at z.fill_slots c.to.view_is (inside z c.args.to c.requires.shard.1) c.index-slot.ensures in
     let box = c.word_of-word.ensures.number ∙ z.fills c.args.to c.index-slot.result.now row.0 in
-    let view = c.bring.ensures.pass.2 in
+    let view = c.rotate_to.ensures.pass.2 in
     let claim = subst (λ v. 0 < fill_claims c.word_of-word.result v) (sym view) (fill_claim z box c.requires.claim) in
     released z (ap (λ p. p.setup) c.publish_batch.ensures.part ∙ z.setup) (ap (λ p. p.shard) c.publish_batch.ensures.part ∙ z.shard) view c.publish_batch.ensures.told.0
-    (λ j. fill_less c.bring.new.pass.me.0 c.word_of-word.result c.args.to full j claim)
-    (c.bring.ensures.open _ _ _ z.out) c.bring.ensures.first.1 c.publish_batch.ensures.told.1 c.pop_front.ensures.items c.bring.ensures.room.0
+    (λ j. fill_less c.rotate_to.new.pass.me.0 c.word_of-word.result c.args.to full j claim)
+    (c.rotate_to.ensures.open _ _ _ z.out) c.rotate_to.ensures.first.1 c.publish_batch.ensures.told.1 c.pop_front.ensures.items c.rotate_to.ensures.room.0
     (moved_on (ap (λ v. v.next_fill) view ∙ z.fill) c.to.view_is row.0 c.next_slot.ensures) (ap (λ v. v.next_read) view ∙ z.read)
     (row_next z.fill_slots c.to.view_is row.0 c.next_slot.ensures) z.read_slots
 
@@ -85,10 +91,4 @@ returns-clause-told g c =
     let z = seated c.self.view_is c.seat.view_is c.self.invariant c.seat.invariant c.requires.at in
     let row = slot_at z.fill_slots c.to.view_is (inside z c.args.to c.requires.shard.1) c.index-slot.ensures in
     let box = c.word_of-word.ensures.number ∙ z.fills c.args.to c.index-slot.result.now row.0 in
-    renamed (λ k u. at_word k full (end_fill c.args.to k u)) box (c.bring.ensures.pass.2 ∙ sym z.knows) c.publish_batch.ensures.told.0
-
-pub publish_batch-requires-clause-next : goal.publish_batch-requires-clause-next
-publish_batch-requires-clause-next g c κs within =
-    let z = seated c.self.view_is c.seat.view_is c.self.invariant c.seat.invariant c.requires.at in
-    let row = slot_at z.fill_slots c.to.view_is (inside z c.args.to c.requires.shard.1) c.index-slot.ensures in
-    fill_next z c.word_of-word.ensures.between (inside z c.args.to c.requires.shard.1) c.word_of-word.ensures.number row.0 c.bring.ensures.pass.2
+    renamed (λ k u. at_word k full (end_fill c.args.to k u)) box (c.rotate_to.ensures.pass.2 ∙ sym z.knows) c.publish_batch.ensures.told.0

@@ -5,7 +5,7 @@ use Rattle.shard_store.specs.Totals.{total, is}
 use Rattle.post_floor.specs.declared.view.View.{View}
 use Rattle.post_floor.specs.Claims.{before}
 use Rattle.post_floor.specs.Data.{AreOpen}
-use Rattle.post_floor.proofs.claims.bring.Given as goal
+use Rattle.post_floor.proofs.claims.rotate_to.Given as goal
 
 abbrev pub invariant-loop-claims : goal.invariant-loop-claims
 invariant-loop-claims g l = record {

@@ -5,19 +5,19 @@ use Rattle.post_floor.specs.Floor.{Slot}
 use Rattle.post_floor.specs.Claims.{cycled, before, first_is}
 use Rattle.post_floor.specs.Data.{AreOpen}
 use Rattle.post_floor.proofs.Turning.{cycled_total, cycled_length, cycled_before, turned_keys, turned_open, first_here}
-use Rattle.post_floor.proofs.claims.bring.Goals as goal
+use Rattle.post_floor.proofs.claims.rotate_to.Goals as goal
 
 pub loop-claims-smaller : goal.loop-claims-smaller
-loop-claims-smaller g c = let t : c.turn_claims.new.claims.items ≡ cycled c.loop-claims.claims.items = ap (λ (b : Buffer ℕ). b.items) c.turn_claims.ensures in let inv = c.loop-claims.invariant in
+loop-claims-smaller g c = let t : c.rotate.new.claims.items ≡ cycled c.loop-claims.claims.items = ap (λ (b : Buffer ℕ). b.items) c.rotate.ensures in let inv = c.loop-claims.invariant in
     subst (λ (z : List ℕ). before c.args.word z < before c.args.word c.loop-claims.claims.items) (sym t)
     (cycled_before c.args.word c.loop-claims.claims.items inv.claim (sym c.is_first.ensures ∙ c.loop-claims-test.true))
 
 pub loop-claims-preserved : goal.loop-claims-preserved
 loop-claims-preserved g c =
-    let t : c.turn_claims.new.claims.items ≡ cycled c.loop-claims.claims.items = ap (λ (b : Buffer ℕ). b.items) c.turn_claims.ensures in
-    let r : c.turn_claims.new.claims.capacity ≡ c.loop-claims.claims.capacity = ap (λ (b : Buffer ℕ). b.capacity) c.turn_claims.ensures in
+    let t : c.rotate.new.claims.items ≡ cycled c.loop-claims.claims.items = ap (λ (b : Buffer ℕ). b.items) c.rotate.ensures in
+    let r : c.rotate.new.claims.capacity ≡ c.loop-claims.claims.capacity = ap (λ (b : Buffer ℕ). b.capacity) c.rotate.ensures in
     let inv = c.loop-claims.invariant in let m = c.turn.ensures in
-    let long : length c.turn_claims.new.claims.items ≡ length c.loop-claims.claims.items = ap length t ∙ cycled_length c.loop-claims.claims.items in record {
+    let long : length c.rotate.new.claims.items ≡ length c.loop-claims.claims.items = ap length t ∙ cycled_length c.loop-claims.claims.items in record {
       keys = ap (λ z. map (λ x. x.0) z.1) m.2 ∙ turned_keys c.loop-claims.pass.me.1 ∙ ap cycled inv.keys ∙ sym t;
       count = long ∙ inv.count;
       capacity = r ∙ inv.capacity;

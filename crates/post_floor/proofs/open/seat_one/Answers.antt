@@ -1,6 +1,6 @@
 use Rattle.std.proofs.Common.{rules}
 use Rattle.post_floor.proofs.Opened.{sits}
-use Rattle.post_floor.proofs.open.sit.Goals as goal
+use Rattle.post_floor.proofs.open.seat_one.Goals as goal
 
 pub invariant_of-result : goal.invariant_of-result
 invariant_of-result g c = let p = c.requires.part in

@@ -4,7 +4,7 @@ use Rattle.std.specs.List.{All}
 use Rattle.worker_fleet.specs.declared.driving.Driven.{Driven}
 use Rattle.worker_fleet.proofs.Carried.{All-first, All-rest}
 use Rattle.worker_fleet.proofs.Gathered.{gathered_more, gathered_none}
-use Rattle.worker_fleet.proofs.group.put_together.Goals as goal
+use Rattle.worker_fleet.proofs.group.regroup.Goals as goal
 
 pub put_all-requires : goal.put_all-requires
 put_all-requires g c =

@@ -3,3 +3,5 @@ mod Searches
 pub mod LastSolved
 mod PairAnswers
 pub mod FactorCosts
+mod Pools
+mod Sending

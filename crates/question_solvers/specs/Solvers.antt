@@ -1,7 +1,6 @@
 -- Solvers between two questions.
-use Rattle.std.specs.Prelude.{◌≡◌, Option, Some, None, option_map, IfSome, IsSome, slice_get}
+use Rattle.std.specs.Prelude.{◌≡◌, List, Option, Some, None, option_map, IfSome, IsSome, slice_get}
 use Rattle.std.specs.List.{All}
-use Rattle.std.specs.Option.{ForSome}
 use Rattle.road_graph.specs.GraphData.{GraphData}
 use Rattle.road_files.specs.Asked.{Asked}
 use Rattle.road_files.specs.declared.questions.Kind.TheVariants.{Pairs}
@@ -12,6 +11,7 @@ use Rattle.path_algebra.specs.Counted.{cost_of}
 use Rattle.path_plain.specs.Searcher.{SearcherState}
 use Rattle.question_solvers.specs.Solved.{IsSearched}
 use Rattle.question_solvers.specs.declared.factor_solver.FactorSolver.{FactorSolver}
+use Rattle.question_solvers.specs.declared.pair_solver.PairSolver.{PairSolver}
 use Rattle.question_solvers.specs.declared.plain_solver.PlainSolver.{PlainSolver}
 use Rattle.question_solvers.specs.declared.solved.Solved.{Solved}
 
@@ -20,10 +20,14 @@ pub record IsSearcherOf {S V : Type 0} (algebra : S) (g : GraphData) (s : Search
   pub by : s.algebra ≡ algebra
   pub over : s.roads ≡ g
 
--- the plain solver's, for an algebra with this meaning: what it found is right, its searcher is the graph's, and for pairs it has the rows of arcs by head
+-- each of a pool does
+abbrev pub IsPoolOf : {S V : Type 0} → S → GraphData → List (PairSolver S V) → Type 0
+IsPoolOf algebra g pool = All (λ s. IsSearcherOf algebra g s.searcher) pool
+
+-- the plain solver's, for an algebra with this meaning: what it found is right, its pool is the graph's, and for pairs it has the rows of arcs by head
 pub record IsPlainReady {S V : Type 0} {G : Ghosts S V} (meaning : S → Algebra V) (algebra : S) (asked : Asked) (s : PlainSolver S V G) : Type 0 where
   pub searched : All (IsSearched (meaning algebra) s.graph asked) s.searched.items
-  pub searcher : ForSome s.searcher (IsSearcherOf algebra s.graph)
+  pub pool : IsPoolOf algebra s.graph s.pool.items
   pub rows : asked.kind ≡ Pairs → IsSome s.by_head
 
 -- the factors' solver: the plain one in it is ready, what was asked ahead is right, and factors have the rows of arcs by head and carry the algebra's values

@@ -144,7 +144,7 @@ impl<A: PathAlgebra> FactorSolver<A> {
         ensures graph { self.new.plain.graph ≡ self.old.plain.graph }
         ensures rows { self.new.plain.by_head ≡ self.old.plain.by_head }
         ensures searched { self.new.plain.searched ≡ self.old.plain.searched }
-        ensures searcher { self.new.plain.searcher ≡ self.old.plain.searcher }
+        ensures pool { self.new.plain.pool ≡ self.old.plain.pool }
         ensures cost { OnOk result (IfSome self.new.factored (λ f. f.factors.algebra.cost ≡ cost)) }
         ensures refused { OnOk result (IsNone self.new.factored →
             IsSomeAnd self.new.refused (λ r. r.0 ≡ cost)) }

@@ -61,7 +61,7 @@ pub fn factor<A: PathAlgebra>(
 ) -> Result<(), Memory>
     ensures graph { solver.new.plain.graph ≡ solver.old.plain.graph }
     ensures searched { solver.new.plain.searched ≡ solver.old.plain.searched }
-    ensures searcher { solver.new.plain.searcher ≡ solver.old.plain.searcher }
+    ensures pool { solver.new.plain.pool ≡ solver.old.plain.pool }
     ensures rows { OnOk result (IsSome solver.old.plain.by_head → IsSome solver.new.plain.by_head) }
     ensures made { OnOk result (IfSome solver.new.factored (λ f. IsSome solver.new.plain.by_head)) }
     ensures carried { OnOk result (IfSome solver.new.factored (λ f.

@@ -7,6 +7,7 @@ mod factor_solver;
 mod factors;
 mod pair;
 mod pair_search;
+mod pair_solver;
 mod pairs;
 mod plain;
 mod plain_solver;

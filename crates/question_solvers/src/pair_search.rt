@@ -1,23 +1,19 @@
 //! Solves one pair by a search.
-ghost use Rattle.std.specs.Prelude.{◌≡◌, ◌<◌, length, IfOk, None};
-ghost use Rattle.std.specs.Option.{ForSome};
+ghost use Rattle.std.specs.Prelude.{◌≡◌, ◌<◌, length, IfOk};
 ghost use Rattle.road_graph.specs.GraphData.{HasVertex};
 ghost use Rattle.road_files.specs.Asked.{AreQuestionsOf, asked_of};
 ghost use Rattle.road_files.specs.declared.questions.Kind.TheVariants.{Pairs};
 ghost use Rattle.path_plain.specs.Searcher.{IsOfSameGraph};
 ghost use Rattle.question_solvers.specs.Solved.{IsAnswerBetween, IsSearchedAt};
-ghost use Rattle.question_solvers.specs.Solvers.{IsSearcherOf};
 
 use crate::pair::{answer_by, code_of};
 use crate::searched::Searched;
 use crate::solved::Solved;
-use crate::task::TaskOver;
 use answer_text::Answer;
 use path_algebra::PathAlgebra;
 use road_files::Questions;
 use road_graph::{InGraph, Memory, OutGraph, Vertex};
 use route_tree::PairSearcher;
-use std::alloc::Global;
 
 /// The answer to a pair, over a graph that has its arcs by head too.
 fn answer<A: PathAlgebra>(
@@ -42,7 +38,7 @@ fn answer<A: PathAlgebra>(
 }
 
 /// Solves the question at a place, a pair.
-fn solve_at<A: PathAlgebra>(
+pub(crate) fn solve_at<A: PathAlgebra>(
     searcher: &mut PairSearcher<A>,
     roads: (&OutGraph, &InGraph),
     questions: &Questions,
@@ -65,60 +61,4 @@ fn solve_at<A: PathAlgebra>(
         place,
         solved: Solved::Answer(answer),
     })
-}
-
-/// The searcher that is kept, or one that is made.
-fn take_searcher<A: PathAlgebra, R>(
-    over: &TaskOver<'_, A, R>,
-    kept: &mut Option<PairSearcher<A>>,
-) -> Result<PairSearcher<A>, Memory>
-    requires { ForSome kept.old (IsSearcherOf over.now.algebra over.now.graph.now) }
-    ensures taken { IfOk result (IsSearcherOf over.now.algebra over.now.graph.now) }
-    ensures none { kept.new ≡ None }
-{
-    match kept.take() {
-        Some(searcher) => Ok(searcher),
-        None => PairSearcher::new(over.alloc, over.algebra, over.graph),
-    }
-}
-
-/// Solves the question at a place, a pair, by the searcher that is kept, which is made if there is none.
-pub(crate) fn search_on<A: PathAlgebra, R>(
-    over: &TaskOver<'_, A, R>,
-    rows: &InGraph,
-    i: usize,
-    kept: &mut Option<PairSearcher<A>>,
-) -> Result<Searched<A::Value>, Memory>
-    requires rows { rows.now ≡ over.now.graph.now }
-    requires pairs { (asked_of over.now.questions.now).kind ≡ Pairs }
-    requires place { i < length (asked_of over.now.questions.now).questions }
-    requires kept { ForSome kept.old (IsSearcherOf over.now.algebra over.now.graph.now) }
-    ensures solved { IfOk result (IsSearchedAt (A.meaning over.now.algebra) over.now.graph.now
-        (asked_of over.now.questions.now) i) }
-    ensures kept { ForSome kept.new (IsSearcherOf over.now.algebra over.now.graph.now) }
-{
-    let mut searcher = take_searcher(over, kept)?;
-    let found = solve_at(&mut searcher, (over.graph, rows), over.questions, i);
-    *kept = Some(searcher);
-    found
-}
-
-/// Solves the question at a place, a pair, by a searcher of its own.
-pub(crate) fn search_alone<A: PathAlgebra>(
-    alloc: Global,
-    algebra: A,
-    roads: (&OutGraph, &InGraph),
-    questions: &Questions,
-    place: usize,
-) -> Result<Searched<A::Value>, Memory>
-    requires rows { roads.1.now ≡ roads.0.now }
-    requires within { AreQuestionsOf roads.0.now.vertices questions.now }
-    requires pairs { (asked_of questions.now).kind ≡ Pairs }
-    requires place { place < length (asked_of questions.now).questions }
-    ensures { IfOk result (IsSearchedAt (A.meaning algebra) roads.entry.0.now
-        (asked_of questions.now) place) }
-{
-    let (graph, rows) = roads;
-    let mut searcher = PairSearcher::new(alloc, algebra, graph)?;
-    solve_at(&mut searcher, (graph, rows), questions, place)
 }

@@ -4,10 +4,10 @@ ghost use Rattle.std.specs.Option.{ForSome};
 ghost use Rattle.road_files.specs.Asked.{AreQuestionsOf, asked_of};
 ghost use Rattle.road_files.specs.declared.questions.Kind.TheVariants.{Pairs};
 ghost use Rattle.question_solvers.specs.Solved.{IsSearched, IsSolvedFor};
-ghost use Rattle.question_solvers.specs.Solvers.{IsPlainReady, IsSearcherOf};
+ghost use Rattle.question_solvers.specs.Solvers.{IsPlainReady, IsPoolOf};
 
-use crate::pair_search::search_on;
-use crate::pairs::search_pairs;
+use crate::pair_solver::{PairSolver, set_algebra};
+use crate::pairs::{search_on, search_pairs};
 use crate::plain_solver::PlainSolver;
 use crate::searched::{Searched, find_same, put_first};
 use crate::side_by_side::{follows, search_trees};
@@ -15,7 +15,6 @@ use crate::task::{Task, TaskOver};
 use path_algebra::PathAlgebra;
 use road_files::Kind;
 use road_graph::{InGraph, Memory, OutGraph};
-use route_tree::PairSearcher;
 use std::alloc::Global;
 use std::thread::Threads;
 
@@ -43,21 +42,21 @@ fn solve_from_sources<A: PathAlgebra, R: Threads + Sync>(
     Ok(0)
 }
 
-/// The same of a pair. If it is solved alone, or follows one of its source, the searcher solves it that is kept.
+/// The same of a pair. If it is solved alone, or follows one of its source, one of the pool solves it.
 fn solve_pair<A: PathAlgebra, R: Threads + Sync>(
     over: &TaskOver<'_, A, R>,
     rows: &InGraph,
     i: usize,
-    kept: &mut Option<PairSearcher<A>>,
+    pool: &mut Vec<PairSolver<A>>,
     searched: &mut Vec<Searched<A::Value>>,
 ) -> Result<usize, Memory>
     requires pairs { (asked_of over.now.questions.now).kind ≡ Pairs }
     requires place { i < length (asked_of over.now.questions.now).questions }
     requires rows { rows.now ≡ over.now.graph.now }
-    requires kept { ForSome kept.old (IsSearcherOf over.now.algebra over.now.graph.now) }
+    requires pool { IsPoolOf over.now.algebra over.now.graph.now pool.old.items }
     requires searched { All (IsSearched (A.meaning over.now.algebra) over.now.graph.now
         (asked_of over.now.questions.now)) searched.old.items }
-    ensures kept { ForSome kept.new (IsSearcherOf over.now.algebra over.now.graph.now) }
+    ensures pool { IsPoolOf over.now.algebra over.now.graph.now pool.new.items }
     ensures inside { IfOk result (λ k. k < length searched.new.items) }
     ensures answers { IfOk result (HoldsAt (λ s. IsSolvedFor (A.meaning over.now.algebra)
         over.now.graph.now (asked_of over.now.questions.now) i s.solved) searched.new.items) }
@@ -68,12 +67,12 @@ fn solve_pair<A: PathAlgebra, R: Threads + Sync>(
         return Ok(k);
     }
     if over.width == 1 || follows(over.questions, i) {
-        let next = search_on(over, rows, i, kept)?;
+        let next = search_on(over, rows, i, pool)?;
         put_first(searched, next)?;
         return Ok(0);
     }
     searched.clear();
-    *searched = search_pairs(over, rows, i)?;
+    *searched = search_pairs(over, rows, i, pool)?;
     Ok(0)
 }
 
@@ -82,16 +81,16 @@ fn solve_plainly<A: PathAlgebra, R: Threads + Sync>(
     over: &TaskOver<'_, A, R>,
     by_head: &Option<InGraph>,
     i: usize,
-    kept: &mut Option<PairSearcher<A>>,
+    pool: &mut Vec<PairSolver<A>>,
     searched: &mut Vec<Searched<A::Value>>,
 ) -> Result<usize, Memory>
     requires place { i < length (asked_of over.now.questions.now).questions }
     requires rows { ForSome by_head.now (λ rows. rows ≡ over.now.graph.now) }
     requires some { (asked_of over.now.questions.now).kind ≡ Pairs → IsSome by_head.now }
-    requires kept { ForSome kept.old (IsSearcherOf over.now.algebra over.now.graph.now) }
+    requires pool { IsPoolOf over.now.algebra over.now.graph.now pool.old.items }
     requires searched { All (IsSearched (A.meaning over.now.algebra) over.now.graph.now
         (asked_of over.now.questions.now)) searched.old.items }
-    ensures kept { ForSome kept.new (IsSearcherOf over.now.algebra over.now.graph.now) }
+    ensures pool { IsPoolOf over.now.algebra over.now.graph.now pool.new.items }
     ensures inside { IfOk result (λ k. k < length searched.new.items) }
     ensures answers { IfOk result (HoldsAt (λ s. IsSolvedFor (A.meaning over.now.algebra)
         over.now.graph.now (asked_of over.now.questions.now) i s.solved) searched.new.items) }
@@ -102,7 +101,7 @@ fn solve_plainly<A: PathAlgebra, R: Threads + Sync>(
         return solve_from_sources(over, i, searched);
     }
     let Some(rows) = by_head else { unreachable!() };
-    solve_pair(over, rows, i, kept, searched)
+    solve_pair(over, rows, i, pool, searched)
 }
 
 /// Makes the rows of arcs by head, unless they are there.
@@ -112,7 +111,7 @@ pub(crate) fn make_rows<A: PathAlgebra>(
 ) -> Result<(), Memory>
     ensures graph { solver.new.graph ≡ solver.old.graph }
     ensures searched { solver.new.searched ≡ solver.old.searched }
-    ensures searcher { solver.new.searcher ≡ solver.old.searcher }
+    ensures pool { solver.new.pool ≡ solver.old.pool }
     ensures rows { OnOk result (IsSome solver.new.by_head) }
 {
     if solver.by_head.is_none() {
@@ -122,7 +121,7 @@ pub(crate) fn make_rows<A: PathAlgebra>(
     Ok(())
 }
 
-/// Before the first question: forgets what was solved, but keeps the lists of the searcher. If the questions are pairs, and the first, makes the rows of arcs by head.
+/// Before the first question: forgets what was solved, but keeps the lists of the searchers. If the questions are pairs, and the first, makes the rows of arcs by head.
 pub fn start_plain<A: PathAlgebra, R>(
     task: &Task<'_, A, R>,
     solver: &mut PlainSolver<A>,
@@ -133,9 +132,7 @@ pub fn start_plain<A: PathAlgebra, R>(
         (asked_of task.now.questions.now) solver.new) }
 {
     solver.searched.clear();
-    if let Some(searcher) = &mut solver.searcher {
-        searcher.set_algebra(task.algebra);
-    }
+    set_algebra(&mut solver.pool, task.algebra);
     if task.questions.kind() == Kind::Pairs {
         make_rows(task.alloc, solver)?;
     }
@@ -169,8 +166,8 @@ pub fn solve_next_plainly<A: PathAlgebra, R: Threads + Sync>(
         questions: task.questions,
         width: task.width,
     };
-    let (kept, searched) = (&mut solver.searcher, &mut solver.searched);
-    let k = solve_plainly(&over, &solver.by_head, i, kept, searched)?;
+    let (pool, searched) = (&mut solver.pool, &mut solver.searched);
+    let k = solve_plainly(&over, &solver.by_head, i, pool, searched)?;
     solver.last = k;
     Ok(())
 }

@@ -1,30 +1,30 @@
 //! What the plain solver keeps between two questions.
-ghost use Rattle.std.specs.Prelude.{◌≡◌, IsSome, Some};
+ghost use Rattle.std.specs.Prelude.{◌≡◌, All, IsSome, Some};
 ghost use Rattle.std.specs.Option.{ForSome};
 
+use crate::pair_solver::PairSolver;
 use crate::searched::Searched;
 use crate::solved::Solved;
 use path_algebra::PathAlgebra;
 use road_graph::{InGraph, OutGraph};
-use route_tree::PairSearcher;
 use std::alloc::Global;
 
 /// Solves each question by one search on one thread, several side by side. A pair's search stops at its target, and goes on from there
-/// for the next pair of its source; its lists stay for other pairs. A question that was solved just before needs no new search. No worker
-/// is started and no gate is asked.
+/// for the next pair of its source; its lists stay for other pairs, also of those that are solved side by side. A question that was solved
+/// just before needs no new search. No worker is started and no gate is asked.
 #[derive(Drop)]
 pub struct PlainSolver<A: PathAlgebra> {
     pub(crate) graph: OutGraph,
     /// The rows of the graph's arcs by head, made once, when the first batch of pairs begins.
     pub(crate) by_head: Option<InGraph>,
-    /// What searches for pairs one after the other, made when the first is.
-    pub(crate) searcher: Option<PairSearcher<A>>,
+    /// What solves pairs, as many as are solved side by side, each made when it is needed.
+    pub(crate) pool: Vec<PairSolver<A>>,
     /// What was found side by side.
     pub(crate) searched: Vec<Searched<A::Value>>,
     /// Which of these answers the question that was solved last.
     pub(crate) last: usize,
     ghost rows: { ForSome by_head (λ rows. rows ≡ graph) },
-    ghost own: { ForSome searcher (λ p. p.roads ≡ graph) },
+    ghost own: { All (λ s. s.searcher.roads ≡ graph) pool.items },
 }
 
 impl<A: PathAlgebra> PlainSolver<A> {
@@ -38,7 +38,7 @@ impl<A: PathAlgebra> PlainSolver<A> {
         PlainSolver {
             graph,
             by_head: None,
-            searcher: None,
+            pool: Vec::new(alloc),
             searched: Vec::new(alloc),
             last: 0,
         }

@@ -9,7 +9,6 @@ use Rattle.road_graph.proofs.Lists.{not_in_empty, head_or_tail, here, later}
 use Rattle.path_algebra.specs.Walks.{label_of, is_marked}
 use Rattle.route_tree.specs.Blank.{AreFound, IsBlankBut}
 use Rattle.route_tree.specs.Levels.{AreLeast, AreLeastTails}
-use Rattle.route_tree.specs.Tree.{Branches, IsLinked, hops_of, parent_of}
 use Rattle.route_tree.proofs.Trees.{no_arc, tail_at}
 
 module _ {X : Type 0} (blank : X) where
@@ -46,18 +45,6 @@ module _ {X : Type 0} (blank : X) where
         | inl on ↦ absurd (not_in_empty (k + 1) on)
         | inr is ↦ rw e at is ∙ sym (get_or-replicate (length list) k blank blank lt)
       ])
-
--- a tree of nothing is linked
-pub linked_blank : (n : ℕ) (t : Branches) → t.hops ≡ replicate n None → t.parents ≡ replicate n None → IsLinked t
-linked_blank n t h p = record {
-  count = rw (h, p) refl;
-  links = λ v low high.
-      let count : length t.hops ≡ n = ap length h ∙ length-replicate n None in
-      let lt : v - 1 < n = omega (arith, low, high, count) in
-      let no_hops : hops_of t v ≡ None = ap (λ (l : List (Option ℕ)). label_of l v) h ∙ get_or-replicate {A = Option ℕ} n (v - 1) None None lt in
-      let no_parent : parent_of t v ≡ None = ap (λ (l : List (Option ℕ)). label_of l v) p ∙ get_or-replicate {A = Option ℕ} n (v - 1) None None lt in
-      rw (no_hops, no_parent) tt;
-}
 
 -- the first vertex that is found
 pub found_first : (g : GraphData) (target : ℕ) (marks : List Bool) → HasVertex g target → marks ≡ set (replicate g.vertices false) (target - 1) true → AreFound g marks (target ∷ [])

@@ -5,9 +5,9 @@ use Rattle.std.proofs.lemmas.List.Elements.{All-nil, All-cons, All-head, All-tai
 use Rattle.std.specs.Prelude.{IsTrue, Contains, All}
 use Rattle.road_graph.specs.GraphData.{GraphData, IsGraph, HasVertex, HasArc, arc_of}
 use Rattle.path_algebra.specs.Algebra.{Algebra, IsLawful}
-use Rattle.path_algebra.specs.Walks.{IsWalk, AreWalkValues, AreBest, AreHops, IsTight, IsUnreached, IsBestLabel, label_of, is_marked, is_tight, is_tight_between, is_reached_by}
+use Rattle.path_algebra.specs.Walks.{IsWalk, AreWalkValues, AreBest, AreHops, IsUnreached, IsBestLabel, label_of, is_marked, is_tight, is_tight_between, is_reached_by}
 use Rattle.path_algebra.proofs.Walks.{walk_value_is_value}
-use Rattle.path_algebra.proofs.Tight.{best_at, labelled, tight_is}
+use Rattle.path_algebra.proofs.Tight.{best_at, labelled}
 use Rattle.path_algebra.proofs.Least.{same_no_worse}
 use Rattle.path_plain.specs.UpTo.{AreBestUpTo}
 use Rattle.route_tree.specs.Levels.{IsWalkOf, IsLeastAt, AreLeast, IsTreeArc, IsLeastTail, AreLeastTails}
@@ -116,10 +116,6 @@ module _ {V : Type 0} (A : Algebra V) (lawful : IsLawful A) (g : GraphData) (roa
             | inr also ↦ loose ∙ sym also
           ]
         ]
-
-    -- an arc that looks tight into a near vertex is tight
-    pub looks_are_right : (a : ℕ) → HasArc g a → IsNear (arc_of g a).head → is_tight A g labels a ≡ true → IsTight A g sources a
-    looks_are_right a h near looks = (tight_is A lawful g roads sources whole best a h).0 (sym (same_test a h near) ∙ looks)
 
     -- a walk to the target that looks tight passes near vertices alone, and is one by best labels
     back_near : (v : ℕ) (p : List ℕ) → IsWalk g v p target → All (λ a. IsTrue (is_tight A g labels a)) p → IsNear v × All (λ a. IsTrue (is_tight A g whole a)) p

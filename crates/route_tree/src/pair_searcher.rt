@@ -10,7 +10,7 @@ use crate::route_finder::RouteFinder;
 use crate::routes::PairRoute;
 use path_algebra::PathAlgebra;
 use path_plain::Searcher;
-use road_graph::{Graph, InGraph, Memory, OutGraph, Vertex};
+use road_graph::{InGraph, Memory, OutGraph, Vertex};
 use std::alloc::Global;
 use std::marker::Model;
 
@@ -94,32 +94,6 @@ impl<A: PathAlgebra> PairSearcher<A> {
         let route = self
             .finder
             .route(algebra, graph, rows, labels, source, target)?;
-        Ok((labels.of(target), route))
-    }
-
-    /// The same, in a graph that has its arcs by number and by head too.
-    pub fn solve_between(
-        &mut self,
-        graph: &Graph,
-        pair: (Vertex, Vertex),
-    ) -> Result<(Option<A::Value>, Option<PairRoute>), Memory>
-        requires graph { graph.now ≡ self.old.roads }
-        requires source { HasVertex graph.now pair.0 }
-        requires target { HasVertex graph.now pair.1 }
-        ensures value { IfOk result (λ found. IsBestLabel (A.meaning self.old.algebra) graph.now
-            (pair.0 ∷ []) pair.1 found.0) }
-        ensures route { IfOk result (λ found. IsPairRoute (A.meaning self.old.algebra) graph.now
-            pair.0 pair.1 found.1) }
-        ensures source { OnOk result (self.new.source ≡ Some pair.0) }
-        ensures same { IsOfSameGraph self.old self.new }
-    {
-        let (source, target) = pair;
-        let algebra = self.searcher.algebra();
-        self.searcher.solve_to(graph.outgoing(), source, target)?;
-        let labels = self.searcher.labels();
-        let route = self
-            .finder
-            .route_between(algebra, graph, labels, source, target)?;
         Ok((labels.of(target), route))
     }
 }

@@ -1,17 +1,7 @@
-use Rattle.std.proofs.Common.{◌∙◌, ap}
-use Rattle.std.specs.Prelude.{IfOk}
-use Rattle.rayon.proofs.ToStd.{slice-AllZip}
-use Rattle.road_files.specs.Asked.{asked_of}
-use Rattle.question_solvers.specs.Solved.{IsSearchedAt}
-use Rattle.question_solvers.proofs.Searches.{gathered}
+use Rattle.question_solvers.specs.Solvers.{IsSearcherOf}
+use Rattle.question_solvers.proofs.Pools.{stored_all}
 use Rattle.question_solvers.proofs.pairs.search_each.Goals as goal
 
-pub returns : goal.returns
-returns g c =
-    let at = IsSearchedAt (g.A.PathAlgebra.meaning c.args.over.now.algebra) c.args.over.now.graph.now (asked_of c.args.over.now.questions.now) in
-    let done = c.in_ok-searched.ensures in
-    let chain = done.1 in
-    let slice = ap (λ it. it.base.slice.now) c.map.ensures.base ∙ ap (λ it. it.slice.now) c.with_min_len.ensures.base ∙ c.par_iter.ensures in
-    let ran = rw c.map.ensures.f at chain.2 in
-    let each = slice-AllZip chain.0 c.args.places.now (chain.1 ∙ slice) (λ k r. IfOk r (at k)) done.0 ran in
-    gathered at c.args.places.now done.0 c.in_ok-searched.searched each done.2
+pub returns-clause-pool : goal.returns-clause-pool
+returns-clause-pool g c =
+    stored_all (λ s. IsSearcherOf c.args.over.now.algebra c.args.over.now.graph.now s.searcher) _ c.grow.new.pool.items c.search_group.new.pool c.grow.ensures.pool c.search_group.ensures.pool

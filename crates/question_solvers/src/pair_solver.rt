@@ -1,0 +1,114 @@
+//! Searchers for pairs that stay from one group of pairs to the next.
+ghost use Rattle.std.specs.Prelude.{◌≡◌, ℕ, ◌≤◌, ◌<◌, length, map, slice_index_or, All, IfOk, IfSome, OnOk, Some};
+ghost use Rattle.road_graph.specs.GraphData.{GraphData};
+ghost use Rattle.path_plain.specs.Searcher.{IsOfSameGraph};
+ghost use Rattle.road_files.specs.Asked.{AreQuestionsOf, asked_of};
+ghost use Rattle.road_files.specs.declared.questions.Kind.TheVariants.{Pairs};
+ghost use Rattle.question_solvers.specs.Solved.{IsSearchedAt};
+ghost use Rattle.question_solvers.specs.Solvers.{IsPoolOf};
+
+use crate::pair_search::solve_at;
+use crate::searched::{Searched, add};
+use crate::task::TaskOver;
+use path_algebra::PathAlgebra;
+use road_files::Questions;
+use road_graph::{InGraph, Memory, OutGraph, Vertex};
+use route_tree::PairSearcher;
+use std::alloc::Global;
+
+/// A searcher for pairs, with a place for what it finds.
+#[derive(Drop)]
+pub(crate) struct PairSolver<A: PathAlgebra> {
+    pub(crate) searcher: PairSearcher<A>,
+    /// What it found last, until it is taken; none if there was not enough memory.
+    pub(crate) found: Option<Searched<A::Value>>,
+}
+
+impl<A: PathAlgebra> PairSolver<A> {
+    /// Solves the question at a place, a pair.
+    pub(crate) fn solve(
+        &mut self,
+        roads: (&OutGraph, &InGraph),
+        questions: &Questions,
+        place: usize,
+    )
+        requires graph { roads.0.now ≡ self.old.searcher.roads }
+        requires rows { roads.1.now ≡ roads.0.now }
+        requires within { AreQuestionsOf roads.0.now.vertices questions.now }
+        requires pairs { (asked_of questions.now).kind ≡ Pairs }
+        requires place { place < length (asked_of questions.now).questions }
+        ensures found { IfSome self.new.found (IsSearchedAt (A.meaning self.old.searcher.algebra)
+            roads.entry.0.now (asked_of questions.now) place) }
+        ensures same { IsOfSameGraph self.old.searcher self.new.searcher }
+    {
+        self.found = solve_at(&mut self.searcher, roads, questions, place).ok();
+    }
+}
+
+/// Gives each of a pool another algebra. Their next searches begin anew.
+pub(crate) fn set_algebra<A: PathAlgebra>(pool: &mut Vec<PairSolver<A>>, algebra: A)
+    ensures { (g : GraphData) → All (λ s. s.searcher.roads ≡ g) pool.old.items →
+        IsPoolOf algebra g pool.new.items }
+{
+    for solver in pool.iter_mut() {
+        solver.searcher.set_algebra(algebra);
+    }
+}
+
+/// Adds to a pool until it has as many as these. The only error is want of memory, after which it has some of them.
+pub(crate) fn grow<A: PathAlgebra, R>(
+    over: &TaskOver<'_, A, R>,
+    pool: &mut Vec<PairSolver<A>>,
+    count: usize,
+) -> Result<(), Memory>
+    requires pool { IsPoolOf over.now.algebra over.now.graph.now pool.old.items }
+    ensures pool { IsPoolOf over.now.algebra over.now.graph.now pool.new.items }
+    ensures long { OnOk result (count ≤ length pool.new.items) }
+{
+    for _k in pool.len()..count {
+        let searcher = PairSearcher::new(over.alloc, over.algebra, over.graph)?;
+        let solver = PairSolver {
+            searcher,
+            found: None,
+        };
+        if pool.push(solver).is_err() {
+            return Err(Memory);
+        }
+    }
+    Ok(())
+}
+
+/// Which of a pool goes on with its search for a pair of this source; the first, if none does.
+pub(crate) fn find_from<A: PathAlgebra>(pool: &[PairSolver<A>], source: Vertex) -> usize
+    requires some { 1 ≤ length pool.now }
+    ensures inside { result < length pool.now }
+    ensures goes_on { (k : ℕ) → k < length pool.now → (d : _) →
+        (slice_index_or pool.now k d).searcher.source ≡ Some source →
+        (slice_index_or pool.now result d).searcher.source ≡ Some source }
+{
+    for k in 0..pool.len() {
+        if pool[k].searcher.is_from(source) {
+            return k;
+        }
+    }
+    0
+}
+
+/// Takes what each of a group found, in order. The only error is want of memory, also of one of them before.
+pub(crate) fn gather<A: PathAlgebra>(
+    alloc: Global,
+    group: &mut [PairSolver<A>],
+) -> Result<Vec<Searched<A::Value>>, Memory>
+    ensures found { IfOk result (λ v. map Some v.items ≡ map (λ s. s.found) group.old) }
+    ensures pool { (algebra : A) (g : GraphData) → IsPoolOf algebra g group.old →
+        IsPoolOf algebra g group.new }
+{
+    let mut searched = Vec::new(alloc);
+    for solver in group.iter_mut() {
+        let Some(next) = solver.found.take() else {
+            return Err(Memory);
+        };
+        add(&mut searched, next)?;
+    }
+    Ok(searched)
+}

@@ -1,11 +1,12 @@
 -- What the evidence of all arcs into a vertex means: the line is right, or the evidence gives the first reason against it.
-use Rattle.std.proofs.Common.{◌≡◌, ℕ, ◌+◌, ◌<◌, ◌≤◌, ◌^◌, inl, inr, Bool, true, false, not, ◌&&◌, nat_eq, nat_lt, List, [], ◌∷◌, get_or, refl, ap, sym, ◌∙◌, subst, arith, Option, Some, None}
-use Rattle.std.specs.Prelude.{IsTrue, Contains, ◌↔◌}
+use Rattle.std.proofs.Common.{◌≡◌, ℕ, ◌+◌, ◌<◌, ◌≤◌, ◌^◌, inl, inr, Bool, true, false, not, ◌&&◌, ◌||◌, nat_eq, nat_lt, List, [], ◌∷◌, get_or, map, refl, ap, sym, ◌∙◌, subst, arith, Option, Some, None}
+use Rattle.std.specs.Prelude.{IsTrue, Contains}
 use Rattle.std.specs.List.{list_any}
 use Rattle.std.proofs.Common.{eqb-true, eq-eqb}
-use Rattle.std.proofs.lemmas.Bool.{eqb-false, lt-ltb, ltb-true, ltb-false, and_parts, not-true, not-false}
+use Rattle.std.proofs.lemmas.Bool.{eqb-false, lt-ltb, ltb-true, ltb-false, and_parts, not-true, not-false, false_from_ne_true}
 use Rattle.std.proofs.lemmas.List.Folds.{list_any_at}
-use Rattle.road_graph.specs.GraphData.{GraphData, HasArc, arc_of}
+use Rattle.road_graph.specs.GraphData.{GraphData, HasArc, ListsRoadsInto, arc_of, road_of, reversed_arc}
+use Rattle.road_graph.specs.declared.OutRoad.{OutRoad}
 use Rattle.road_graph.proofs.Lists.{here, later, same_some}
 use Rattle.path_algebra.specs.Algebra.{Algebra, IsLawful}
 use Rattle.path_algebra.specs.Walks.{label_of}
@@ -16,12 +17,16 @@ use Rattle.answer_check.specs.declared.verdict.Reason.{Reason}
 use Rattle.answer_check.specs.declared.verdict.Reason.TheVariants.{Mismatch, NotBest, NoParent, OtherHops, LesserParent, HasWalk, OtherRoute}
 use Rattle.answer_check.specs.Reasons.{IsCodeOf, Offers, Gives, IsRefuted, IsFirstReason, reason_number}
 use Rattle.answer_check.specs.Certificates.{IsSupported, IsRightLine}
-use Rattle.answer_check.specs.Evidence.{decoded, extended, beside, candidate_from, candidate, is_same, evidence_by, evidence_of, all_evidence, reason_by, is_there}
+use Rattle.answer_check.specs.Evidence.{decoded, extended, beside, candidate_from, candidate, is_same, passes, all_evidence, reason_by, is_there}
 use Rattle.answer_check.proofs.Certified.{code_of_one}
 
--- the list has exactly the arcs that enter v
-abbrev pub AreInto : GraphData → ℕ → List ℕ → Type 0
-AreInto g v arcs = (a : ℕ) → Contains arcs a ↔ (HasArc g a × ((arc_of g a).head ≡ v))
+-- an arc as it is seen from its head
+abbrev seen : GraphData → ℕ → OutRoad
+seen g a = road_of (reversed_arc (arc_of g a))
+
+any_seen : (g : GraphData) (p : OutRoad → Bool) (numbers : List ℕ) → list_any p (map (seen g) numbers) ≡ list_any (λ a. p (seen g a)) numbers
+any_seen g p [] = refl
+any_seen g p (a ∷ numbers) = ap (λ (b : Bool). p (seen g a) || b) (any_seen g p numbers)
 
 found_at_head : (p : ℕ → Bool) (x : ℕ) (xs : List ℕ) (b : Bool) → p x ≡ b → list_any p (x ∷ xs) ≡ true →
     (list_any p xs ≡ true → (a : ℕ) × Contains xs a × (p a ≡ true)) → (a : ℕ) × Contains (x ∷ xs) a × (p a ≡ true)
@@ -40,6 +45,10 @@ any_missed p xs h a c = at (p a) refl
     at true e =
         let hit : p (get_or xs c.0 a) ≡ true = ap p c.2 ∙ e in
         let bad : true ≡ false = sym (list_any_at p xs c.0 a c.1 hit) ∙ h in cc
+
+not_both : (a b : Bool) → (a && b) ≡ false → a ≡ true → b ≡ false
+not_both true b h e = h
+not_both false b h e = let bad : false ≡ true = e in absurd (cc)
 
 module _ {V : Type 0} (A : Algebra V) (lawful : IsLawful A) where
   pub decoded_is : (c : ℕ) (x : V) → decoded A c ≡ Some x → IsCodeOf A c x
@@ -92,256 +101,210 @@ module _ {V : Type 0} (A : Algebra V) (lawful : IsLawful A) where
         by_value None d q = let bad : None ≡ Some b = q in absurd (cc)
         by_value (Some x) d q = by_extension x d (A.extend x (arc_of g a).weight) refl q
 
-    candidate_offers : (a : ℕ) → HasArc g a → (b : Reached × V) → candidate A g lines a ≡ Some b → Offers A g lines (arc_of g a).tail (arc_of g a).head b.0 b.1
-    candidate_offers a h b e = offers_by a h b (label_of lines (arc_of g a).tail) refl e
-
-    offers_candidate : (u v : ℕ) (near : Reached) (z : V) → (b : Offers A g lines u v near z) → candidate A g lines b.arc ≡ Some (near, z)
+    offers_candidate : (u v : ℕ) (near : Reached) (z : V) → (b : Offers A g lines u v near z) → candidate A lines (seen g b.arc) ≡ Some (near, z)
     offers_candidate u v near z b =
         let line : label_of lines (arc_of g b.arc).tail ≡ Some near = ap (label_of lines) b.tail_is ∙ b.line_is in
         let value = is_decoded near.code b.value b.code_is in
         let ex = b.extends in
         rw (line, value, ex) refl
 
-    -- a test of what an arc offers
-    abbrev on_candidate : (ℕ → Reached → V → Bool) → ℕ → Option (Reached × V) → Bool
-    on_candidate test u None = false
-    on_candidate test u (Some b) = test u b.0 b.1
+    module _ (v : ℕ) (roads : List OutRoad) (into : ListsRoadsInto g v roads) where
+      module _ (test : ℕ → Reached → V → Bool) where
+        -- whether what an arc offers passes the test
+        abbrev shows : OutRoad → Bool
+        shows road = passes (test road.head) (candidate A lines road)
 
-    module _ (v : ℕ) (arcs : List ℕ) (into : AreInto g v arcs) (test : ℕ → Reached → V → Bool) (field : ℕ → Bool)
-        (is : (a : ℕ) → field a ≡ on_candidate test (arc_of g a).tail (candidate A g lines a)) where
-      found_by : (a : ℕ) → HasArc g a → (arc_of g a).head ≡ v → (o : Option (Reached × V)) → candidate A g lines a ≡ o → on_candidate test (arc_of g a).tail o ≡ true →
-          (u : ℕ) × (near : Reached) × (z : V) × Offers A g lines u v near z × (test u near z ≡ true)
-      found_by a h e None f t = let bad : false ≡ true = t in absurd (cc)
-      found_by a h e (Some b) f t = ((arc_of g a).tail, b.0, b.1, subst (λ (k : ℕ). Offers A g lines (arc_of g a).tail k b.0 b.1) e (candidate_offers a h b f), t)
+        by_arcs : list_any shows roads ≡ list_any (λ a. shows (seen g a)) into.0
+        by_arcs = ap (list_any shows) into.2 ∙ any_seen g shows into.0
 
-      -- where some arc passes, something is offered that does
-      found : list_any field arcs ≡ true → (u : ℕ) × (near : Reached) × (z : V) × Offers A g lines u v near z × (test u near z ≡ true)
-      found h =
-          let a = any_found field arcs h in
-          let arc = (into a.0).0 a.1 in
-          found_by a.0 arc.0 arc.1 (candidate A g lines a.0) refl (sym (is a.0) ∙ a.2)
+        found_by : (a : ℕ) → HasArc g a → (arc_of g a).head ≡ v → (o : Option (Reached × V)) → candidate A lines (seen g a) ≡ o → passes (test (arc_of g a).tail) o ≡ true →
+            (u : ℕ) × (near : Reached) × (z : V) × Offers A g lines u v near z × (test u near z ≡ true)
+        found_by a h e None f t = let bad : false ≡ true = t in absurd (cc)
+        found_by a h e (Some b) f t =
+            let offers = offers_by a h b (label_of lines (arc_of g a).tail) refl f in
+            ((arc_of g a).tail, b.0, b.1, subst (λ (k : ℕ). Offers A g lines (arc_of g a).tail k b.0 b.1) e offers, t)
 
-      -- where no arc passes, nothing is offered that does
-      missed : list_any field arcs ≡ false → (u : ℕ) (near : Reached) (z : V) → Offers A g lines u v near z → test u near z ≡ false
-      missed h u near z b =
-          let listed = (into b.arc).1 (b.is_arc, b.head_is) in
-          let none = any_missed field arcs h b.arc listed in
-          let shown : on_candidate test (arc_of g b.arc).tail (candidate A g lines b.arc) ≡ false = sym (is b.arc) ∙ none in
-          let here : test (arc_of g b.arc).tail near z ≡ false = subst (λ (o : Option (Reached × V)). on_candidate test (arc_of g b.arc).tail o ≡ false) (offers_candidate u v near z b) shown in
-          subst (λ (k : ℕ). test k near z ≡ false) b.tail_is here
+        -- where some arc passes, something is offered that does
+        found : list_any shows roads ≡ true → (u : ℕ) × (near : Reached) × (z : V) × Offers A g lines u v near z × (test u near z ≡ true)
+        found h =
+            let a = any_found (λ a. shows (seen g a)) into.0 (sym by_arcs ∙ h) in
+            let arc = (into.1 a.0).0 a.1 in
+            found_by a.0 arc.0 arc.1 (candidate A lines (seen g a.0)) refl a.2
 
-not_both : (a b : Bool) → (a && b) ≡ false → a ≡ true → b ≡ false
-not_both true b h e = h
-not_both false b h e = let bad : false ≡ true = e in absurd (cc)
+        -- where no arc passes, nothing is offered that does
+        missed : list_any shows roads ≡ false → (u : ℕ) (near : Reached) (z : V) → Offers A g lines u v near z → test u near z ≡ false
+        missed h u near z b =
+            let none = any_missed (λ a. shows (seen g a)) into.0 (sym by_arcs ∙ h) b.arc ((into.1 b.arc).1 (b.is_arc, b.head_is)) in
+            let here : test (arc_of g b.arc).tail near z ≡ false = subst (λ (o : Option (Reached × V)). passes (test (arc_of g b.arc).tail) o ≡ false) (offers_candidate u v near z b) none in
+            subst (λ (k : ℕ). test k near z ≡ false) b.tail_is here
 
--- the reasons below a number, where those that could come first do not hold
-no_earlier : {V : Type 0} (A : Algebra V) (g : GraphData) (lines : List (Option Reached)) (v : ℕ) (r : Reached) (n : ℕ) → n ≤ 5 →
-    (2 < n → IsRefuted A g lines v (Some r) NotBest → ⊥) → (3 < n → IsRefuted A g lines v (Some r) NoParent → ⊥) → (4 < n → IsRefuted A g lines v (Some r) OtherHops → ⊥) →
-    (s : Reason) → reason_number s < n → IsRefuted A g lines v (Some r) s → ⊥
-no_earlier A g lines v r n few f2 f3 f4 Mismatch lt h = h
-no_earlier A g lines v r n few f2 f3 f4 NotBest lt h = f2 lt h
-no_earlier A g lines v r n few f2 f3 f4 NoParent lt h = f3 lt h
-no_earlier A g lines v r n few f2 f3 f4 OtherHops lt h = f4 lt h
-no_earlier A g lines v r n few f2 f3 f4 LesserParent lt h = omega (arith, few, lt)
-no_earlier A g lines v r n few f2 f3 f4 HasWalk lt h = h
-no_earlier A g lines v r n few f2 f3 f4 OtherRoute lt h = h
+      before_walk : (s : Reason) → reason_number s < 6 → IsRefuted A g lines v None s → ⊥
+      before_walk Mismatch lt h = h
+      before_walk NotBest lt h = h
+      before_walk NoParent lt h = h
+      before_walk OtherHops lt h = h
+      before_walk LesserParent lt h = h
+      before_walk HasWalk lt h = omega (arith, lt)
+      before_walk OtherRoute lt h = h
 
-module _ {V : Type 0} (A : Algebra V) (lawful : IsLawful A) (g : GraphData) (lines : List (Option Reached)) (v : ℕ) (arcs : List ℕ) (into : AreInto g v arcs)
-    (r : Reached) (y : V) (code : IsCodeOf A r.code y) where
-  abbrev better : ℕ → Reached → V → Bool
-  better u near z = not (A.no_worse y z)
+      -- where an arc offers a value, an unreached line is refused
+      pub walk_judged : list_any (λ road. is_there (candidate A lines road)) roads ≡ true → IsFirstReason (IsRightLine A g lines v None) (IsRefuted A g lines v None) (Some HasWalk)
+      walk_judged h = let f = found (λ _ _ _. true) h in ((f.0, f.1, f.2, f.3), before_walk)
 
-  abbrev supported : ℕ → Reached → V → Bool
-  supported u near z = is_same A.no_worse y z && nat_eq u r.parent
+      -- where no arc offers a value, an unreached line is right
+      pub walk_missed : list_any (λ road. is_there (candidate A lines road)) roads ≡ false → IsRightLine A g lines v None
+      walk_missed h u near z b = let none : true ≡ false = missed (λ _ _ _. true) h u near z b in cc
 
-  abbrev astray : ℕ → Reached → V → Bool
-  astray u near z = is_same A.no_worse y z && (nat_eq u r.parent && not (nat_eq (near.hops + 1) r.hops))
+      module _ (r : Reached) (y : V) (code : IsCodeOf A r.code y) where
+        abbrev better : ℕ → Reached → V → Bool
+        better u near z = not (A.no_worse y z)
 
-  abbrev nearer : ℕ → Reached → V → Bool
-  nearer u near z = is_same A.no_worse y z && nat_lt (near.hops + 1) r.hops
+        abbrev supported : ℕ → Reached → V → Bool
+        supported u near z = is_same A.no_worse y z && nat_eq u r.parent
 
-  abbrev lesser : ℕ → Reached → V → Bool
-  lesser u near z = is_same A.no_worse y z && (nat_lt u r.parent && nat_eq (near.hops + 1) r.hops)
+        abbrev astray : ℕ → Reached → V → Bool
+        astray u near z = is_same A.no_worse y z && (nat_eq u r.parent && not (nat_eq (near.hops + 1) r.hops))
 
-  better_is : (u : ℕ) (o : Option (Reached × V)) → (evidence_by A.no_worse u r y o).better ≡ on_candidate A lawful g lines better u o
-  better_is u None = refl
-  better_is u (Some b) = refl
+        abbrev nearer : ℕ → Reached → V → Bool
+        nearer u near z = is_same A.no_worse y z && nat_lt (near.hops + 1) r.hops
 
-  supported_is : (u : ℕ) (o : Option (Reached × V)) → (evidence_by A.no_worse u r y o).supported ≡ on_candidate A lawful g lines supported u o
-  supported_is u None = refl
-  supported_is u (Some b) = refl
+        abbrev lesser : ℕ → Reached → V → Bool
+        lesser u near z = is_same A.no_worse y z && (nat_lt u r.parent && nat_eq (near.hops + 1) r.hops)
 
-  astray_is : (u : ℕ) (o : Option (Reached × V)) → (evidence_by A.no_worse u r y o).astray ≡ on_candidate A lawful g lines astray u o
-  astray_is u None = refl
-  astray_is u (Some b) = refl
+        abbrev shown : Evidence
+        shown = all_evidence A A.no_worse lines r y roads
 
-  nearer_is : (u : ℕ) (o : Option (Reached × V)) → (evidence_by A.no_worse u r y o).nearer ≡ on_candidate A lawful g lines nearer u o
-  nearer_is u None = refl
-  nearer_is u (Some b) = refl
+        abbrev Refuted : Reason → Type 0
+        Refuted = IsRefuted A g lines v (Some r)
 
-  lesser_is : (u : ℕ) (o : Option (Reached × V)) → (evidence_by A.no_worse u r y o).lesser ≡ on_candidate A lawful g lines lesser u o
-  lesser_is u None = refl
-  lesser_is u (Some b) = refl
+        -- the reasons below a number, where those that could come first do not hold
+        no_earlier : (n : ℕ) → n ≤ 5 → (2 < n → Refuted NotBest → ⊥) → (3 < n → Refuted NoParent → ⊥) → (4 < n → Refuted OtherHops → ⊥) →
+            (s : Reason) → reason_number s < n → Refuted s → ⊥
+        no_earlier n few f2 f3 f4 Mismatch lt h = h
+        no_earlier n few f2 f3 f4 NotBest lt h = f2 lt h
+        no_earlier n few f2 f3 f4 NoParent lt h = f3 lt h
+        no_earlier n few f2 f3 f4 OtherHops lt h = f4 lt h
+        no_earlier n few f2 f3 f4 LesserParent lt h = omega (arith, few, lt)
+        no_earlier n few f2 f3 f4 HasWalk lt h = h
+        no_earlier n few f2 f3 f4 OtherRoute lt h = h
 
-  abbrev shown : Evidence
-  shown = all_evidence A A.no_worse g lines r y arcs
+        same_value : (x : V) → IsCodeOf A r.code x → x ≡ y
+        same_value x h = code_of_one A lawful r.code x y h code
 
-  same_value : (x : V) → IsCodeOf A r.code x → x ≡ y
-  same_value x h = code_of_one A lawful r.code x y h code
+        -- what gives the line's value offers y
+        gives_value : (u : ℕ) (near : Reached) → Gives A g lines u v near r → Offers A g lines u v near y
+        gives_value u near h = subst (λ (z : V). Offers A g lines u v near z) (same_value h.0 h.1) h.2
 
-  -- what gives the line's value offers y
-  gives_value : (u : ℕ) (near : Reached) → Gives A g lines u v near r → Offers A g lines u v near y
-  gives_value u near h = subst (λ (z : V). Offers A g lines u v near z) (same_value h.0 h.1) h.2
+        -- what is offered and is the same value gives it
+        value_given : (u : ℕ) (near : Reached) (z : V) → Offers A g lines u v near z → is_same A.no_worse y z ≡ true → Gives A g lines u v near r
+        value_given u near z b e = (y, code, subst (λ (x : V). Offers A g lines u v near x) (sym (same_both y z e)) b)
 
-  -- what is offered and is the same value gives it
-  value_given : (u : ℕ) (near : Reached) (z : V) → Offers A g lines u v near z → is_same A.no_worse y z ≡ true → Gives A g lines u v near r
-  value_given u near z b e = (y, code, subst (λ (x : V). Offers A g lines u v near x) (sym (same_both A lawful y z e)) b)
+        is_beaten : shown.better ≡ true → Refuted NotBest
+        is_beaten h =
+            let f = found better h in
+            (y, code, (f.0, f.1, f.2, f.3, λ t. let bad : true ≡ false = sym t ∙ not-true (A.no_worse y f.2) f.4 in cc))
 
-  is_beaten : shown.better ≡ true → IsRefuted A g lines v (Some r) NotBest
-  is_beaten h =
-      let f = found A lawful g lines v arcs into better (λ a. (evidence_of A A.no_worse g lines r y a).better) (λ a. better_is (arc_of g a).tail (candidate A g lines a)) h in
-      (y, code, (f.0, f.1, f.2, f.3, λ t. let bad : true ≡ false = sym t ∙ not-true (A.no_worse y f.2) f.4 in cc))
+        none_better : shown.better ≡ false → (u : ℕ) (near : Reached) (z : V) → Offers A g lines u v near z → IsTrue (A.no_worse y z)
+        none_better h u near z b = not-false (A.no_worse y z) (missed better h u near z b)
 
-  none_better : shown.better ≡ false → (u : ℕ) (near : Reached) (z : V) → Offers A g lines u v near z → IsTrue (A.no_worse y z)
-  none_better h u near z b =
-      not-false (A.no_worse y z) (missed A lawful g lines v arcs into better (λ a. (evidence_of A A.no_worse g lines r y a).better)
-      (λ a. better_is (arc_of g a).tail (candidate A g lines a)) h u near z b)
+        not_beaten : shown.better ≡ false → Refuted NotBest → ⊥
+        not_beaten h beaten =
+            let b = beaten.2 in
+            b.4 (subst (λ (x : V). IsTrue (A.no_worse x b.2)) (sym (same_value beaten.0 beaten.1)) (none_better h b.0 b.1 b.2 b.3))
 
-  not_beaten : shown.better ≡ false → IsRefuted A g lines v (Some r) NotBest → ⊥
-  not_beaten h beaten =
-      let b = beaten.2 in
-      b.4 (subst (λ (x : V). IsTrue (A.no_worse x b.2)) (sym (same_value beaten.0 beaten.1)) (none_better h b.0 b.1 b.2 b.3))
+        from_parent : shown.supported ≡ true → (near : Reached) × Gives A g lines r.parent v near r
+        from_parent h =
+            let f = found supported h in
+            let t = and_parts (is_same A.no_worse y f.2) (nat_eq f.0 r.parent) f.4 in
+            (f.1, subst (λ (u : ℕ). Gives A g lines u v f.1 r) (eqb-true f.0 r.parent t.1) (value_given f.0 f.1 f.2 f.3 t.0))
 
-  from_parent : shown.supported ≡ true → (near : Reached) × Gives A g lines r.parent v near r
-  from_parent h =
-      let f = found A lawful g lines v arcs into supported (λ a. (evidence_of A A.no_worse g lines r y a).supported) (λ a. supported_is (arc_of g a).tail (candidate A g lines a)) h in
-      let t = and_parts (is_same A.no_worse y f.2) (nat_eq f.0 r.parent) f.4 in
-      (f.1, subst (λ (u : ℕ). Gives A g lines u v f.1 r) (eqb-true f.0 r.parent t.1) (value_given f.0 f.1 f.2 f.3 t.0))
+        no_parent : shown.supported ≡ false → Refuted NoParent
+        no_parent h = λ near gives.
+            let none = missed supported h r.parent near y (gives_value r.parent near gives) in
+            eqb-false r.parent r.parent (not_both (is_same A.no_worse y y) (nat_eq r.parent r.parent) none (same_itself y)) refl
 
-  no_parent : shown.supported ≡ false → IsRefuted A g lines v (Some r) NoParent
-  no_parent h = λ near gives.
-      let none = missed A lawful g lines v arcs into supported (λ a. (evidence_of A A.no_worse g lines r y a).supported)
-      (λ a. supported_is (arc_of g a).tail (candidate A g lines a)) h r.parent near y (gives_value r.parent near gives) in
-      eqb-false r.parent r.parent (not_both (is_same A.no_worse y y) (nat_eq r.parent r.parent) none (same_itself A lawful y)) refl
+        goes_astray : shown.astray ≡ true → Refuted OtherHops
+        goes_astray h =
+            let f = found astray h in
+            let t = and_parts (is_same A.no_worse y f.2) (nat_eq f.0 r.parent && not (nat_eq (f.1.hops + 1) r.hops)) f.4 in
+            let s = and_parts (nat_eq f.0 r.parent) (not (nat_eq (f.1.hops + 1) r.hops)) t.1 in
+            inl (
+              f.1,
+              subst (λ (u : ℕ). Gives A g lines u v f.1 r) (eqb-true f.0 r.parent s.0) (value_given f.0 f.1 f.2 f.3 t.0),
+              eqb-false (f.1.hops + 1) r.hops (not-true (nat_eq (f.1.hops + 1) r.hops) s.1),
+            )
 
-  goes_astray : shown.astray ≡ true → IsRefuted A g lines v (Some r) OtherHops
-  goes_astray h =
-      let f = found A lawful g lines v arcs into astray (λ a. (evidence_of A A.no_worse g lines r y a).astray) (λ a. astray_is (arc_of g a).tail (candidate A g lines a)) h in
-      let t = and_parts (is_same A.no_worse y f.2) (nat_eq f.0 r.parent && not (nat_eq (f.1.hops + 1) r.hops)) f.4 in
-      let s = and_parts (nat_eq f.0 r.parent) (not (nat_eq (f.1.hops + 1) r.hops)) t.1 in
-      inl (
-        f.1,
-        subst (λ (u : ℕ). Gives A g lines u v f.1 r) (eqb-true f.0 r.parent s.0) (value_given f.0 f.1 f.2 f.3 t.0),
-        eqb-false (f.1.hops + 1) r.hops (not-true (nat_eq (f.1.hops + 1) r.hops) s.1),
-      )
+        hops_of_parent : shown.astray ≡ false → (near : Reached) → Gives A g lines r.parent v near r → near.hops + 1 ≡ r.hops
+        hops_of_parent h near gives =
+            let none = missed astray h r.parent near y (gives_value r.parent near gives) in
+            let t = not_both (is_same A.no_worse y y) (nat_eq r.parent r.parent && not (nat_eq (near.hops + 1) r.hops)) none (same_itself y) in
+            let s = not_both (nat_eq r.parent r.parent) (not (nat_eq (near.hops + 1) r.hops)) t (eq-eqb r.parent r.parent refl) in
+            eqb-true (near.hops + 1) r.hops (not-false (nat_eq (near.hops + 1) r.hops) s)
 
-  hops_of_parent : shown.astray ≡ false → (near : Reached) → Gives A g lines r.parent v near r → near.hops + 1 ≡ r.hops
-  hops_of_parent h near gives =
-      let none = missed A lawful g lines v arcs into astray (λ a. (evidence_of A A.no_worse g lines r y a).astray)
-      (λ a. astray_is (arc_of g a).tail (candidate A g lines a)) h r.parent near y (gives_value r.parent near gives) in
-      let t = not_both (is_same A.no_worse y y) (nat_eq r.parent r.parent && not (nat_eq (near.hops + 1) r.hops)) none (same_itself A lawful y) in
-      let s = not_both (nat_eq r.parent r.parent) (not (nat_eq (near.hops + 1) r.hops)) t (eq-eqb r.parent r.parent refl) in
-      eqb-true (near.hops + 1) r.hops (not-false (nat_eq (near.hops + 1) r.hops) s)
+        has_nearer : shown.nearer ≡ true → Refuted OtherHops
+        has_nearer h =
+            let f = found nearer h in
+            let t = and_parts (is_same A.no_worse y f.2) (nat_lt (f.1.hops + 1) r.hops) f.4 in
+            inr (f.0, f.1, value_given f.0 f.1 f.2 f.3 t.0, ltb-true (f.1.hops + 1) r.hops t.1)
 
-  has_nearer : shown.nearer ≡ true → IsRefuted A g lines v (Some r) OtherHops
-  has_nearer h =
-      let f = found A lawful g lines v arcs into nearer (λ a. (evidence_of A A.no_worse g lines r y a).nearer) (λ a. nearer_is (arc_of g a).tail (candidate A g lines a)) h in
-      let t = and_parts (is_same A.no_worse y f.2) (nat_lt (f.1.hops + 1) r.hops) f.4 in
-      inr (f.0, f.1, value_given f.0 f.1 f.2 f.3 t.0, ltb-true (f.1.hops + 1) r.hops t.1)
+        none_nearer : shown.nearer ≡ false → (u : ℕ) (near : Reached) → Offers A g lines u v near y → r.hops ≤ near.hops + 1
+        none_nearer h u near b =
+            ltb-false (near.hops + 1) r.hops (not_both (is_same A.no_worse y y) (nat_lt (near.hops + 1) r.hops) (missed nearer h u near y b) (same_itself y))
 
-  none_nearer : shown.nearer ≡ false → (u : ℕ) (near : Reached) → Offers A g lines u v near y → r.hops ≤ near.hops + 1
-  none_nearer h u near b =
-      let none = missed A lawful g lines v arcs into nearer (λ a. (evidence_of A A.no_worse g lines r y a).nearer) (λ a. nearer_is (arc_of g a).tail (candidate A g lines a)) h u near y b in
-      ltb-false (near.hops + 1) r.hops (not_both (is_same A.no_worse y y) (nat_lt (near.hops + 1) r.hops) none (same_itself A lawful y))
+        same_hops : shown.astray ≡ false → shown.nearer ≡ false → Refuted OtherHops → ⊥
+        same_hops h k (inl o) = o.2 (hops_of_parent h o.0 o.1)
+        same_hops h k (inr o) =
+            let few = none_nearer k o.0 o.1 (gives_value o.0 o.1 o.2) in
+            let less = o.3 in omega (arith, few, less)
 
-  same_hops : shown.astray ≡ false → shown.nearer ≡ false → IsRefuted A g lines v (Some r) OtherHops → ⊥
-  same_hops h k (inl o) = o.2 (hops_of_parent h o.0 o.1)
-  same_hops h k (inr o) =
-      let few = none_nearer k o.0 o.1 (gives_value o.0 o.1 o.2) in
-      let less = o.3 in omega (arith, few, less)
+        has_lesser : shown.lesser ≡ true → Refuted LesserParent
+        has_lesser h =
+            let f = found lesser h in
+            let t = and_parts (is_same A.no_worse y f.2) (nat_lt f.0 r.parent && nat_eq (f.1.hops + 1) r.hops) f.4 in
+            let s = and_parts (nat_lt f.0 r.parent) (nat_eq (f.1.hops + 1) r.hops) t.1 in
+            (f.0, f.1, value_given f.0 f.1 f.2 f.3 t.0, ltb-true f.0 r.parent s.0, eqb-true (f.1.hops + 1) r.hops s.1)
 
-  has_lesser : shown.lesser ≡ true → IsRefuted A g lines v (Some r) LesserParent
-  has_lesser h =
-      let f = found A lawful g lines v arcs into lesser (λ a. (evidence_of A A.no_worse g lines r y a).lesser) (λ a. lesser_is (arc_of g a).tail (candidate A g lines a)) h in
-      let t = and_parts (is_same A.no_worse y f.2) (nat_lt f.0 r.parent && nat_eq (f.1.hops + 1) r.hops) f.4 in
-      let s = and_parts (nat_lt f.0 r.parent) (nat_eq (f.1.hops + 1) r.hops) t.1 in
-      (f.0, f.1, value_given f.0 f.1 f.2 f.3 t.0, ltb-true f.0 r.parent s.0, eqb-true (f.1.hops + 1) r.hops s.1)
+        none_lesser : shown.lesser ≡ false → (u : ℕ) (near : Reached) → Offers A g lines u v near y → near.hops + 1 ≡ r.hops → r.parent ≤ u
+        none_lesser h u near b e =
+            let t = not_both (is_same A.no_worse y y) (nat_lt u r.parent && nat_eq (near.hops + 1) r.hops) (missed lesser h u near y b) (same_itself y) in
+            let swapped : (nat_lt u r.parent ≡ true) → ⊥ = λ less. eqb-false (near.hops + 1) r.hops (not_both (nat_lt u r.parent) (nat_eq (near.hops + 1) r.hops) t less) e in
+            ltb-false u r.parent (false_from_ne_true (nat_lt u r.parent) swapped)
 
-  none_lesser : shown.lesser ≡ false → (u : ℕ) (near : Reached) → Offers A g lines u v near y → near.hops + 1 ≡ r.hops → r.parent ≤ u
-  none_lesser h u near b e =
-      let none = missed A lawful g lines v arcs into lesser (λ a. (evidence_of A A.no_worse g lines r y a).lesser) (λ a. lesser_is (arc_of g a).tail (candidate A g lines a)) h u near y b in
-      let t = not_both (is_same A.no_worse y y) (nat_lt u r.parent && nat_eq (near.hops + 1) r.hops) none (same_itself A lawful y) in
-      let swapped : (nat_lt u r.parent ≡ true) → ⊥ = λ less. eqb-false (near.hops + 1) r.hops (not_both (nat_lt u r.parent) (nat_eq (near.hops + 1) r.hops) t less) e in
-      at_most u r.parent (nat_lt u r.parent) refl swapped
-    where
-      at_most : (a b : ℕ) (t : Bool) → nat_lt a b ≡ t → (nat_lt a b ≡ true → ⊥) → b ≤ a
-      at_most a b true f no_less = absurd (no_less f)
-      at_most a b false f no_less = ltb-false a b f
+        abbrev Judged : Option Reason → Type 0
+        Judged o = IsFirstReason (IsSupported A g lines v r) Refuted o
 
-  abbrev Judged : Option Reason → Type 0
-  Judged o = IsFirstReason (IsSupported A g lines v r) (IsRefuted A g lines v (Some r)) o
+        by_lesser : (b : Bool) → shown.better ≡ false → shown.supported ≡ true → shown.astray ≡ false → shown.nearer ≡ false → shown.lesser ≡ b → Judged (reason_by shown)
+        by_lesser true e f h k l = rw (e, f, h, k, l) (
+          has_lesser l,
+          no_earlier 5 (omega arith) (λ _. not_beaten e) (λ _ no. let p = from_parent f in no p.0 p.1) (λ _. same_hops h k),
+        )
+        by_lesser false e f h k l = rw (e, f, h, k, l) (let p = from_parent f in record {
+          value = y;
+          code_is = code;
+          near = p.0;
+          from_parent = gives_value r.parent p.0 p.1;
+          hops_are = hops_of_parent h p.0 p.1;
+          not_beaten = none_better e;
+          not_nearer = none_nearer k;
+          not_lesser = none_lesser l;
+        })
 
-  by_lesser : (b : Bool) → shown.better ≡ false → shown.supported ≡ true → shown.astray ≡ false → shown.nearer ≡ false → shown.lesser ≡ b → Judged (reason_by shown)
-  by_lesser true e f h k l = rw (e, f, h, k, l) (
-    has_lesser l,
-    no_earlier A g lines v r 5 (omega arith) (λ _. not_beaten e) (λ _ no. let p = from_parent f in no p.0 p.1) (λ _. same_hops h k),
-  )
-  by_lesser false e f h k l = rw (e, f, h, k, l) (let p = from_parent f in record {
-    value = y;
-    code_is = code;
-    near = p.0;
-    from_parent = gives_value r.parent p.0 p.1;
-    hops_are = hops_of_parent h p.0 p.1;
-    not_beaten = none_better e;
-    not_nearer = none_nearer k;
-    not_lesser = none_lesser l;
-  })
+        by_nearer : (b : Bool) → shown.better ≡ false → shown.supported ≡ true → shown.astray ≡ false → shown.nearer ≡ b → Judged (reason_by shown)
+        by_nearer true e f h k = rw (e, f, h, k) (has_nearer k, no_earlier 4 (omega arith) (λ _. not_beaten e) (λ _ no. let p = from_parent f in no p.0 p.1) (λ lt. absurd (omega (arith, lt))))
+        by_nearer false e f h k = by_lesser shown.lesser e f h k refl
 
-  by_nearer : (b : Bool) → shown.better ≡ false → shown.supported ≡ true → shown.astray ≡ false → shown.nearer ≡ b → Judged (reason_by shown)
-  by_nearer true e f h k = rw (e, f, h, k) (
-    has_nearer k,
-    no_earlier A g lines v r 4 (omega arith) (λ _. not_beaten e) (λ _ none. let p = from_parent f in none p.0 p.1)
-        (λ lt. absurd (omega (arith, lt))),
-  )
-  by_nearer false e f h k = by_lesser shown.lesser e f h k refl
+        by_astray : (b : Bool) → shown.better ≡ false → shown.supported ≡ true → shown.astray ≡ b → Judged (reason_by shown)
+        by_astray true e f h = rw (e, f, h) (goes_astray h, no_earlier 4 (omega arith) (λ _. not_beaten e) (λ _ no. let p = from_parent f in no p.0 p.1) (λ lt. absurd (omega (arith, lt))))
+        by_astray false e f h = by_nearer shown.nearer e f h refl
 
-  by_astray : (b : Bool) → shown.better ≡ false → shown.supported ≡ true → shown.astray ≡ b → Judged (reason_by shown)
-  by_astray true e f h = rw (e, f, h) (goes_astray h, no_earlier A g lines v r 4 (omega arith) (λ _. not_beaten e) (λ _ none. let p = from_parent f in none p.0 p.1) (λ lt. absurd (omega (arith, lt))))
-  by_astray false e f h = by_nearer shown.nearer e f h refl
+        by_supported : (b : Bool) → shown.better ≡ false → shown.supported ≡ b → Judged (reason_by shown)
+        by_supported true e f = by_astray shown.astray e f refl
+        by_supported false e f = rw (e, f) (no_parent f, no_earlier 3 (omega arith) (λ _. not_beaten e) (λ lt. absurd (omega (arith, lt))) (λ lt. absurd (omega (arith, lt))))
 
-  by_supported : (b : Bool) → shown.better ≡ false → shown.supported ≡ b → Judged (reason_by shown)
-  by_supported true e f = by_astray shown.astray e f refl
-  by_supported false e f = rw (e, f) (no_parent f, no_earlier A g lines v r 3 (omega arith) (λ _. not_beaten e) (λ lt. absurd (omega (arith, lt))) (λ lt. absurd (omega (arith, lt))))
+        by_better : (b : Bool) → shown.better ≡ b → Judged (reason_by shown)
+        by_better true e = rw e (is_beaten e, no_earlier 2 (omega arith) (λ lt. absurd (omega (arith, lt))) (λ lt. absurd (omega (arith, lt))) (λ lt. absurd (omega (arith, lt))))
+        by_better false e = by_supported shown.supported e refl
 
-  by_better : (b : Bool) → shown.better ≡ b → Judged (reason_by shown)
-  by_better true e = rw e (is_beaten e, no_earlier A g lines v r 2 (omega arith) (λ lt. absurd (omega (arith, lt))) (λ lt. absurd (omega (arith, lt))) (λ lt. absurd (omega (arith, lt))))
-  by_better false e = by_supported shown.supported e refl
-
-  -- the evidence is that the line is right, or the first reason against it
-  pub evidence_judges : Judged (reason_by shown)
-  evidence_judges = by_better shown.better refl
-
-module _ {V : Type 0} (A : Algebra V) (lawful : IsLawful A) (g : GraphData) (lines : List (Option Reached)) (v : ℕ) (arcs : List ℕ) (into : AreInto g v arcs) where
-  there_is : (u : ℕ) (o : Option (Reached × V)) → is_there o ≡ on_candidate A lawful g lines (λ _ _ _. true) u o
-  there_is u None = refl
-  there_is u (Some b) = refl
-
-  before_walk : (s : Reason) → reason_number s < 6 → IsRefuted A g lines v None s → ⊥
-  before_walk Mismatch lt h = h
-  before_walk NotBest lt h = h
-  before_walk NoParent lt h = h
-  before_walk OtherHops lt h = h
-  before_walk LesserParent lt h = h
-  before_walk HasWalk lt h = omega (arith, lt)
-  before_walk OtherRoute lt h = h
-
-  -- where an arc offers a value, an unreached line is refused
-  pub walk_judged : list_any (λ a. is_there (candidate A g lines a)) arcs ≡ true → IsFirstReason (IsRightLine A g lines v None) (IsRefuted A g lines v None) (Some HasWalk)
-  walk_judged h =
-      let f = found A lawful g lines v arcs into (λ _ _ _. true) (λ a. is_there (candidate A g lines a)) (λ a. there_is (arc_of g a).tail (candidate A g lines a)) h in
-      ((f.0, f.1, f.2, f.3), before_walk)
-
-  -- where no arc offers a value, an unreached line is right
-  pub walk_missed : list_any (λ a. is_there (candidate A g lines a)) arcs ≡ false → IsRightLine A g lines v None
-  walk_missed h u near z b =
-      let none : true ≡ false = missed A lawful g lines v arcs into (λ _ _ _. true) (λ a. is_there (candidate A g lines a)) (λ a. there_is (arc_of g a).tail (candidate A g lines a)) h u near z b in cc
+        -- the evidence is that the line is right, or the first reason against it
+        pub evidence_judges : Judged (reason_by shown)
+        evidence_judges = by_better shown.better refl

@@ -148,10 +148,6 @@ module _ {V : Type 0} (A : Algebra V) (lawful : IsLawful A) (g : GraphData) (lin
           first_there v reason is first,
         )
 
-  -- a reason at the vertex contradicts that it is right
-  pub not_right : (v : ℕ) (b : Bool) → ((r : Reason) × IsMarkedRefused A g lines v b r) → IsMarkedRight A g lines v b → ⊥
-  not_right v b h right = marked_not_refused v b h.0 right h.1
-
   no_mismatch : (v : ℕ) (l : Option Reached) → IsRefuted A g lines v l Mismatch → ⊥
   no_mismatch v None h = h
   no_mismatch v (Some r) h = h

@@ -1,9 +1,11 @@
 pub mod Certified
+mod Entering
 mod EvidenceAdds
-pub mod EvidenceMeans
+mod EvidenceMeans
 pub mod FirstPlaces
 mod Marks
 mod PairsJudged
 mod FirstWrong
 mod OneVerdict
 mod RunsAreRight
+mod Sharing

@@ -1,7 +1,7 @@
 -- What the arcs into a vertex show of its line, as the check computes it.
 use Rattle.std.specs.Prelude.{ℕ, ◌+◌, ◌^◌, List, Bool, true, false, not, ◌&&◌, ◌||◌, nat_eq, nat_lt, if◌then◌else◌, Option, Some, None}
 use Rattle.std.specs.List.{list_any}
-use Rattle.road_graph.specs.GraphData.{GraphData, arc_of}
+use Rattle.road_graph.specs.declared.OutRoad.{OutRoad}
 use Rattle.path_algebra.specs.Algebra.{Algebra}
 use Rattle.path_algebra.specs.Walks.{label_of}
 use Rattle.answer_text.specs.declared.answers.Reached.{Reached}
@@ -28,28 +28,32 @@ abbrev pub candidate_from : {V : Type 0} → Algebra V → Option Reached → �
 candidate_from A None w = None
 candidate_from A (Some near) w = beside near (extended A (decoded A near.code) w)
 
--- what an arc offers to its head
-abbrev pub candidate : {V : Type 0} → Algebra V → GraphData → List (Option Reached) → ℕ → Option (Reached × V)
-candidate A g lines a = candidate_from A (label_of lines (arc_of g a).tail) (arc_of g a).weight
+-- what an arc, given reversed, offers to the vertex that it enters
+abbrev pub candidate : {V : Type 0} → Algebra V → List (Option Reached) → OutRoad → Option (Reached × V)
+candidate A lines road = candidate_from A (label_of lines road.head) road.weight
 
 -- two values are the same
 abbrev pub is_same : {V : Type 0} → (V → V → Bool) → V → V → Bool
 is_same no_worse y z = no_worse y z && no_worse z y
 
+-- whether something is offered, and its line and its value pass a test
+abbrev pub passes : {V : Type 0} → (Reached → V → Bool) → Option (Reached × V) → Bool
+passes test None = false
+passes test (Some b) = test b.0 b.1
+
 -- what one arc from u shows of a line r with the value y, by what it offers
 abbrev pub evidence_by : {V : Type 0} → (V → V → Bool) → ℕ → Reached → V → Option (Reached × V) → Evidence
-evidence_by no_worse u r y None = record { better = false; supported = false; astray = false; nearer = false; lesser = false }
-evidence_by no_worse u r y (Some b) = record {
-  better = not (no_worse y b.1);
-  supported = is_same no_worse y b.1 && nat_eq u r.parent;
-  astray = is_same no_worse y b.1 && (nat_eq u r.parent && not (nat_eq (b.0.hops + 1) r.hops));
-  nearer = is_same no_worse y b.1 && nat_lt (b.0.hops + 1) r.hops;
-  lesser = is_same no_worse y b.1 && (nat_lt u r.parent && nat_eq (b.0.hops + 1) r.hops);
+evidence_by no_worse u r y offered = record {
+  better = passes (λ near z. not (no_worse y z)) offered;
+  supported = passes (λ near z. is_same no_worse y z && nat_eq u r.parent) offered;
+  astray = passes (λ near z. is_same no_worse y z && (nat_eq u r.parent && not (nat_eq (near.hops + 1) r.hops))) offered;
+  nearer = passes (λ near z. is_same no_worse y z && nat_lt (near.hops + 1) r.hops) offered;
+  lesser = passes (λ near z. is_same no_worse y z && (nat_lt u r.parent && nat_eq (near.hops + 1) r.hops)) offered;
 }
 
--- what one arc shows
-abbrev pub evidence_of : {V : Type 0} → Algebra V → (V → V → Bool) → GraphData → List (Option Reached) → Reached → V → ℕ → Evidence
-evidence_of A no_worse g lines r y a = evidence_by no_worse (arc_of g a).tail r y (candidate A g lines a)
+-- what one arc shows, given reversed
+abbrev pub evidence_of : {V : Type 0} → Algebra V → (V → V → Bool) → List (Option Reached) → Reached → V → OutRoad → Evidence
+evidence_of A no_worse lines r y road = evidence_by no_worse road.head r y (candidate A lines road)
 
 -- what either of the two shows
 abbrev pub either : Evidence → Evidence → Evidence
@@ -62,13 +66,13 @@ either s t = record {
 }
 
 -- what some arc of a list shows
-abbrev pub all_evidence : {V : Type 0} → Algebra V → (V → V → Bool) → GraphData → List (Option Reached) → Reached → V → List ℕ → Evidence
-all_evidence A no_worse g lines r y arcs = record {
-  better = list_any (λ a. (evidence_of A no_worse g lines r y a).better) arcs;
-  supported = list_any (λ a. (evidence_of A no_worse g lines r y a).supported) arcs;
-  astray = list_any (λ a. (evidence_of A no_worse g lines r y a).astray) arcs;
-  nearer = list_any (λ a. (evidence_of A no_worse g lines r y a).nearer) arcs;
-  lesser = list_any (λ a. (evidence_of A no_worse g lines r y a).lesser) arcs;
+abbrev pub all_evidence : {V : Type 0} → Algebra V → (V → V → Bool) → List (Option Reached) → Reached → V → List OutRoad → Evidence
+all_evidence A no_worse lines r y roads = record {
+  better = list_any (λ road. (evidence_of A no_worse lines r y road).better) roads;
+  supported = list_any (λ road. (evidence_of A no_worse lines r y road).supported) roads;
+  astray = list_any (λ road. (evidence_of A no_worse lines r y road).astray) roads;
+  nearer = list_any (λ road. (evidence_of A no_worse lines r y road).nearer) roads;
+  lesser = list_any (λ road. (evidence_of A no_worse lines r y road).lesser) roads;
 }
 
 -- the first reason that the evidence gives
@@ -81,7 +85,6 @@ reason_by evidence =
     else if evidence.lesser then Some LesserParent
     else None
 
--- whether something is there
-abbrev pub is_there : {X : Type 0} → Option X → Bool
-is_there None = false
-is_there (Some x) = true
+-- whether something is offered
+abbrev pub is_there : {V : Type 0} → Option (Reached × V) → Bool
+is_there offered = passes (λ near z. true) offered

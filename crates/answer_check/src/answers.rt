@@ -1,14 +1,15 @@
 //! The first place where the answer to one question is wrong.
 
-ghost use Rattle.std.specs.Prelude.{◌≡◌, ℕ, ◌<◌, length, slice_get, All, IfOk};
+ghost use Rattle.std.specs.Prelude.{◌≡◌, ◌<◌, length, slice_get, All, IfOk};
 ghost use Rattle.road_graph.specs.GraphData.{HasVertex};
 ghost use Rattle.path_plain.specs.Searcher.{IsOfSameGraph};
-ghost use Rattle.road_files.specs.Asked.{AskWithin, AreSourcesOf, FromSource, BetweenPair, FromSources, Question, asked_of};
+ghost use Rattle.road_files.specs.Asked.{FromSource, BetweenPair, FromSources, Question, asked_of};
 ghost use Rattle.answer_text.specs.AnswerData.{answer_data};
 ghost use Rattle.answer_text.specs.IsAnswer.{IsAnswer};
 ghost use Rattle.answer_check.specs.Verdicts.{IsWrongIn};
 ghost use Rattle.answer_check.specs.Places.{IsJudgedAt};
 
+use crate::case::Case;
 use crate::lines::judge_lines;
 use crate::pairs::reason_of_pair;
 use crate::place::Place;
@@ -16,7 +17,7 @@ use crate::verdict::Reason;
 use answer_text::Answer;
 use path_algebra::PathAlgebra;
 use road_files::{Questions, are_same};
-use road_graph::{Graph, Memory, Vertex};
+use road_graph::{InGraph, Memory, OutGraph, Vertex};
 use route_tree::PairSearcher;
 use std::alloc::Global;
 use std::thread::Threads;
@@ -32,7 +33,7 @@ fn judge_source<A: PathAlgebra, R: Threads + Sync>(
     rt: &R,
     alloc: Global,
     algebra: A,
-    graph: &Graph,
+    graph: &InGraph,
     source: Vertex,
     answer: &Answer,
 ) -> Result<Option<Place>, Memory>
@@ -51,7 +52,7 @@ fn judge_source<A: PathAlgebra, R: Threads + Sync>(
     if named.0 != source.0 || lines.len() != graph.vertices() as usize {
         return Ok(Some(MISMATCH));
     }
-    judge_lines(rt, alloc, algebra, graph, &[source], lines.as_slice())
+    judge_lines(rt, alloc, algebra, graph, &[source], lines)
 }
 
 /// Judges the answer to a question from several sources.
@@ -59,7 +60,7 @@ fn judge_sources<A: PathAlgebra, R: Threads + Sync>(
     rt: &R,
     alloc: Global,
     algebra: A,
-    graph: &Graph,
+    graph: &InGraph,
     sources: &[Vertex],
     answer: &Answer,
 ) -> Result<Option<Place>, Memory>
@@ -79,17 +80,19 @@ fn judge_sources<A: PathAlgebra, R: Threads + Sync>(
     if !are_same(sources, named.as_slice()) || lines.len() != graph.vertices() as usize {
         return Ok(Some(MISMATCH));
     }
-    judge_lines(rt, alloc, algebra, graph, sources, lines.as_slice())
+    judge_lines(rt, alloc, algebra, graph, sources, lines)
 }
 
 /// Judges the answer to a question from one vertex to another, which the searcher solves.
 pub(crate) fn judge_pair<A: PathAlgebra>(
     searcher: &mut PairSearcher<A>,
-    graph: &Graph,
+    graph: &OutGraph,
+    rows: &InGraph,
     pair: (Vertex, Vertex),
     answer: &Answer,
 ) -> Result<Option<Place>, Memory>
     requires graph { graph.now ≡ searcher.old.roads }
+    requires rows { rows.now ≡ graph.now }
     requires source { HasVertex graph.now pair.0 }
     requires target { HasVertex graph.now pair.1 }
     ensures place { IfOk result (IsJudgedAt (IsAnswer (A.meaning searcher.old.algebra) graph.now
@@ -110,7 +113,7 @@ pub(crate) fn judge_pair<A: PathAlgebra>(
     if from.0 != source.0 || to.0 != target.0 {
         return Ok(Some(MISMATCH));
     }
-    let reason = reason_of_pair(searcher, graph, pair, found)?;
+    let reason = reason_of_pair(searcher, graph, rows, pair, found)?;
     Ok(reason.map(|reason| Place {
         vertex: target.0,
         reason,
@@ -119,43 +122,40 @@ pub(crate) fn judge_pair<A: PathAlgebra>(
 
 /// Judges the answer to a question from one vertex to another, by a searcher of its own.
 fn judge_alone<A: PathAlgebra>(
-    alloc: Global,
-    algebra: A,
-    graph: &Graph,
+    case: &Case<'_, A>,
     pair: (Vertex, Vertex),
     answer: &Answer,
 ) -> Result<Option<Place>, Memory>
-    requires source { HasVertex graph.now pair.0 }
-    requires target { HasVertex graph.now pair.1 }
-    ensures { IfOk result (IsJudgedAt (IsAnswer (A.meaning algebra) graph.now
-        (BetweenPair pair.0 pair.1) (answer_data answer.now)) (IsWrongIn (A.meaning algebra)
-        graph.now (BetweenPair pair.0 pair.1) (answer_data answer.now))) }
+    requires source { HasVertex case.now.graph.now pair.0 }
+    requires target { HasVertex case.now.graph.now pair.1 }
+    ensures { IfOk result (IsJudgedAt (IsAnswer (A.meaning case.now.algebra) case.now.graph.now
+        (BetweenPair pair.0 pair.1) (answer_data answer.now))
+        (IsWrongIn (A.meaning case.now.algebra) case.now.graph.now (BetweenPair pair.0 pair.1)
+        (answer_data answer.now))) }
 {
-    let mut searcher = PairSearcher::new(alloc, algebra, graph.outgoing())?;
-    judge_pair(&mut searcher, graph, pair, answer)
+    let mut searcher = PairSearcher::new(case.alloc, case.algebra, case.graph)?;
+    judge_pair(&mut searcher, case.graph, case.rows, pair, answer)
 }
 
 /// The first place where the answer to question `i` is wrong.
 pub(crate) fn judge<A: PathAlgebra, R: Threads + Sync>(
     rt: &R,
-    alloc: Global,
-    algebra: A,
-    graph: &Graph,
-    questions: &Questions,
+    case: &Case<'_, A>,
     i: usize,
     answer: &Answer,
 ) -> Result<Option<Place>, Memory>
-    requires within { AskWithin graph.now.vertices questions.now }
-    requires place { i < length (asked_of questions.now).questions }
-    ensures { (q : Question) → slice_get (asked_of questions.now).questions i ≡ Some q →
-        IfOk result (IsJudgedAt (IsAnswer (A.meaning algebra) graph.now q (answer_data answer.now))
-        (IsWrongIn (A.meaning algebra) graph.now q (answer_data answer.now))) }
+    requires { i < length (asked_of case.now.questions.now).questions }
+    ensures { (q : Question) → slice_get (asked_of case.now.questions.now).questions i ≡ Some q →
+        IfOk result (IsJudgedAt (IsAnswer (A.meaning case.now.algebra) case.now.graph.now q
+        (answer_data answer.now)) (IsWrongIn (A.meaning case.now.algebra) case.now.graph.now q
+        (answer_data answer.now))) }
 {
-    match questions {
-        Questions::Sources(sources) => judge_source(rt, alloc, algebra, graph, sources[i], answer),
-        Questions::Pairs(pairs) => judge_alone(alloc, algebra, graph, pairs[i], answer),
+    let (alloc, algebra, rows) = (case.alloc, case.algebra, case.rows);
+    match case.questions {
+        Questions::Sources(sources) => judge_source(rt, alloc, algebra, rows, sources[i], answer),
+        Questions::Pairs(pairs) => judge_alone(case, pairs[i], answer),
         Questions::Multi(lists) => {
-            judge_sources(rt, alloc, algebra, graph, lists[i].as_slice(), answer)
+            judge_sources(rt, alloc, algebra, rows, lists[i].as_slice(), answer)
         }
     }
 }

@@ -8,19 +8,20 @@ ghost use Rattle.answer_check.specs.declared.verdict.Verdict.TheVariants.{Valid}
 ghost use Rattle.answer_check.specs.Verdicts.{HasHeader, IsVerdict};
 
 use crate::answers::judge;
+use crate::case::Case;
 use crate::suspects::right_prefix;
 use crate::verdict::{Reason, Verdict};
 use answer_text::Answers;
 use path_algebra::{PathAlgebra, laws_hold};
 use road_files::Questions;
-use road_graph::{Graph, Memory};
+use road_graph::{InGraph, Memory, OutGraph};
 use std::alloc::Global;
 use std::thread::Threads;
 
 /// Whether the header of an answer list is that of the questions over a graph.
 fn has_header<A: PathAlgebra>(
     algebra: A,
-    graph: &Graph,
+    graph: &OutGraph,
     questions: &Questions,
     answers: &Answers,
 ) -> bool
@@ -40,7 +41,7 @@ pub fn check<A: PathAlgebra, R: Threads + Sync>(
     rt: &R,
     alloc: Global,
     algebra: A,
-    graph: &Graph,
+    graph: &OutGraph,
     questions: &Questions,
     answers: &Answers,
 ) -> Result<Verdict, Memory>
@@ -59,9 +60,18 @@ pub fn check<A: PathAlgebra, R: Threads + Sync>(
             reason: Reason::Mismatch,
         });
     }
-    let right = right_prefix(rt, alloc, algebra, graph, questions, answers);
+    let rows = InGraph::of(alloc, graph)?;
+    let case = Case {
+        alloc,
+        algebra,
+        graph,
+        rows: &rows,
+        questions,
+        answers,
+    };
+    let right = right_prefix(rt, &case);
     for i in right..answers.list.len() {
-        let place = judge(rt, alloc, algebra, graph, questions, i, &answers.list[i])?;
+        let place = judge(rt, &case, i, &answers.list[i])?;
         if let Some(place) = place {
             return Ok(Verdict::Invalid {
                 question: i + 1,

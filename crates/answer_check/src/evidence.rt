@@ -1,28 +1,27 @@
 //! What the arcs into a reached vertex show of its line.
 
-ghost use Rattle.std.specs.Prelude.{◌≡◌, All, length};
-ghost use Rattle.road_graph.specs.GraphData.{HasArc, arc_of};
-ghost use Rattle.path_algebra.specs.Walks.{label_of};
+ghost use Rattle.std.specs.Prelude.{◌≡◌, ◌≤◌, All, length};
 ghost use Rattle.answer_check.specs.Evidence.{decoded, candidate_from, evidence_by, all_evidence};
 
 use crate::verdict::Reason;
+use crate::vertex_lines::VertexLines;
 use answer_text::Reached;
 use path_algebra::PathAlgebra;
-use road_graph::{ArcNo, Graph, Vertex};
+use road_graph::{OutRoad, Vertex};
 
 /// What some of the arcs into a vertex show of its line.
 #[derive(Clone, Copy)]
-pub struct Evidence {
+pub(crate) struct Evidence {
     /// One gives a better value.
-    pub better: bool,
+    pub(crate) better: bool,
     /// One gives this value, from the parent.
-    pub supported: bool,
+    pub(crate) supported: bool,
     /// One gives this value, from the parent, whose hops are not one less.
-    pub astray: bool,
+    pub(crate) astray: bool,
     /// One gives this value, with fewer hops.
-    pub nearer: bool,
+    pub(crate) nearer: bool,
     /// One gives this value with these hops, from a vertex less than the parent.
-    pub lesser: bool,
+    pub(crate) lesser: bool,
 }
 
 impl Evidence {
@@ -30,7 +29,7 @@ impl Evidence {
     ghost use Rattle.answer_check.specs.Evidence.{either, reason_by};
 
     /// The evidence of no arcs.
-    pub fn none() -> Evidence
+    pub(crate) fn none() -> Evidence
         ensures { result ≡ record {
           better = false;
           supported = false;
@@ -49,7 +48,7 @@ impl Evidence {
     }
 
     /// What either of the two shows.
-    pub fn or(self, other: Evidence) -> Evidence
+    pub(crate) fn or(self, other: Evidence) -> Evidence
         ensures { result ≡ either self other }
     {
         Evidence {
@@ -62,7 +61,7 @@ impl Evidence {
     }
 
     /// The first reason against the line, if there is one.
-    pub fn reason(self) -> Option<Reason>
+    pub(crate) fn reason(self) -> Option<Reason>
         ensures { result ≡ reason_by self }
     {
         if self.better {
@@ -80,14 +79,14 @@ impl Evidence {
 }
 
 /// The value of a line, if its code is that of a value.
-pub fn value_told<A: PathAlgebra>(algebra: A, line: Reached) -> Option<A::Value>
+pub(crate) fn value_told<A: PathAlgebra>(algebra: A, line: Reached) -> Option<A::Value>
     ensures { result ≡ decoded (A.meaning algebra) line.code }
 {
     algebra.value_of(line.code)
 }
 
 /// The line of an arc's tail, and its value extended by the arc. None if the line has no value or the arc refuses it.
-pub fn candidate<A: PathAlgebra>(
+pub(crate) fn candidate<A: PathAlgebra>(
     algebra: A,
     near: Option<Reached>,
     weight: u32,
@@ -101,7 +100,7 @@ pub fn candidate<A: PathAlgebra>(
 }
 
 /// What one arc from `tail`, which offers `candidate`, shows of a line with this value.
-pub fn evidence_by<A: PathAlgebra>(
+fn evidence_by<A: PathAlgebra>(
     tail: Vertex,
     line: Reached,
     value: A::Value,
@@ -123,26 +122,22 @@ pub fn evidence_by<A: PathAlgebra>(
     }
 }
 
-/// What the arcs of a list show of the line of their head, which has this value.
-pub(crate) fn evidence_of<A: PathAlgebra>(
+/// What the arcs of a list, each given reversed, show of the line of the vertex that they enter, which has this value.
+pub(crate) fn evidence_of<A: PathAlgebra, L: VertexLines>(
     algebra: A,
-    graph: &Graph,
-    lines: &[Option<Reached>],
+    lines: &L,
     line: Reached,
     value: A::Value,
-    arcs: &[ArcNo],
+    roads: &[OutRoad],
 ) -> Evidence
-    requires count { length lines.now ≡ graph.now.vertices }
-    requires arcs { All (HasArc graph.now) arcs.now }
-    ensures { result ≡ all_evidence (A.meaning algebra) A.order graph.now lines.now line value
-        arcs.now }
+    requires ends { All (λ r. (1 ≤ r.head) × (r.head ≤ length (L.list lines.now))) roads.now }
+    ensures { result ≡ all_evidence (A.meaning algebra) A.order (L.list lines.now) line value
+        roads.now }
 {
-    graph.holds();
     let mut evidence = Evidence::none();
-    for a in arcs {
-        let arc = graph.arc(*a);
-        let candidate = candidate(algebra, lines[arc.tail.0 as usize - 1], arc.weight);
-        evidence = evidence.or(evidence_by::<A>(arc.tail, line, value, candidate));
+    for road in roads {
+        let candidate = candidate(algebra, lines.line_of(road.head), road.weight);
+        evidence = evidence.or(evidence_by::<A>(road.head, line, value, candidate));
     }
     evidence
 }

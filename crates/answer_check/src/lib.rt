@@ -5,6 +5,7 @@
 #![tactic(auto)]
 
 mod answers;
+mod case;
 mod checking;
 mod evidence;
 mod laws;
@@ -15,11 +16,12 @@ mod place;
 mod runs;
 mod suspects;
 mod verdict;
+mod vertex_lines;
 mod vertices;
 
 pub use checking::check;
-pub use evidence::{Evidence, candidate, evidence_by, value_told};
 pub use laws::{right_lines_are_certified, verdicts_are_one};
-pub use lines::marks_of;
+pub use lines::first_wrong_line;
+pub use place::Place;
 pub use verdict::{Reason, Verdict};
-pub use vertices::is_source_line;
+pub use vertex_lines::VertexLines;

@@ -7,19 +7,16 @@ ghost use Rattle.answer_text.specs.IsAnswer.{AreVertexLines};
 ghost use Rattle.answer_check.specs.Reasons.{IsLineRefused};
 ghost use Rattle.answer_check.specs.Places.{IsJudgedAt};
 
-use crate::pass::first_place;
+use crate::pass::{first_place, right_lines};
 use crate::place::Place;
-use answer_text::Reached;
+use crate::vertex_lines::VertexLines;
 use path_algebra::{PathAlgebra, laws_hold};
-use road_graph::{Graph, Memory, Vertex};
+use road_graph::{InGraph, Memory, Vertex};
 use std::alloc::{AllocError, Global};
 use std::thread::Threads;
 
 /// A mark for each of n vertices that says whether it is a source.
-///
-/// # Errors
-/// Out of memory.
-pub fn marks_of(alloc: Global, n: usize, sources: &[Vertex]) -> Result<Vec<bool>, AllocError>
+fn marks_of(alloc: Global, n: usize, sources: &[Vertex]) -> Result<Vec<bool>, AllocError>
     requires { All (λ s. (1 ≤ s) × (s ≤ n)) sources.now }
     ensures count { IfOk result (λ marks. length marks.items ≡ n) }
     ensures marks { IfOk result (λ marks. (v : ℕ) → 1 ≤ v → v ≤ n → IsTrue (is_marked marks.items v)
@@ -32,22 +29,45 @@ pub fn marks_of(alloc: Global, n: usize, sources: &[Vertex]) -> Result<Vec<bool>
     Ok(marks)
 }
 
-/// The first vertex whose line is wrong, with the first reason.
-pub(crate) fn judge_lines<A: PathAlgebra, R: Threads + Sync>(
-    rt: &R,
+/// The first vertex whose line is wrong, with the first reason; none if these are the right lines from the sources.
+///
+/// # Errors
+/// Out of memory.
+pub fn first_wrong_line<A: PathAlgebra, L: VertexLines>(
     alloc: Global,
     algebra: A,
-    graph: &Graph,
+    graph: &InGraph,
     sources: &[Vertex],
-    lines: &[Option<Reached>],
+    lines: &L,
 ) -> Result<Option<Place>, Memory>
     requires inside { All (HasVertex graph.now) sources.now }
-    requires count { length lines.now ≡ graph.now.vertices }
+    requires count { length (L.list lines.now) ≡ graph.now.vertices }
     ensures { IfOk result (IsJudgedAt (AreVertexLines (A.meaning algebra) graph.now sources.now
-        lines.now) (λ v r. HasVertex graph.now v × IsLineRefused (A.meaning algebra) graph.now
-        sources.now lines.now v r)) }
+        (L.list lines.now)) (λ v r. HasVertex graph.now v × IsLineRefused (A.meaning algebra)
+        graph.now sources.now (L.list lines.now) v r)) }
 {
     laws_hold(algebra);
     let marks = marks_of(alloc, graph.vertices() as usize, sources)?;
-    Ok(first_place(rt, algebra, graph, lines, &marks))
+    Ok(first_place(algebra, graph, lines, &marks, 0))
+}
+
+/// The same, by a parallel pass over the lines first.
+pub(crate) fn judge_lines<A: PathAlgebra, L: VertexLines + Sync, R: Threads + Sync>(
+    rt: &R,
+    alloc: Global,
+    algebra: A,
+    graph: &InGraph,
+    sources: &[Vertex],
+    lines: &L,
+) -> Result<Option<Place>, Memory>
+    requires inside { All (HasVertex graph.now) sources.now }
+    requires count { length (L.list lines.now) ≡ graph.now.vertices }
+    ensures { IfOk result (IsJudgedAt (AreVertexLines (A.meaning algebra) graph.now sources.now
+        (L.list lines.now)) (λ v r. HasVertex graph.now v × IsLineRefused (A.meaning algebra)
+        graph.now sources.now (L.list lines.now) v r)) }
+{
+    laws_hold(algebra);
+    let marks = marks_of(alloc, graph.vertices() as usize, sources)?;
+    let right = right_lines(rt, algebra, graph, lines, &marks);
+    Ok(first_place(algebra, graph, lines, &marks, right))
 }

@@ -12,7 +12,7 @@ use crate::verdict::Reason;
 use answer_text::Found;
 use path_algebra::{PathAlgebra, laws_hold};
 use road_files::are_same;
-use road_graph::{Graph, Memory, Vertex};
+use road_graph::{InGraph, Memory, OutGraph, Vertex};
 use route_tree::{PairSearcher, routes_follow_parents};
 
 /// The first way in which an answer differs from the right code, hops and route.
@@ -37,11 +37,13 @@ fn difference(code: u64, hops: u32, list: &[Vertex], found: &Found) -> Option<Re
 /// The first reason against the answer to a pair, which the searcher solves.
 pub(crate) fn reason_of_pair<A: PathAlgebra>(
     searcher: &mut PairSearcher<A>,
-    graph: &Graph,
+    graph: &OutGraph,
+    rows: &InGraph,
     pair: (Vertex, Vertex),
     found: &Option<Found>,
 ) -> Result<Option<Reason>, Memory>
     requires graph { graph.now ≡ searcher.old.roads }
+    requires rows { rows.now ≡ graph.now }
     requires source { HasVertex graph.now pair.0 }
     requires target { HasVertex graph.now pair.1 }
     ensures reason { IfOk result (IsFirstReason
@@ -54,7 +56,7 @@ pub(crate) fn reason_of_pair<A: PathAlgebra>(
     laws_hold(algebra);
     routes_follow_parents(algebra);
     graph.holds();
-    let (value, route) = searcher.solve_between(graph, pair)?;
+    let (value, route) = searcher.solve(graph, rows, pair)?;
     let Some(found) = found else {
         return Ok(if value.is_some() {
             Some(Reason::HasWalk)

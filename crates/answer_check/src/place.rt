@@ -4,7 +4,7 @@ use crate::verdict::Reason;
 
 /// The vertex, or 0 for the answer as a whole, and the reason.
 #[derive(Clone, Copy)]
-pub(crate) struct Place {
-    pub(crate) vertex: u32,
-    pub(crate) reason: Reason,
+pub struct Place {
+    pub vertex: u32,
+    pub reason: Reason,
 }

@@ -2,73 +2,55 @@
 
 ghost use Rattle.std.specs.Prelude.{◌≡◌, ℕ, ◌+◌, ◌<◌, ◌≤◌, false, length};
 ghost use Rattle.path_plain.specs.Searcher.{IsOfSameGraph};
-ghost use Rattle.road_files.specs.Asked.{AskWithin, asked_of};
+ghost use Rattle.road_files.specs.Asked.{asked_of};
 ghost use Rattle.answer_text.specs.AnswerData.{answer_list};
 ghost use Rattle.answer_check.specs.Pairs.{TellsSuspect, TellsSuspectIn};
 ghost use Rattle.answer_check.specs.Places.{IsFirstNumber};
 ghost use Rattle.answer_check.specs.Runs.{run_start};
 
 use crate::answers::judge_pair;
+use crate::case::Case;
 use crate::runs::Runs;
-use answer_text::Answers;
 use path_algebra::PathAlgebra;
 use rayon::current_num_threads;
 use rayon::prelude::*;
 use road_files::{Kind, Questions};
-use road_graph::Graph;
 use route_tree::PairSearcher;
-use std::alloc::Global;
 use std::thread::Threads;
 
 /// How many runs are judged in parallel at most.
 const MOST: usize = 64;
 
 /// Whether an answer has yet to be judged: false only for a right answer to a pair.
-fn is_suspect<A: PathAlgebra>(
-    searcher: &mut PairSearcher<A>,
-    graph: &Graph,
-    questions: &Questions,
-    answers: &Answers,
-    i: usize,
-) -> bool
-    requires graph { graph.now ≡ searcher.old.roads }
-    requires within { AskWithin graph.now.vertices questions.now }
-    requires question { i < length (asked_of questions.now).questions }
-    requires answer { i < length answers.now.list.items }
-    ensures suspect { TellsSuspect (A.meaning searcher.old.algebra) graph.now
-        (asked_of questions.now) (answer_list answers.now) i result }
+fn is_suspect<A: PathAlgebra>(searcher: &mut PairSearcher<A>, case: &Case<'_, A>, i: usize) -> bool
+    requires graph { case.now.graph.now ≡ searcher.old.roads }
+    requires answer { i < length case.now.answers.now.list.items }
+    ensures suspect { TellsSuspect (A.meaning searcher.old.algebra) case.now.graph.now
+        (asked_of case.now.questions.now) (answer_list case.now.answers.now) i result }
     ensures same { IsOfSameGraph searcher.old searcher.new }
 {
-    let Questions::Pairs(pairs) = questions else {
+    let Questions::Pairs(pairs) = case.questions else {
         return true;
     };
-    match judge_pair(searcher, graph, pairs[i], &answers.list[i]) {
+    let answer = &case.answers.list[i];
+    match judge_pair(searcher, case.graph, case.rows, pairs[i], answer) {
         Ok(None) => false,
         _ => true,
     }
 }
 
 /// The first answer of a run that has yet to be judged, or the end of the run. One searcher serves them all.
-fn first_suspect<A: PathAlgebra>(
-    alloc: Global,
-    algebra: A,
-    graph: &Graph,
-    questions: &Questions,
-    answers: &Answers,
-    run: (usize, usize),
-) -> usize
-    requires within { AskWithin graph.now.vertices questions.now }
-    requires count { length (asked_of questions.now).questions ≡ length answers.now.list.items }
-    requires end { run.1 ≤ length answers.now.list.items }
-    ensures { TellsSuspectIn (A.meaning algebra) graph.now (asked_of questions.now)
-        (answer_list answers.now) run.0 result false }
+fn first_suspect<A: PathAlgebra>(case: &Case<'_, A>, run: (usize, usize)) -> usize
+    requires { run.1 ≤ length case.now.answers.now.list.items }
+    ensures { TellsSuspectIn (A.meaning case.now.algebra) case.now.graph.now
+        (asked_of case.now.questions.now) (answer_list case.now.answers.now) run.0 result false }
 {
     let (start, end) = run;
-    let Ok(mut searcher) = PairSearcher::new(alloc, algebra, graph.outgoing()) else {
+    let Ok(mut searcher) = PairSearcher::new(case.alloc, case.algebra, case.graph) else {
         return start;
     };
     for i in start..end {
-        if is_suspect(&mut searcher, graph, questions, answers, i) {
+        if is_suspect(&mut searcher, case, i) {
             return i;
         }
     }
@@ -76,42 +58,27 @@ fn first_suspect<A: PathAlgebra>(
 }
 
 /// Whether run k has an answer that has yet to be judged.
-fn has_suspect<A: PathAlgebra>(
-    alloc: Global,
-    algebra: A,
-    graph: &Graph,
-    questions: &Questions,
-    answers: &Answers,
-    runs: Runs,
-    k: usize,
-) -> bool
-    requires within { AskWithin graph.now.vertices questions.now }
-    requires count { length (asked_of questions.now).questions ≡ length answers.now.list.items }
-    requires end { runs.end ≤ length answers.now.list.items }
+fn has_suspect<A: PathAlgebra>(case: &Case<'_, A>, runs: Runs, k: usize) -> bool
+    requires end { runs.end ≤ length case.now.answers.now.list.items }
     requires run { k < runs.count }
-    ensures { TellsSuspectIn (A.meaning algebra) graph.now (asked_of questions.now)
-        (answer_list answers.now) (run_start runs k) (run_start runs (k + 1)) result }
+    ensures { TellsSuspectIn (A.meaning case.now.algebra) case.now.graph.now
+        (asked_of case.now.questions.now) (answer_list case.now.answers.now) (run_start runs k)
+        (run_start runs (k + 1)) result }
 {
     let run = runs.run(k);
-    first_suspect(alloc, algebra, graph, questions, answers, run) < run.1
+    first_suspect(case, run) < run.1
 }
 
 /// The first run with an answer that has yet to be judged. The runs are judged in parallel.
 fn first_suspect_run<A: PathAlgebra, R: Threads + Sync>(
     rt: &R,
-    alloc: Global,
-    algebra: A,
-    graph: &Graph,
-    questions: &Questions,
-    answers: &Answers,
+    case: &Case<'_, A>,
     runs: Runs,
 ) -> Option<usize>
-    requires within { AskWithin graph.now.vertices questions.now }
-    requires count { length (asked_of questions.now).questions ≡ length answers.now.list.items }
-    requires end { runs.end ≤ length answers.now.list.items }
-    ensures { IsFirstNumber runs.count (λ k. TellsSuspectIn (A.meaning algebra) graph.now
-        (asked_of questions.now) (answer_list answers.now) (run_start runs k)
-        (run_start runs (k + 1))) result }
+    requires { runs.end ≤ length case.now.answers.now.list.items }
+    ensures { IsFirstNumber runs.count (λ k. TellsSuspectIn (A.meaning case.now.algebra)
+        case.now.graph.now (asked_of case.now.questions.now) (answer_list case.now.answers.now)
+        (run_start runs k) (run_start runs (k + 1))) result }
 {
     (0..runs.count)
         .into_par_iter()
@@ -119,43 +86,31 @@ fn first_suspect_run<A: PathAlgebra, R: Threads + Sync>(
         .position_first(
             rt,
             |k: usize| -> bool
-                requires { AskWithin graph.now.vertices questions.now ×
-                    (length (asked_of questions.now).questions ≡ length answers.now.list.items) ×
-                    (runs.end ≤ length answers.now.list.items) × (k < runs.count) }
-                ensures { TellsSuspectIn (A.meaning algebra) graph.entry.now
-                    (asked_of questions.entry.now) (answer_list answers.entry.now) (run_start runs k)
-                    (run_start runs (k + 1)) result }
-            { has_suspect(alloc, algebra, graph, questions, answers, runs, k) },
+                requires { (runs.end ≤ length case.now.answers.now.list.items) ×
+                    (k < runs.count) }
+                ensures { TellsSuspectIn (A.meaning case.entry.now.algebra) case.entry.now.graph.now
+                    (asked_of case.entry.now.questions.now) (answer_list case.entry.now.answers.now)
+                    (run_start runs k) (run_start runs (k + 1)) result }
+            { has_suspect(case, runs, k) },
         )
 }
 
 /// How many of the first answers are right, as far as that is found in parallel: pairs are judged on all processors,
 /// some runs at a time, up to the first that is wrong or for which memory runs out.
-pub(crate) fn right_prefix<A: PathAlgebra, R: Threads + Sync>(
-    rt: &R,
-    alloc: Global,
-    algebra: A,
-    graph: &Graph,
-    questions: &Questions,
-    answers: &Answers,
-) -> usize
-    requires within { AskWithin graph.now.vertices questions.now }
-    requires count { length (asked_of questions.now).questions ≡ length answers.now.list.items }
-    ensures { (k : ℕ) → k < result → TellsSuspect (A.meaning algebra) graph.now
-        (asked_of questions.now) (answer_list answers.now) k false }
+pub(crate) fn right_prefix<A: PathAlgebra, R: Threads + Sync>(rt: &R, case: &Case<'_, A>) -> usize
+    ensures { (k : ℕ) → k < result → TellsSuspect (A.meaning case.now.algebra) case.now.graph.now
+        (asked_of case.now.questions.now) (answer_list case.now.answers.now) k false }
 {
-    if questions.kind() != Kind::Pairs {
+    if case.questions.kind() != Kind::Pairs {
         return 0;
     }
-    let total = answers.list.len();
+    let total = case.answers.list.len();
     let count = current_num_threads(rt).min(MOST);
     let mut right = 0;
     while right < total {
         let runs = Runs::next(count, right, total);
-        match first_suspect_run(rt, alloc, algebra, graph, questions, answers, runs) {
-            Some(k) => {
-                return first_suspect(alloc, algebra, graph, questions, answers, runs.run(k));
-            }
+        match first_suspect_run(rt, case, runs) {
+            Some(k) => return first_suspect(case, runs.run(k)),
             None => right = runs.end,
         }
     }

@@ -1,8 +1,8 @@
-//! The first reason against the line of a vertex.
+//! The first reason against the line of a vertex, which is judged by the lines of the vertices with an arc to it.
 
-ghost use Rattle.std.specs.Prelude.{◌≡◌, ℕ, List, length, All, IsTrue, ◌↔◌};
+ghost use Rattle.std.specs.Prelude.{◌≡◌, ◌≤◌, length, All, IsTrue, ◌↔◌};
 ghost use Rattle.std.specs.List.{list_any};
-ghost use Rattle.road_graph.specs.GraphData.{HasVertex, HasArc, ListsArcsInto};
+ghost use Rattle.road_graph.specs.GraphData.{HasVertex};
 ghost use Rattle.path_algebra.specs.Walks.{label_of, is_marked};
 ghost use Rattle.answer_check.specs.Reasons.{source_line, IsRefuted, IsFirstReason};
 ghost use Rattle.answer_check.specs.Evidence.{candidate, is_there};
@@ -11,12 +11,13 @@ ghost use Rattle.answer_check.specs.Certificates.{IsRightLine};
 
 use crate::evidence::{candidate, evidence_of, value_told};
 use crate::verdict::Reason;
+use crate::vertex_lines::VertexLines;
 use answer_text::Reached;
 use path_algebra::{PathAlgebra, laws_hold};
-use road_graph::{ArcNo, Graph, Vertex};
+use road_graph::{InGraph, OutRoad, Vertex};
 
 /// Whether this is the line of a source.
-pub fn is_source_line<A: PathAlgebra>(algebra: A, line: Option<Reached>) -> bool
+fn is_source_line<A: PathAlgebra>(algebra: A, line: Option<Reached>) -> bool
     ensures { IsTrue result ↔ (line ≡ source_line (A.meaning algebra)) }
 {
     match line {
@@ -27,22 +28,14 @@ pub fn is_source_line<A: PathAlgebra>(algebra: A, line: Option<Reached>) -> bool
     }
 }
 
-/// Whether some arc of a list offers a value.
-fn offers_some<A: PathAlgebra>(
-    algebra: A,
-    graph: &Graph,
-    lines: &[Option<Reached>],
-    arcs: &[ArcNo],
-) -> bool
-    requires count { length lines.now ≡ graph.now.vertices }
-    requires arcs { All (HasArc graph.now) arcs.now }
-    ensures { result ≡ list_any (λ a. is_there (candidate (A.meaning algebra) graph.now lines.now
-        a)) arcs.now }
+/// Whether some arc of a list, each given reversed, offers a value.
+fn offers_some<A: PathAlgebra, L: VertexLines>(algebra: A, lines: &L, roads: &[OutRoad]) -> bool
+    requires ends { All (λ r. (1 ≤ r.head) × (r.head ≤ length (L.list lines.now))) roads.now }
+    ensures { result ≡ list_any (λ r. is_there (candidate (A.meaning algebra) (L.list lines.now) r))
+        roads.now }
 {
-    graph.holds();
-    for a in arcs {
-        let arc = graph.arc(*a);
-        if candidate(algebra, lines[arc.tail.0 as usize - 1], arc.weight).is_some() {
+    for road in roads {
+        if candidate(algebra, lines.line_of(road.head), road.weight).is_some() {
             return true;
         }
     }
@@ -50,22 +43,23 @@ fn offers_some<A: PathAlgebra>(
 }
 
 /// The first reason against the line of a vertex that is no source.
-fn reason_of_line<A: PathAlgebra>(
+fn reason_of_line<A: PathAlgebra, L: VertexLines>(
     algebra: A,
-    graph: &Graph,
-    lines: &[Option<Reached>],
+    graph: &InGraph,
+    lines: &L,
     v: Vertex,
 ) -> Option<Reason>
-    requires count { length lines.now ≡ graph.now.vertices }
+    requires count { length (L.list lines.now) ≡ graph.now.vertices }
     requires in_graph { HasVertex graph.now v }
-    ensures { IsFirstReason (IsRightLine (A.meaning algebra) graph.now lines.now v
-        (label_of lines.now v)) (IsRefuted (A.meaning algebra) graph.now lines.now v
-        (label_of lines.now v)) result }
+    ensures { IsFirstReason (IsRightLine (A.meaning algebra) graph.now (L.list lines.now) v
+        (label_of (L.list lines.now) v)) (IsRefuted (A.meaning algebra) graph.now
+        (L.list lines.now) v (label_of (L.list lines.now) v)) result }
 {
     laws_hold(algebra);
-    let arcs = graph.into(v);
-    let Some(line) = lines[v.0 as usize - 1] else {
-        let has_walk = offers_some(algebra, graph, lines, arcs);
+    graph.holds();
+    let roads = graph.roads_into(v);
+    let Some(line) = lines.line_of(v) else {
+        let has_walk = offers_some(algebra, lines, roads);
         return if has_walk {
             Some(Reason::HasWalk)
         } else {
@@ -73,31 +67,30 @@ fn reason_of_line<A: PathAlgebra>(
         };
     };
     match value_told(algebra, line) {
-        Some(value) => evidence_of(algebra, graph, lines, line, value, arcs).reason(),
+        Some(value) => evidence_of(algebra, lines, line, value, roads).reason(),
         None => Some(Reason::NoParent),
     }
 }
 
 /// The first reason against the line of a vertex. `marks` says which vertices are sources.
-pub(crate) fn reason_at<A: PathAlgebra>(
+pub(crate) fn reason_at<A: PathAlgebra, L: VertexLines>(
     algebra: A,
-    graph: &Graph,
-    lines: &[Option<Reached>],
+    graph: &InGraph,
+    lines: &L,
     marks: &[bool],
     v: Vertex,
 ) -> Option<Reason>
-    requires count { length lines.now ≡ graph.now.vertices }
+    requires count { length (L.list lines.now) ≡ graph.now.vertices }
     requires marks { length marks.now ≡ graph.now.vertices }
     requires in_graph { HasVertex graph.now v }
-    ensures { IsFirstReason (IsMarkedRight (A.meaning algebra) graph.now lines.now v
-        (is_marked marks.now v)) (IsMarkedRefused (A.meaning algebra) graph.now lines.now v
-        (is_marked marks.now v)) result }
+    ensures { IsFirstReason (IsMarkedRight (A.meaning algebra) graph.now (L.list lines.now) v
+        (is_marked marks.now v)) (IsMarkedRefused (A.meaning algebra) graph.now (L.list lines.now)
+        v (is_marked marks.now v)) result }
 {
-    let i = v.0 as usize - 1;
-    if !marks[i] {
+    if !marks[v.0 as usize - 1] {
         return reason_of_line(algebra, graph, lines, v);
     }
-    if is_source_line(algebra, lines[i]) {
+    if is_source_line(algebra, lines.line_of(v)) {
         None
     } else {
         Some(Reason::Mismatch)

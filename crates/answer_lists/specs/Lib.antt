@@ -1,6 +1,5 @@
 pub mod Answers
 pub mod Factoring
 pub mod Kept
-pub mod Shown
 pub mod Table
 pub mod Tree

@@ -1,13 +1,11 @@
 -- A tree in three lists, each with a number for each vertex, and the first vertex at which such lists are wrong.
-use Rattle.std.specs.Prelude.{◌≡◌, ◌⊎◌, ◌↔◌, ℕ, ◌==◌, ◌&&◌, if◌then◌else◌, ℤ, pos, true, List, [], ◌∷◌, All, Bool, Option, Some, None, length}
+use Rattle.std.specs.Prelude.{◌≡◌, ◌⊎◌, ◌↔◌, ℕ, ◌==◌, ◌&&◌, if◌then◌else◌, ℤ, pos, true, List, [], ◌∷◌, All, Option, Some, None, length}
 use Rattle.road_graph.specs.GraphData.{GraphData, HasVertex}
 use Rattle.path_algebra.specs.Algebra.{Algebra}
 use Rattle.path_algebra.specs.Choices.{IsAlgebra}
-use Rattle.path_algebra.specs.Walks.{is_marked}
 use Rattle.answer_text.specs.declared.answers.Reached.{Reached}
 use Rattle.answer_text.specs.IsAnswer.{AreVertexLines}
 use Rattle.answer_check.specs.declared.verdict.Reason.{Reason}
-use Rattle.answer_check.specs.Marked.{IsMarkedRefused, IsMarkedRight}
 use Rattle.answer_check.specs.Reasons.{IsLineRefused, reason_number}
 use Rattle.answer_check.specs.Verdicts.{IsEarlier}
 use Rattle.answer_lists.specs.Answers.{HavePlaces}
@@ -60,13 +58,6 @@ pub record IsFirstRefuted {V : Type 0} (A : Algebra V) (g : GraphData) (sources 
   pub number_is : number ≡ reason_number reason
   pub refused : IsLineRefused A g sources (lines_of codes hops parents) v reason
   pub first : (u : ℕ) (r : Reason) → IsEarlier u r v reason → HasVertex g u → IsLineRefused A g sources (lines_of codes hops parents) u r → ⊥
-
--- the same for lines, and marks that say which vertices are sources: all lines are right, or the first vertex with a reason against its line, and the first such reason
-abbrev pub IsFirstPlace : {V : Type 0} → Algebra V → GraphData → List (Option Reached) → List Bool → Option (ℕ × Reason) → Type 0
-IsFirstPlace A g lines marks None = (v : ℕ) → HasVertex g v → IsMarkedRight A g lines v (is_marked marks v)
-IsFirstPlace A g lines marks (Some p) =
-    HasVertex g p.0 × IsMarkedRefused A g lines p.0 (is_marked marks p.0) p.1
-    × ((u : ℕ) (r : Reason) → IsEarlier u r p.0 p.1 → HasVertex g u × IsMarkedRefused A g lines u (is_marked marks u) r → ⊥)
 
 -- which checks of a tree are refused, in this order: a source is no vertex, a list does not have n places, there is no such algebra
 pub record ReportsRefusals (g : GraphData) (number limit : ℕ) (sources codes hops parents : List ℕ) (status : ℤ) : Type 0 where

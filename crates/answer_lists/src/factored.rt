@@ -53,7 +53,7 @@ impl Factored {
     }
 
     /// One more owner, which makes its own asker.
-    pub(crate) fn another(&self) -> Result<Factored, AllocError>
+    pub(crate) fn try_clone(&self) -> Result<Factored, AllocError>
         ensures { IfOk result (λ f. f ≡ self.now) }
     {
         let factors = Arc::try_clone(&self.factors)?;

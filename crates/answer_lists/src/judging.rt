@@ -1,45 +1,20 @@
 //! The check of a tree in three lists.
 
-ghost use Rattle.std.specs.Prelude.{◌≡◌, ◌∷◌, [], length, pos, All, IfOk, MatchOption};
+ghost use Rattle.std.specs.Prelude.{◌≡◌, ◌∷◌, [], pos, All, IfOk, MatchOption};
 ghost use Rattle.road_graph.specs.GraphData.{HasVertex};
 ghost use Rattle.path_algebra.specs.Choices.{OfAlgebra, Under};
 ghost use Rattle.answer_check.specs.Reasons.{reason_number};
 ghost use Rattle.answer_lists.specs.Answers.{HavePlaces, IsOneOf};
-ghost use Rattle.answer_lists.specs.Tree.{lines_of, AreTreeLists, IsFirstRefuted, IsFirstPlace, ReportsRefusals};
+ghost use Rattle.answer_lists.specs.Tree.{AreTreeLists, IsFirstRefuted, ReportsRefusals};
 
+use crate::lines::ListedLines;
 use crate::shared_graph::SharedGraph;
 use crate::sources::{are_vertices, vertices_of};
 use crate::status::{DONE, MEMORY, NO_ALGEBRA, NO_ROOM, NO_VERTEX, WRONG};
-use crate::vertices::reason_at;
-use answer_check::{Reason, marks_of};
+use answer_check::{Place, first_wrong_line};
 use path_algebra::{AlgebraChoice, PathAlgebra, laws_hold, with_algebra};
-use road_graph::{InGraph, Memory, Vertex};
+use road_graph::{InGraph, Memory};
 use std::alloc::Global;
-
-/// The first vertex with a reason against its line, and the first such reason. `marks` says which vertices are sources.
-fn first_place<A: PathAlgebra>(
-    algebra: A,
-    graph: &InGraph,
-    codes: &[u64],
-    hops: &[u32],
-    parents: &[u32],
-    marks: &[bool],
-) -> Option<(Vertex, Reason)>
-    requires places { HavePlaces graph.now.vertices codes.now hops.now parents.now }
-    requires marks { length marks.now ≡ graph.now.vertices }
-    ensures { IsFirstPlace (A.meaning algebra) graph.now (lines_of codes.now hops.now parents.now)
-        marks.now result }
-{
-    laws_hold(algebra);
-    graph.holds();
-    for i in 0..marks.len() {
-        let v = Vertex(i as u32 + 1);
-        if let Some(reason) = reason_at(algebra, graph, codes, hops, parents, marks, v) {
-            return Some((v, reason));
-        }
-    }
-    None
-}
 
 /// The first wrong vertex, with the first reason; none if the lists are the tree.
 fn judge<A: PathAlgebra>(
@@ -50,16 +25,21 @@ fn judge<A: PathAlgebra>(
     codes: &[u64],
     hops: &[u32],
     parents: &[u32],
-) -> Result<Option<(Vertex, Reason)>, Memory>
+) -> Result<Option<Place>, Memory>
     requires sources { All (HasVertex graph.now) sources.now }
     requires places { HavePlaces graph.now.vertices codes.now hops.now parents.now }
     ensures { IfOk result (λ o. MatchOption o (AreTreeLists (A.meaning algebra) graph.now sources.now codes.now hops.now parents.now)
-        (λ p. IsFirstRefuted (A.meaning algebra) graph.now sources.now codes.now hops.now parents.now p.0 (reason_number p.1))) }
+        (λ p. IsFirstRefuted (A.meaning algebra) graph.now sources.now codes.now hops.now parents.now p.vertex (reason_number p.reason))) }
 {
     laws_hold(algebra);
+    graph.holds();
     let list = vertices_of(alloc, sources)?;
-    let marks = marks_of(alloc, graph.vertices() as usize, &list)?;
-    Ok(first_place(algebra, graph, codes, hops, parents, &marks))
+    let lines = ListedLines {
+        codes,
+        hops,
+        parents,
+    };
+    first_wrong_line(alloc, algebra, graph, &list, &lines)
 }
 
 /// Judges a tree and reports the first wrong vertex.
@@ -85,9 +65,9 @@ fn answer<A: PathAlgebra>(
 {
     match judge(alloc, algebra, graph, sources, codes, hops, parents) {
         Ok(None) => DONE,
-        Ok(Some((v, against))) => {
-            *vertex = v.0;
-            *reason = against.number();
+        Ok(Some(place)) => {
+            *vertex = place.vertex;
+            *reason = place.reason.number();
             WRONG
         }
         Err(Memory) => MEMORY,

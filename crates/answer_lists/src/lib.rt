@@ -2,7 +2,6 @@
 #![tactic(auto)]
 
 mod codes;
-mod evidence;
 mod factored;
 mod factoring;
 mod judging;
@@ -14,7 +13,6 @@ mod sources;
 mod status;
 mod table;
 mod tree;
-mod vertices;
 
 pub use factoring::factor_graph;
 pub use judging::check_tree;

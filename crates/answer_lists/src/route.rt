@@ -25,7 +25,7 @@ fn take_factored(chosen: AlgebraChoice, shared: &mut SharedGraph) -> Option<Fact
 }
 
 /// The best code and the route by factors; none if no walk to the target has a value.
-fn ask(
+fn query(
     alloc: Global,
     chosen: AlgebraChoice,
     factored: &mut Factored,
@@ -60,7 +60,7 @@ fn find(
     let Some(mut factored) = take_factored(chosen, shared) else {
         return shared.search(alloc, chosen, &rows, (source, target));
     };
-    let found = ask(alloc, chosen, &mut factored, &rows, (source, target));
+    let found = query(alloc, chosen, &mut factored, &rows, (source, target));
     shared.put_factored(factored);
     found
 }

@@ -54,7 +54,7 @@ fn again(factored: &Option<Factored>) -> Result<Option<Factored>, AllocError>
     ensures { IfOk result (λ f. f ≡ factored.now) }
 {
     match factored {
-        Some(factored) => Ok(Some(factored.another()?)),
+        Some(factored) => Ok(Some(factored.try_clone()?)),
         None => Ok(None),
     }
 }
@@ -75,7 +75,7 @@ impl SharedGraph {
     }
 
     /// One more owner of the same graph, and of what was made of it. It makes its own searcher.
-    pub fn another(&self) -> Result<SharedGraph, AllocError>
+    pub fn try_clone(&self) -> Result<SharedGraph, AllocError>
         ensures { IfOk result (λ s. s ≡ self.now) }
     {
         let graph = Arc::try_clone(&self.graph)?;

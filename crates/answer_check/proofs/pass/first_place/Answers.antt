@@ -1,17 +1,9 @@
-use Rattle.std.proofs.Common.{◌+◌}
-use Rattle.path_algebra.specs.Walks.{is_marked}
-use Rattle.answer_check.proofs.FirstPlaces.{first_place_is, not_right}
+use Rattle.std.proofs.Common.{arith}
+use Rattle.answer_check.proofs.FirstPlaces.{first_place_is}
 use Rattle.answer_check.proofs.pass.first_place.Goals as goal
 
-pub returns-in_err-reason : goal.returns-in_err-reason
-returns-in_err-reason g c =
-    let v = c.in_ok-i.i + 1 in
-    absurd (not_right (g.A.PathAlgebra.meaning c.args.algebra) c.laws_hold.ensures.lawful c.args.graph.now c.args.lines.now v
-    (is_marked c.args.marks.now v) c.in_ok-i.ensures.1 c.in_err-reason.ensures)
-
-pub returns : goal.returns
-returns g c =
-    let first = c.in_ok-i.ensures in
-    first_place_is (g.A.PathAlgebra.meaning c.args.algebra) c.laws_hold.ensures.lawful c.args.graph.now c.args.lines.now c.args.marks.now c.in_ok-i.i first.2 first.0
-    c.in_ok-reason.reason c.in_ok-reason.ensures
-    c.vertex.inside.0 c.vertex.view_is
+pub returns-in-Some : goal.returns-in-Some
+returns-in-Some g c =
+    let a = c.args in
+    first_place_is (g.A.PathAlgebra.meaning a.algebra) c.laws_hold.ensures.lawful a.graph.now (g.L.VertexLines.list a.lines.now) a.marks.now c.loop-i.i c.loop-i.invariant
+    (omega (arith, c.loop-i-test.true, c.requires.marks)) c.in-Some.reason c.in-Some.ensures c.vertex.inside.0 c.vertex.view_is

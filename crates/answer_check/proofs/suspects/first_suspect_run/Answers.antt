@@ -1,24 +1,32 @@
 use Rattle.std.proofs.Common.{rules, ◌≡◌, ℕ, ◌+◌, ◌-◌, ◌<◌, ◌≤◌, ◌^◌, ◌∙◌, Bool, length, List, ap, arith, subst}
 use Rattle.std.specs.List.{range_with_len, AllZip}
 use Rattle.std.proofs.Crossing.{crosses}
-use denote.Param.Send.{sendable}
+use denote.Param.{copied}
+use denote.Param.Send.{IsSync, sendable}
+use denote.Ref.{NamedLft}
+use Rattle.answer_check.specs.contracts.case.Case as Case
 use Rattle.rayon.specs.Numbers.{nat_range}
 use Rattle.rayon.proofs.ToStd.{nat_range-All}
-use Rattle.road_files.specs.Asked.{AskWithin, asked_of}
+use Rattle.road_files.specs.Asked.{asked_of}
 use Rattle.answer_text.specs.AnswerData.{answer_list}
 use Rattle.answer_check.specs.Pairs.{TellsSuspectIn}
 use Rattle.answer_check.specs.Runs.{run_start}
 use Rattle.answer_check.proofs.FirstPlaces.{first_number}
+use Rattle.answer_check.proofs.Sharing.{Case-sync}
 use Rattle.answer_check.proofs.suspects.first_suspect_run.Goals as goal
 
 pub position_first-requires-clause-items : goal.position_first-requires-clause-items
 position_first-requires-clause-items g c κs within =
     let ends = c.into_par_iter.ensures in
-    let inside = nat_range-All (λ k. AskWithin c.args.graph.now.vertices c.args.questions.now
-    × (length (asked_of c.args.questions.now).questions ≡ length c.args.answers.now.list.items)
-    × (c.args.runs.end ≤ length c.args.answers.now.list.items) × (k < c.args.runs.count)) 0 c.args.runs.count
-    (λ k low high. (c.requires.within, c.requires.count, c.requires.end, high)) in
+    let inside = nat_range-All (λ k. (c.args.runs.end ≤ length c.args.case.now.answers.now.list.items) × (k < c.args.runs.count)) 0 c.args.runs.count
+    (λ k low high. (c.requires, high)) in
     rw (c.with_min_len.ensures.base, ends.0, ends.1) (λ k d lt. (inside k d lt, search (sendable, crosses) depth 40))
+
+pub position_first-requires-sync-F : goal.position_first-requires-sync-F
+position_first-requires-sync-F g c κs within =
+    let case : (κ : NamedLft) → IsSync (Case.the_row κ (copied 0 g.row.A) (copied 2 g.row.A-Value) g.A.PathAlgebra) =
+    λ κ. Case-sync κ (copied 0 g.row.A) (copied 2 g.row.A-Value) g.A.PathAlgebra c.type_bounds.sync-A in
+    search (sendable, crosses, case) depth 60 fits 100000
 
 pub returns : goal.returns
 returns g c =
@@ -27,7 +35,7 @@ returns g c =
     let n = c.args.runs.count in
     let whole : n - 0 ≡ n = omega arith in
     let done = rw base at c.position_first.ensures in
-    let tells = λ (k : ℕ) (b : Bool). TellsSuspectIn (g.A.PathAlgebra.meaning c.args.algebra) c.args.graph.now (asked_of c.args.questions.now) (answer_list c.args.answers.now)
+    let tells = λ (k : ℕ) (b : Bool). TellsSuspectIn (g.A.PathAlgebra.meaning c.args.case.now.algebra) c.args.case.now.graph.now (asked_of c.args.case.now.questions.now) (answer_list c.args.case.now.answers.now)
     (run_start c.args.runs k) (run_start c.args.runs (k + 1)) b in
     let short : n < 2 ^ 64 = search rules in
     let places : done.0 ≡ range_with_len 0 n = done.2 ∙ (λ i. nat_range (ends.0 i) (ends.1 i)) ∙ ap (range_with_len 0) whole in

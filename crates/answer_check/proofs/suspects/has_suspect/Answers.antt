@@ -8,10 +8,10 @@ use Rattle.answer_check.proofs.suspects.has_suspect.Goals as goal
 
 pub returns : goal.returns
 returns g c =
-    let A = g.A.PathAlgebra.meaning c.args.algebra in
-    let roads = c.args.graph.now in
-    let asked = asked_of c.args.questions.now in
-    let told = answer_list c.args.answers.now in
+    let A = g.A.PathAlgebra.meaning c.args.case.now.algebra in
+    let roads = c.args.case.now.graph.now in
+    let asked = asked_of c.args.case.now.questions.now in
+    let told = answer_list c.args.case.now.answers.now in
     let run = c.run-run.result in
     let first = c.first_suspect.result in
     let judged = told_before A roads asked told run.0 first run.1 c.first_suspect.ensures (nat_lt first run.1) refl in

@@ -12,13 +12,13 @@ loop-right-init g c = record { within = search rules; prefix = λ k lt. absurd (
 
 pub returns-in-Some : goal.returns-in-Some
 returns-in-Some g c =
-    let A = g.A.PathAlgebra.meaning c.args.algebra in
-    let asked = asked_of c.args.questions.now in
-    let told = answer_list c.args.answers.now in
-    let R = λ (i : ℕ). TellsSuspect A c.args.graph.now asked told i false in
+    let A = g.A.PathAlgebra.meaning c.args.case.now.algebra in
+    let asked = asked_of c.args.case.now.questions.now in
+    let told = answer_list c.args.case.now.answers.now in
+    let R = λ (i : ℕ). TellsSuspect A c.args.case.now.graph.now asked told i false in
     let runs = c.next-runs.result in
     let k = c.in-Some.k in
-    let tells = λ (j : ℕ) (b : Bool). TellsSuspectIn A c.args.graph.now asked told (run_start runs j) (run_start runs (j + 1)) b in
+    let tells = λ (j : ℕ) (b : Bool). TellsSuspectIn A c.args.case.now.graph.now asked told (run_start runs j) (run_start runs (j + 1)) b in
     let found = subst (λ (o : Option ℕ). IsFirstNumber runs.count tells o) c.in-Some.is c.first_suspect_run.ensures in
     let low = subst (λ (s : ℕ). (i : ℕ) → i < s → R i) (sym c.next-runs.ensures.start) c.loop-right.invariant.prefix in
     let before : (i : ℕ) → i < run_start runs k → R i = right_up_to R runs k low found.2 in
@@ -26,12 +26,12 @@ returns-in-Some g c =
 
 pub loop-right-preserved : goal.loop-right-preserved
 loop-right-preserved g c =
-    let A = g.A.PathAlgebra.meaning c.args.algebra in
-    let asked = asked_of c.args.questions.now in
-    let told = answer_list c.args.answers.now in
-    let R = λ (i : ℕ). TellsSuspect A c.args.graph.now asked told i false in
+    let A = g.A.PathAlgebra.meaning c.args.case.now.algebra in
+    let asked = asked_of c.args.case.now.questions.now in
+    let told = answer_list c.args.case.now.answers.now in
+    let R = λ (i : ℕ). TellsSuspect A c.args.case.now.graph.now asked told i false in
     let runs = c.next-runs.result in
-    let tells = λ (j : ℕ) (b : Bool). TellsSuspectIn A c.args.graph.now asked told (run_start runs j) (run_start runs (j + 1)) b in
+    let tells = λ (j : ℕ) (b : Bool). TellsSuspectIn A c.args.case.now.graph.now asked told (run_start runs j) (run_start runs (j + 1)) b in
     let found = subst (λ (o : Option ℕ). IsFirstNumber runs.count tells o) c.in-None.is c.first_suspect_run.ensures in
     let low = subst (λ (s : ℕ). (i : ℕ) → i < s → R i) (sym c.next-runs.ensures.start) c.loop-right.invariant.prefix in
     let end : run_start runs runs.count ≡ runs.end = ap (run_start runs) c.next-runs.ensures.count ∙ c.next-runs.ensures.whole in

@@ -8,7 +8,7 @@ use Rattle.answer_check.proofs.suspects.right_prefix.Given as goal
 abbrev pub invariant-loop-right : goal.invariant-loop-right
 invariant-loop-right g l = record {
   within : l.right ≤ l.total;
-  prefix : (k : ℕ) → k < l.right → TellsSuspect (g.A.PathAlgebra.meaning l.algebra) l.graph (asked_of l.questions) (answer_list l.answers) k false;
+  prefix : (k : ℕ) → k < l.right → TellsSuspect (g.A.PathAlgebra.meaning l.case.algebra) l.case.graph.now (asked_of l.case.questions.now) (answer_list l.case.answers.now) k false;
 }
 
 abbrev pub decreases-loop-right : goal.decreases-loop-right

@@ -3,5 +3,5 @@ use Rattle.std.specs.List.{list_any}
 use Rattle.answer_check.specs.Evidence.{candidate, is_there}
 use Rattle.answer_check.proofs.vertices.offers_some.Given as goal
 
-abbrev pub invariant-loop-a : goal.invariant-loop-a
-invariant-loop-a g l = list_any (λ a. is_there (candidate (g.A.PathAlgebra.meaning l.algebra) l.graph l.lines a)) (take l.a-index l.arcs) ≡ false
+abbrev pub invariant-loop-road : goal.invariant-loop-road
+invariant-loop-road g l = list_any (λ r. is_there (candidate (g.A.PathAlgebra.meaning l.algebra) (g.L.VertexLines.list l.lines) r)) (take l.road-index l.roads) ≡ false

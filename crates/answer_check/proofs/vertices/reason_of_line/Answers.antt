@@ -1,35 +1,39 @@
-use Rattle.std.proofs.Common.{rules, ◌≡◌, get_or, Some, None, sym, ◌∙◌, arith}
+use Rattle.std.proofs.Common.{rules, ◌≡◌, Some, None, sym, ◌∙◌, arith}
 use Rattle.std.proofs.lemmas.Grind.{common_steps}
-use Rattle.std.proofs.lemmas.List.Elements.{Contains-get_or}
 use Rattle.path_algebra.specs.Walks.{label_of}
-use Rattle.std.proofs.Common.{true}
-use Rattle.std.specs.List.{list_any}
-use Rattle.answer_check.specs.Evidence.{candidate, is_there, decoded}
-use Rattle.answer_check.proofs.EvidenceMeans.{evidence_judges, walk_judged, decoded_is}
+use Rattle.answer_check.specs.Evidence.{decoded}
+use Rattle.answer_check.proofs.Entering.{ends_inside}
+use Rattle.answer_check.proofs.EvidenceMeans.{evidence_judges, walk_judged, walk_missed, decoded_is}
 use Rattle.answer_check.proofs.vertices.reason_of_line.Goals as goal
 
-pub offers_some-has_walk-requires-clause-arcs : goal.offers_some-has_walk-requires-clause-arcs
-offers_some-has_walk-requires-clause-arcs g c κs within = λ k d lt. ((c.into-arcs.ensures.complete (get_or c.into-arcs.result.now k d)).0 (Contains-get_or c.into-arcs.result.now k d lt)).0
+pub offers_some-has_walk-requires-clause-ends : goal.offers_some-has_walk-requires-clause-ends
+offers_some-has_walk-requires-clause-ends g c κs within = ends_inside c.args.graph.now c.holds.ensures c.args.v _ c.requires.count c.roads_into-roads.result.now c.roads_into-roads.ensures
+
+pub evidence_of-requires-clause-ends : goal.evidence_of-requires-clause-ends
+evidence_of-requires-clause-ends g c κs within = ends_inside c.args.graph.now c.holds.ensures c.args.v _ c.requires.count c.roads_into-roads.result.now c.roads_into-roads.ensures
 
 pub returns-then-has_walk : goal.returns-then-has_walk
 returns-then-has_walk g c =
-    let A = g.A.PathAlgebra.meaning c.args.algebra in
-    let here : label_of c.args.lines.now c.args.v ≡ None = search rules in
-    let found : list_any (λ a. is_there (candidate A c.args.graph.now c.args.lines.now a)) c.into-arcs.result.now ≡ true = sym c.offers_some-has_walk.ensures ∙ c.if-has_walk.true in
-    let judged = walk_judged A c.laws_hold.ensures.lawful c.args.graph.now c.args.lines.now c.args.v c.into-arcs.result.now c.into-arcs.ensures.complete found in
-    rw here judged
+    let lines = g.L.VertexLines.list c.args.lines.now in
+    let here : label_of lines c.args.v ≡ None = sym c.line_of.ensures ∙ c.in_default.is in
+    rw here (walk_judged (g.A.PathAlgebra.meaning c.args.algebra) c.laws_hold.ensures.lawful c.args.graph.now lines c.args.v c.roads_into-roads.result.now c.roads_into-roads.ensures
+    (sym c.offers_some-has_walk.ensures ∙ c.if-has_walk.true))
 
-pub evidence_of-requires-clause-arcs : goal.evidence_of-requires-clause-arcs
-evidence_of-requires-clause-arcs g c κs within = λ k d lt. ((c.into-arcs.ensures.complete (get_or c.into-arcs.result.now k d)).0 (Contains-get_or c.into-arcs.result.now k d lt)).0
+pub returns-else-has_walk : goal.returns-else-has_walk
+returns-else-has_walk g c =
+    let lines = g.L.VertexLines.list c.args.lines.now in
+    let here : label_of lines c.args.v ≡ None = sym c.line_of.ensures ∙ c.in_default.is in
+    rw here (walk_missed (g.A.PathAlgebra.meaning c.args.algebra) c.laws_hold.ensures.lawful c.args.graph.now lines c.args.v c.roads_into-roads.result.now c.roads_into-roads.ensures
+    (sym c.offers_some-has_walk.ensures ∙ c.if-has_walk.false))
 
 pub returns-in-Some-value_told : goal.returns-in-Some-value_told
 returns-in-Some-value_told g c =
     let A = g.A.PathAlgebra.meaning c.args.algebra in
-    let here : label_of c.args.lines.now c.args.v ≡ Some c.in-Some.line = search rules in
+    let lines = g.L.VertexLines.list c.args.lines.now in
+    let here : label_of lines c.args.v ≡ Some c.in-Some.line = sym c.line_of.ensures ∙ c.in-Some.is in
     let told : decoded A c.in-Some.line.code ≡ Some c.in-Some-value_told.value = search rules in
     let code = decoded_is A c.laws_hold.ensures.lawful c.in-Some.line.code c.in-Some-value_told.value told in
-    let judged = evidence_judges A c.laws_hold.ensures.lawful c.args.graph.now c.args.lines.now c.args.v c.into-arcs.result.now c.into-arcs.ensures.complete c.in-Some.line
-    c.in-Some-value_told.value code in
+    let judged = evidence_judges A c.laws_hold.ensures.lawful c.args.graph.now lines c.args.v c.roads_into-roads.result.now c.roads_into-roads.ensures c.in-Some.line c.in-Some-value_told.value code in
     rw (here, c.reason.ensures, c.evidence_of.ensures, ← c.laws_hold.ensures.order) judged
 
 pub returns-in-None : goal.returns-in-None

@@ -1,0 +1,13 @@
+use Rattle.std.proofs.Common.{ℕ, ◌≤◌, ◌↔◌, Contains, IsTrue, arith}
+use Rattle.path_algebra.specs.Walks.{is_marked}
+use Rattle.path_algebra.proofs.Walks.{all_inside}
+use Rattle.answer_check.proofs.FirstPlaces.{lines_judged}
+use Rattle.answer_check.proofs.lines.first_wrong_line.Goals as goal
+
+pub returns : goal.returns
+returns g c =
+    let n = c.vertices.ensures.count in
+    let marked : (v : ℕ) → 1 ≤ v → v ≤ c.args.graph.now.vertices → IsTrue (is_marked c.deref.result.now v) ↔ Contains c.args.sources.now v =
+    λ v low high. rw c.deref.ensures.value (c.in_ok-marks.ensures.marks v low (omega (arith, high, n))) in
+    lines_judged (g.A.PathAlgebra.meaning c.args.algebra) c.laws_hold.ensures.lawful c.args.graph.now (g.L.VertexLines.list c.args.lines.now) c.vertices.ensures.roads c.args.sources.now
+    (all_inside c.args.graph.now c.args.sources.now c.requires.inside) c.requires.count c.deref.result.now marked c.first_place.result c.first_place.ensures

@@ -1,8 +1,8 @@
 -- A fault of a file, as a run reports it.
 use Rattle.std.proofs.Common.{◌≡◌, ◌≢◌, ◌≤◌, ◌↔◌, ◌∙◌, ℕ, Result, Ok, Err, inl, inr, sym, ap, arith}
 use Rattle.std.proofs.lemmas.Bool.{cases_eq}
-use Rattle.road_text.specs.Reads.{IsNumberFrom}
-use Rattle.road_text.specs.declared.faults.ReadFault.{ReadFault}
+use Rattle.text_lines.specs.Reads.{IsNumberFrom}
+use Rattle.text_lines.specs.declared.faults.ReadFault.{ReadFault}
 use Rattle.batch_run.specs.declared.faults.File.{File}
 use Rattle.batch_run.specs.declared.faults.RunFault.{RunFault}
 

@@ -1,11 +1,11 @@
 -- What was answered and reported stays so when it is passed on, and the first fault stays.
-use Rattle.std.proofs.Common.{◌≡◌, ◌≢◌, ℕ, ◌+◌, ◌<◌, ◌≤◌, List, [], ◌++◌, length, Bool, Option, Result, Ok, Err, inl, inr, ◌⊎◌, sym, ap, ◌∙◌, subst, append-nil, arith}
+use Rattle.std.proofs.Common.{◌≡◌, ◌≢◌, ℕ, ◌+◌, ◌<◌, ◌≤◌, [], ◌++◌, length, Bool, Option, Result, Ok, Err, inl, inr, ◌⊎◌, sym, ap, ◌∙◌, subst, append-nil, arith}
 use Rattle.std.proofs.lemmas.List.{take_all}
 use Rattle.std.proofs.lemmas.Result.{IfErr-at_err, IfErr-weaker}
 use Rattle.std.specs.Io.KnownBytes.{Appends, Keeps}
 use Rattle.std.proofs.KnownBytes.{Appends-kept}
 use Rattle.std.specs.Result.{OnOk, IfErr}
-use Rattle.road_text.specs.Streams.{Output}
+use Rattle.text_lines.specs.Streams.{Output}
 use Rattle.road_graph.specs.GraphData.{GraphData}
 use Rattle.road_files.specs.Asked.{Asked}
 use Rattle.path_algebra.specs.Algebra.{Algebra}
@@ -16,10 +16,10 @@ use Rattle.batch_run.specs.declared.faults.Cause.{Cause}
 use Rattle.batch_run.specs.declared.faults.Cause.TheVariants.{Write}
 use Rattle.question_solvers.specs.declared.factor_solver.Factoring.{Factoring}
 use Rattle.batch_run.specs.declared.settings.Settings.{Settings}
-use Rattle.batch_run.specs.declared.watcher.Report.{Report}
+use Rattle.batch_run.specs.declared.watcher.Progress.{Progress}
 use Rattle.batch_run.specs.Answered.{AnsweredAll, WroteAnswers, WroteFirst, WroteWhole, WroteAllOrFirst, begun_text}
 use Rattle.batch_run.specs.Reports.{ReportedWritten}
-use Rattle.batch_run.proofs.Progress.{no_fewer_failures}
+use Rattle.batch_run.proofs.AnsweredFirst.{no_fewer_failures}
 use Rattle.batch_run.proofs.WrittenReports.{written_kept}
 
 -- the cause is that of the answers; or there was none, and the flush failed
@@ -103,7 +103,7 @@ sound_flushed b m a Y answered (Ok u) was ok same = same ∙ subst (λ x. OnOk x
 sound_flushed b m a Y answered (Err f) was ok same = tt
 
 -- a flush reports nothing, and what was written stays
-pub reported_flushed : {V S W : Type 0} (A : Algebra V) (how : Settings) (g : GraphData) (asked : Asked) (plain : Bool) (Told : Option Factoring → Type 0) (may_become : S → Report → S → Type 0) (old new : S) (out mid out_after : Output W) →
+pub reported_flushed : {V S W : Type 0} (A : Algebra V) (how : Settings) (g : GraphData) (asked : Asked) (plain : Bool) (Told : Option Factoring → Type 0) (may_become : S → Progress → S → Type 0) (old new : S) (out mid out_after : Output W) →
     Keeps mid.written out_after.written → ReportedWritten A how g asked plain Told may_become old new out mid → ReportedWritten A how g asked plain Told may_become old new out out_after
 reported_flushed A how g asked plain Told may_become old new out mid out_after keeps was =
     record { became = was.became; told = was.told; reported = was.reported; written = written_kept A g asked out mid out_after keeps was.reported.prefix was.written }

@@ -2,7 +2,7 @@ mod SourceByMore
 mod LinesAreRight
 mod WrittenLines
 pub mod CauseCases
-mod Progress
+mod AnsweredFirst
 mod Existing
 pub mod Prefixes
 mod OfInputs

@@ -1,5 +1,5 @@
 -- What a run promises of inputs that were read, from what answering them promises.
-use Rattle.std.proofs.Common.{◌≡◌, ◌≢◌, ◌⊎◌, ◌<◌, ◌≤◌, ◌+◌, inl, inr, [], ℕ, Ok, Err, Bool, refl, ap, arith}
+use Rattle.std.proofs.Common.{◌≡◌, ◌≢◌, ◌<◌, ◌≤◌, ◌+◌, inl, inr, [], ℕ, Ok, Err, Bool, refl, ap, arith}
 use Rattle.road_graph.specs.GraphData.{GraphData}
 use Rattle.road_files.specs.Asked.{Asked}
 use Rattle.path_algebra.specs.Algebra.{Algebra}
@@ -15,7 +15,7 @@ use Rattle.batch_run.specs.Causes.{MayStop, fault_of, number_of}
 use Rattle.batch_run.specs.Choice.{without_diffusions}
 use Rattle.batch_run.specs.InRange.{AreInRange}
 use Rattle.batch_run.specs.Ran.{BegunWhole, IsPassedOn}
-use Rattle.road_text.specs.Streams.{Output}
+use Rattle.text_lines.specs.Streams.{Output}
 use Rattle.batch_run.specs.Runs.{Ran}
 use Rattle.batch_run.proofs.CauseCases.{gated_by_number, no_setting, numbered, other_by_number, stalled_by_number, write_by_number}
 

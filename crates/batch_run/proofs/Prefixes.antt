@@ -1,8 +1,8 @@
 -- The first answers begin the text of all answers.
-use Rattle.std.proofs.Common.{◌≡◌, ℕ, List, ◌++◌, take, ap, ◌∙◌, append_assoc, All, Option, Result, Ok, Err, ◌≤◌, inl, inr, arith}
+use Rattle.std.proofs.Common.{◌≡◌, ℕ, List, ◌++◌, take, ap, ◌∙◌, append_assoc, All, Result, Ok, Err, ◌≤◌, inl, inr, arith}
 use Rattle.std.proofs.lemmas.List.Elements.{All-map}
 use Rattle.std.proofs.lemmas.Result.{IfErr-weaker}
-use Rattle.road_text.specs.Streams.{Output}
+use Rattle.text_lines.specs.Streams.{Output}
 use Rattle.road_graph.specs.GraphData.{GraphData}
 use Rattle.road_files.specs.Asked.{FromSource, Asked, asked_of, of_pair, of_list, AreQuestionsOf}
 use Rattle.road_files.specs.declared.questions.Questions.{Questions}

@@ -1,28 +1,27 @@
 -- What was reported so far, and one report more.
 use Rattle.std.proofs.Common.{◌≡◌, ℕ, zero, suc, ◌+◌, ◌<◌, ◌≤◌, Bool, true, List, [], ◌∷◌, ◌++◌, length, map, take, get_or, Option, None, Some, Result, Ok, Err, refl, sym, ap, ◌∙◌, subst, append_assoc, append-nil, arith}
-use Rattle.std.specs.Prelude.{IfErr, IfNone, IfSome}
+use Rattle.std.specs.Prelude.{IfNone, IfSome}
 use Rattle.std.specs.List.{AllZip, flat_map}
 use Rattle.std.proofs.lemmas.List.{take_all, take_more, map-append}
 use Rattle.std.proofs.lemmas.List.Concat.{flat_map-cons}
-use Rattle.road_text.specs.Streams.{Output}
+use Rattle.text_lines.specs.Streams.{Output}
 use Rattle.road_graph.specs.GraphData.{GraphData}
 use Rattle.road_files.specs.Asked.{Question, Asked}
 use Rattle.path_algebra.specs.Algebra.{Algebra}
 use Rattle.path_algebra.specs.Walks.{AreBest}
 use Rattle.shard_store.specs.Plans.{PlanData}
-use Rattle.shard_store.specs.Setup.{SetupData}
+use Rattle.shard_store.specs.Setup.{SetupData, setup_of}
 use Rattle.station.specs.declared.gathering.Gathered.{Gathered}
 use Rattle.station.specs.Gather.{IsGathered}
-use Rattle.station.specs.Opened.{setup_of}
 use Rattle.batch_run.specs.declared.solve.diffusion.EndedDiffusion.{EndedDiffusion}
 use Rattle.batch_run.specs.declared.faults.Cause.{Cause}
 use Rattle.batch_run.specs.declared.settings.Settings.{Settings}
-use Rattle.batch_run.specs.declared.watcher.Report.{Report}
-use Rattle.batch_run.specs.declared.watcher.Report.TheVariants as report
+use Rattle.batch_run.specs.declared.watcher.Progress.{Progress}
+use Rattle.batch_run.specs.declared.watcher.Progress.TheVariants as report
 use Rattle.question_solvers.specs.declared.factor_solver.Factoring.{Factoring}
 use Rattle.batch_run.specs.Cut.{IsCut, order_of}
 use Rattle.batch_run.specs.Diffusions.{IsEnded}
-use Rattle.batch_run.specs.Reports.{IsAccount, Due, Beginning, Attempt, Account, Progress, IsReportOf, IsTold, FollowsReports, Reported, ReportedAllOrPrefix, ReportedPrefix, ReportedWhole, ReportedWritten, Watched, accounts_due, question_due, questions_due, start_due, batch_due, count_diffusions, diffused}
+use Rattle.batch_run.specs.Reports.{IsAccount, Due, Beginning, Attempt, Account, Answering, IsReportOf, IsTold, FollowsReports, Reported, ReportedAllOrPrefix, ReportedPrefix, ReportedWhole, ReportedWritten, Watched, accounts_due, question_due, questions_due, start_due, batch_due, count_diffusions, diffused}
 use Rattle.batch_run.specs.Choice.{without_diffusions}
 use Rattle.batch_run.specs.Causes.{fault_of}
 use Rattle.batch_run.proofs.CauseCases.{no_setting}
@@ -53,14 +52,14 @@ module _ {S V : Type 0} (meaning : S → Algebra V) where
     pub is_account : IsCut how g plan → IsAccount (meaning algebra) how g e.source found.tally
     is_account cut = account_of algebra how g plan e.source found cut gathered_of
 
-module _ {V S : Type 0} (A : Algebra V) (how : Settings) (g : GraphData) (may_become : S → Report → S → Type 0) where
-  all_more : (ds es : List Due) (rs qs : List Report) → AllZip (IsReportOf A how g) ds rs → AllZip (IsReportOf A how g) es qs → AllZip (IsReportOf A how g) (ds ++ es) (rs ++ qs)
+module _ {V S : Type 0} (A : Algebra V) (how : Settings) (g : GraphData) (may_become : S → Progress → S → Type 0) where
+  all_more : (ds es : List Due) (rs qs : List Progress) → AllZip (IsReportOf A how g) ds rs → AllZip (IsReportOf A how g) es qs → AllZip (IsReportOf A how g) (ds ++ es) (rs ++ qs)
   all_more [] es [] qs h k = k
   all_more [] es (r ∷ rs) qs h k = absurd h
   all_more (d ∷ ds) es [] qs h k = absurd h
   all_more (d ∷ ds) es (r ∷ rs) qs h k = (h.0, all_more ds es rs qs h.1 k)
 
-  told_more : (rs qs : List Report) (old mid new : S) → FollowsReports may_become old rs mid → FollowsReports may_become mid qs new → FollowsReports may_become old (rs ++ qs) new
+  told_more : (rs qs : List Progress) (old mid new : S) → FollowsReports may_become old rs mid → FollowsReports may_become mid qs new → FollowsReports may_become old (rs ++ qs) new
   told_more [] qs old mid new h k = subst (λ (s : S). FollowsReports may_become s qs new) h k
   told_more (r ∷ rs) qs old mid new h k = (h.0, h.1, told_more rs qs h.0 mid new h.2 k)
 
@@ -69,7 +68,7 @@ module _ {V S : Type 0} (A : Algebra V) (how : Settings) (g : GraphData) (may_be
   none s = record { reports = []; are_due = tt; told = refl }
 
   -- one report was made
-  pub one : (d : Due) (r : Report) (old new : S) → IsReportOf A how g d r → may_become old r new → Reported A how g may_become (d ∷ []) old new
+  pub one : (d : Due) (r : Progress) (old new : S) → IsReportOf A how g d r → may_become old r new → Reported A how g may_become (d ∷ []) old new
   one d r old new is become = record { reports = r ∷ []; are_due = (is, tt); told = (new, become, refl) }
 
   -- more was reported
@@ -97,24 +96,13 @@ module _ {V S : Type 0} (A : Algebra V) (how : Settings) (g : GraphData) (may_be
   pub prefix_all : (due : List Due) (old new : S) → Reported A how g may_become due old new → ReportedPrefix A how g may_become due old new
   prefix_all due old new h = prefix_whole due [] due old new (sym (append-nil due)) h
 
-  -- so is it with a prefix of what is due next
-  pub prefix_more : (ds es rest due : List Due) (old mid new : S) → due ≡ (ds ++ es) ++ rest → Reported A how g may_become ds old mid → ReportedPrefix A how g may_become es mid new →
-      ReportedPrefix A how g may_become due old new
-  prefix_more ds es rest due old mid new e h k = record {
-    prefix = ds ++ k.prefix;
-    rest = k.rest ++ rest;
-    due_is = e ∙ append_assoc ds es rest ∙ ap (λ (x : List Due). ds ++ (x ++ rest)) k.due_is ∙ ap (λ (x : List Due). ds ++ x) (append_assoc k.prefix k.rest rest)
-        ∙ sym (append_assoc ds k.prefix (k.rest ++ rest));
-    reported = more ds k.prefix old mid new h k.reported;
-  }
-
 -- what is due of the first sources is a prefix of what is due of all
 account_from : (k : ℕ) (xs : List ℕ) (i : ℕ) → (rest : List Due) × (map (Account k) xs ≡ map (Account k) (take i xs) ++ rest)
 account_from k xs zero = (map (Account k) xs, refl)
 account_from k [] (suc i) = ([], refl)
 account_from k (x ∷ xs) (suc i) = let after = account_from k xs i in (after.0, ap (λ (l : List Due). Account k x ∷ l) after.1)
 
-module _ {V S : Type 0} (A : Algebra V) (how : Settings) (g : GraphData) (may_become : S → Report → S → Type 0) (k : ℕ) (xs : List ℕ) where
+module _ {V S : Type 0} (A : Algebra V) (how : Settings) (g : GraphData) (may_become : S → Progress → S → Type 0) (k : ℕ) (xs : List ℕ) where
   -- of one source
   pub sources_begun : (x : ℕ) (old new : S) → take 1 xs ≡ x ∷ [] → Reported A how g may_become (Account k x ∷ []) old new → Reported A how g may_become (map (Account k) (take 1 xs)) old new
   sources_begun x old new e h = subst (λ (l : List ℕ). Reported A how g may_become (map (Account k) l) old new) (sym e) h
@@ -186,7 +174,7 @@ module _ (plain : Bool) (became : Option Factoring) (qs : List Question) (i k : 
   accounts_follow ds es e =
       let first = due_first plain became qs i in
       let after = first_follows plain became qs (i + 1) in
-      let last = Progress k ∷ [] in (
+      let last = Answering k ∷ [] in (
         es ++ (last ++ after.0),
         after.1 ∙ ap (λ (x : List Due). x ++ after.0) next_due
             ∙ ap (λ (x : List Due). (first ++ (x ++ last)) ++ after.0) e ∙ ap (λ (x : List Due). (first ++ x) ++ after.0) (append_assoc ds es last)
@@ -194,7 +182,7 @@ module _ (plain : Bool) (became : Option Factoring) (qs : List Question) (i k : 
             ∙ ap (λ (x : List Due). first ++ (ds ++ x)) (append_assoc es last after.0) ∙ sym (append_assoc first ds (es ++ (last ++ after.0))),
       )
 
-module _ {V S : Type 0} (A : Algebra V) (how : Settings) (g : GraphData) (may_become : S → Report → S → Type 0) (plain : Bool) (qs : List Question) where
+module _ {V S : Type 0} (A : Algebra V) (how : Settings) (g : GraphData) (may_become : S → Progress → S → Type 0) (plain : Bool) (qs : List Question) where
   -- the batch begins
   pub begun : (n d : ℕ) (old new : S) → n ≡ length qs → d ≡ count_diffusions plain qs → may_become old (report.Begun n d) new →
       Reported A how g may_become (Beginning (length qs) (count_diffusions plain qs) ∷ []) old new
@@ -222,10 +210,10 @@ module _ {V S : Type 0} (A : Algebra V) (how : Settings) (g : GraphData) (may_be
         (more A how g may_become (due_first plain became qs i) (question_due plain k (get_or qs i q)) old mid new first one)
 
 -- a question is answered
-module _ {V S : Type 0} (A : Algebra V) (how : Settings) (g : GraphData) (may_become : S → Report → S → Type 0) (plain : Bool) (k : ℕ) (q : Question) where
+module _ {V S : Type 0} (A : Algebra V) (how : Settings) (g : GraphData) (may_become : S → Progress → S → Type 0) (plain : Bool) (k : ℕ) (q : Question) where
   pub question_answered : (old mid new : S) → Reported A how g may_become (accounts_due plain k q) old mid → may_become mid (report.Answered k) new → Reported A how g may_become (question_due plain k q) old new
   question_answered old mid new accounts become =
-      more A how g may_become (accounts_due plain k q) (Progress k ∷ []) old mid new accounts (one A how g may_become (Progress k) (report.Answered k) mid new refl become)
+      more A how g may_become (accounts_due plain k q) (Answering k ∷ []) old mid new accounts (one A how g may_become (Answering k) (report.Answered k) mid new refl become)
 
 -- the plain solver answers by no diffusion
 none_diffused : (qs : List Question) → flat_map (diffused true) qs ≡ []
@@ -236,7 +224,7 @@ pub none_counted : (qs : List Question) → 0 ≡ count_diffusions true qs
 none_counted qs = sym (ap (λ (l : List ℕ). length l) (none_diffused qs))
 
 -- what a run reports of inputs that were read, from what answering them reports
-module _ {V S W : Type 0} (A : Algebra V) (how : Settings) (IsRead : GraphData → Asked → Type 0) (may_become : S → Report → S → Type 0) (old new : S) (out out_after : Output W) (g : GraphData)
+module _ {V S W : Type 0} (A : Algebra V) (how : Settings) (IsRead : GraphData → Asked → Type 0) (may_become : S → Progress → S → Type 0) (old new : S) (out out_after : Output W) (g : GraphData)
     (asked : Asked) (read : IsRead g asked) where
   pub watched_all : ReportedWhole A how g (without_diffusions how) (IsTold how.factors) asked.questions may_become old new → Watched A how IsRead may_become old new out out_after (Ok tt)
   watched_all reported = record { all = record { graph = g; asked = asked; read = read; reported = reported }; first = tt; nothing = tt; untouched = tt }

@@ -7,7 +7,7 @@ use Rattle.question_solvers.specs.declared.factor_solver.Factoring.TheVariants.{
 use Rattle.batch_run.specs.declared.solve.Solver.{Solver}
 use Rattle.batch_run.specs.declared.solve.Solver.TheVariants.{Plain, Factors, Workers}
 use Rattle.batch_run.specs.Reports.{IsTold}
-use Rattle.batch_run.specs.Solvers.{IsFactoringOf, MayTell, is_by_factors}
+use Rattle.batch_run.specs.Factored.{IsFactoringOf, MayTell, is_by_factors}
 
 made_or_not : {X : Type 0} (factored : Option X) → (became : Factoring) × ((became ≡ Made) ↔ IsSome factored)
 made_or_not None = (Untried, (λ made. let bad : Untried ≡ Made = made in cc, λ none. let bad : false ≡ true = none in cc))

@@ -6,11 +6,11 @@ use Rattle.std.proofs.lemmas.List.Elements.{All-head, All-tail}
 use Rattle.std.proofs.lemmas.Grind.{common_steps}
 use Rattle.std.proofs.lemmas.Option.{slice_get-get_or, get_or_from_slice_get}
 use Rattle.path_algebra.specs.Algebra.{Algebra}
-use Rattle.shard_store.specs.Setup.{SetupData}
+use Rattle.shard_store.specs.Setup.{SetupData, setup_of}
 use Rattle.shard_part.specs.Opening.{opened_parts}
 use Rattle.post_floor.specs.Data.{FloorData}
 use Rattle.station.specs.Station.{StationData}
-use Rattle.station.specs.Opened.{AreOpened, setup_of, station_of}
+use Rattle.station.specs.Opened.{AreOpened, station_of}
 use Rattle.worker_fleet.specs.Groups.{HasShard, IsDone, Some_of}
 use Rattle.worker_fleet.specs.Turns.{IsOnItsFloor}
 use Rattle.road_graph.specs.GraphData.{GraphData}

@@ -1,24 +1,24 @@
 -- What was reported of a batch was written before, and stays written.
-use Rattle.std.proofs.Common.{◌≡◌, ◌≢◌, ◌⊎◌, inl, inr, ℕ, ◌+◌, ◌<◌, ◌≤◌, List, [], ◌∷◌, ◌++◌, length, map, get_or, Bool, Option, None, Some, Result, Err, refl, sym, ap, ◌∙◌, subst, append_assoc, append-nil}
+use Rattle.std.proofs.Common.{◌≡◌, inl, inr, ℕ, ◌+◌, ◌<◌, ◌≤◌, List, [], ◌∷◌, ◌++◌, length, map, get_or, Bool, Option, None, Some, Err, refl, sym, subst, append_assoc, append-nil}
 use Rattle.std.specs.Prelude.{IfNone, IfSome}
 use Rattle.std.specs.Io.KnownBytes.{Appends, Keeps}
 use Rattle.std.specs.List.{AllByRecursion}
 use Rattle.std.proofs.KnownBytes.{Appends-kept, Appends-trans}
 use Rattle.road_graph.specs.GraphData.{GraphData}
-use Rattle.road_text.proofs.WriteLaws.{left_appends}
-use Rattle.road_text.specs.Streams.{Output}
+use Rattle.text_lines.proofs.WriteLaws.{left_appends}
+use Rattle.text_lines.specs.Streams.{Output}
 use Rattle.road_files.specs.Asked.{Question, Asked}
 use Rattle.path_algebra.specs.Algebra.{Algebra}
-use Rattle.road_text.specs.Written.{WrotePrefix}
+use Rattle.text_lines.specs.Written.{WrotePrefix}
 use Rattle.batch_run.specs.Answered.{WroteAtLeast, WroteNext, begun_text}
 use Rattle.batch_run.specs.declared.faults.Cause.{Cause}
 use Rattle.batch_run.specs.declared.settings.Settings.{Settings}
-use Rattle.batch_run.specs.declared.watcher.Report.{Report}
-use Rattle.batch_run.specs.declared.watcher.Report.TheVariants as report
+use Rattle.batch_run.specs.declared.watcher.Progress.{Progress}
+use Rattle.batch_run.specs.declared.watcher.Progress.TheVariants as report
 use Rattle.question_solvers.specs.declared.factor_solver.Factoring.{Factoring}
-use Rattle.batch_run.specs.Reports.{Account, Attempt, Beginning, Due, IsWritten, Progress, Reported, ReportedPrefix, ReportedWhole, ReportedWritten, accounts_due, batch_due, count_diffusions, diffused, question_due}
+use Rattle.batch_run.specs.Reports.{Account, Attempt, Beginning, Due, IsWritten, Answering, Reported, ReportedPrefix, ReportedWhole, ReportedWritten, accounts_due, batch_due, count_diffusions, diffused, question_due}
 use Rattle.batch_run.proofs.CauseCases.{write_or_other}
-use Rattle.batch_run.proofs.Progress.{Progress as AnsweredFirst}
+use Rattle.batch_run.proofs.AnsweredFirst.{AnsweredFirst}
 use Rattle.batch_run.proofs.Reporting.{accounts_follow, answered, due_first, ended, first_follows, more, next_due, none, start_follows, started}
 
 module _ {V : Type 0} (A : Algebra V) (g : GraphData) (asked : Asked) where
@@ -49,7 +49,7 @@ module _ {V : Type 0} (A : Algebra V) (g : GraphData) (asked : Asked) where
     due_still still (Beginning n k) w = still 0 w
     due_still still (Attempt became) w = tt
     due_still still (Account k s) w = tt
-    due_still still (Progress n) w = still n w
+    due_still still (Answering n) w = still n w
 
     all_still : ((n : ℕ) → WroteAtLeast A g asked n old mid → WroteAtLeast A g asked n old new) → (ds : List Due) →
         AllByRecursion (IsWritten A g asked old mid) ds → AllByRecursion (IsWritten A g asked old new) ds
@@ -82,7 +82,7 @@ module _ {V : Type 0} (A : Algebra V) (g : GraphData) (asked : Asked) where
 
     -- a question is reported as answered when its answer is written
     pub question_written : (plain : Bool) (k : ℕ) (q : Question) → WroteAtLeast A g asked k old new → AllByRecursion (IsWritten A g asked old new) (question_due plain k q)
-    question_written plain k q w = written_then (accounts_due plain k q) (Progress k ∷ []) (accounts_written k (diffused plain q)) (w, tt)
+    question_written plain k q w = written_then (accounts_due plain k q) (Answering k ∷ []) (accounts_written k (diffused plain q)) (w, tt)
 
   -- before the first question the header is
   pub start_written : {X : Type 0} (old new : Output X) (plain : Bool) (became : Option Factoring) → WroteAtLeast A g asked 0 old new →
@@ -99,14 +99,14 @@ module _ {V : Type 0} (A : Algebra V) (g : GraphData) (asked : Asked) where
   ]
 
 -- so many questions were reported as answered, and of factoring what may be told; and what that says was written
-pub record ReportedUntil {V S W : Type 0} (A : Algebra V) (how : Settings) (g : GraphData) (asked : Asked) (plain : Bool) (Told : Option Factoring → Type 0) (may_become : S → Report → S → Type 0)
+pub record ReportedUntil {V S W : Type 0} (A : Algebra V) (how : Settings) (g : GraphData) (asked : Asked) (plain : Bool) (Told : Option Factoring → Type 0) (may_become : S → Progress → S → Type 0)
     (i : ℕ) (old new : S) (out out_after : Output W) : Type 0 where
   pub became : Option Factoring
   pub told : Told became
   pub reported : Reported A how g may_become (due_first plain became asked.questions i) old new
   pub written : AllByRecursion (IsWritten A g asked out out_after) (due_first plain became asked.questions i)
 
-module _ {V S W : Type 0} (A : Algebra V) (how : Settings) (g : GraphData) (asked : Asked) (plain : Bool) (Told : Option Factoring → Type 0) (may_become : S → Report → S → Type 0)
+module _ {V S W : Type 0} (A : Algebra V) (how : Settings) (g : GraphData) (asked : Asked) (plain : Bool) (Told : Option Factoring → Type 0) (may_become : S → Progress → S → Type 0)
     (old : S) (out : Output W) where
   module _ (became : Option Factoring) (told : Told became) (out_after : Output W) where
     reported_as : (new : S) (ds rest : List Due) → batch_due plain became asked.questions ≡ ds ++ rest → Reported A how g may_become ds old new → AllByRecursion (IsWritten A g asked out out_after) ds →
@@ -166,7 +166,7 @@ module _ {V S W : Type 0} (A : Algebra V) (how : Settings) (g : GraphData) (aske
 
 -- what is told of factoring may be told more widely
 module _ {V S W : Type 0} (A : Algebra V) (how : Settings) (g : GraphData) (asked : Asked) (plain : Bool) (Told Wide : Option Factoring → Type 0) (wider : (b : Option Factoring) → Told b → Wide b)
-    (may_become : S → Report → S → Type 0) (old new : S) (out out_after : Output W) where
+    (may_become : S → Progress → S → Type 0) (old new : S) (out out_after : Output W) where
   pub whole_wider : ReportedWhole A how g plain Told asked.questions may_become old new → ReportedWhole A how g plain Wide asked.questions may_become old new
   whole_wider w = record { became = w.became; told = wider w.became w.told; reported = w.reported }
 

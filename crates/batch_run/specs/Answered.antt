@@ -1,5 +1,5 @@
 -- What a batch leaves: the text of the right answers, whole or a prefix of it.
-use Rattle.std.specs.Prelude.{◌≡◌, ◌≢◌, ℕ, ◌+◌, List, [], ◌++◌, length, take, All, Option, Result, Ok, Err, OnOk, IfErr}
+use Rattle.std.specs.Prelude.{◌≡◌, ◌≢◌, ℕ, ◌+◌, List, [], ◌++◌, length, take, All, Result, Ok, Err, OnOk, IfErr}
 use Rattle.std.specs.Io.KnownBytes.{Appends}
 use Rattle.road_graph.specs.GraphData.{GraphData, HasVertex}
 use Rattle.road_files.specs.Asked.{Question, FromSource, BetweenPair, FromSources, Asked}
@@ -7,8 +7,8 @@ use Rattle.path_algebra.specs.Algebra.{Algebra}
 use Rattle.answer_text.specs.AnswerData.{AnswerData, AnswerList}
 use Rattle.answer_text.specs.IsAnswer.{IsAnswer, AreAnswers, IsAnswerList}
 use Rattle.answer_text.specs.AnswerText.{answer_text, header_text, blocks_text, answers_text}
-use Rattle.road_text.specs.Streams.{Output}
-use Rattle.road_text.specs.Written.{WritesText, WrotePrefix, FailedAfterPrefix}
+use Rattle.text_lines.specs.Streams.{Output}
+use Rattle.text_lines.specs.Written.{WritesText, WrotePrefix, FailedAfterPrefix}
 use Rattle.batch_run.specs.declared.faults.Cause.{Cause}
 use Rattle.batch_run.specs.declared.faults.Cause.TheVariants.{Write}
 

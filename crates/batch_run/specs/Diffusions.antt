@@ -6,9 +6,8 @@ use Rattle.road_files.specs.Asked.{Question, sources_of}
 use Rattle.path_algebra.specs.Algebra.{Algebra}
 use Rattle.path_algebra.specs.Walks.{AreBest}
 use Rattle.shard_store.specs.Plans.{PlanData}
-use Rattle.shard_store.specs.Setup.{SetupData}
+use Rattle.shard_store.specs.Setup.{SetupData, setup_of}
 use Rattle.post_floor.specs.Data.{FloorData}
-use Rattle.station.specs.Opened.{setup_of}
 use Rattle.station.specs.Station.{StationData, BelongsTo}
 use Rattle.worker_fleet.specs.Groups.{HasShard}
 use Rattle.batch_run.specs.declared.solve.diffusion.EndedDiffusion.{EndedDiffusion}

@@ -4,7 +4,7 @@ use Rattle.batch_run.specs.declared.faults.File.{File}
 use Rattle.batch_run.specs.declared.faults.File.TheVariants.{Graph, Questions, Bundle, NoFile}
 use Rattle.batch_run.specs.declared.faults.RunFault.{RunFault}
 use Rattle.batch_run.specs.Inputs.{HasReadPair, HasReadBundle}
-use Rattle.road_text.specs.Streams.{Input}
+use Rattle.text_lines.specs.Streams.{Input}
 
 file_of : Result (Unit {0}) RunFault → File
 file_of (Ok u) = NoFile

@@ -2,14 +2,14 @@
 use Rattle.std.specs.Prelude.{◌≡◌, ◌≢◌, ◌+◌, ◌≤◌, ◌↔◌, None, Result, Err, OnOk, IfErr}
 use Rattle.std.specs.Io.KnownBytes.{IsAtEnd}
 use Rattle.road_graph.specs.GraphData.{GraphData}
-use Rattle.road_text.specs.Reads.{BreaksNone, RunsOutAfter}
+use Rattle.text_lines.specs.Reads.{BreaksNone, RunsOutAfter}
 use Rattle.graph_text.specs.GraphFiles.{gr_rules}
 use Rattle.road_files.specs.QuestionFiles.{question_rules}
 use Rattle.road_files.specs.BundleFiles.{bundle_rules}
 use Rattle.batch_run.specs.declared.faults.File.TheVariants.{Graph, Questions, Bundle}
 use Rattle.batch_run.specs.declared.faults.RunFault.{RunFault}
 use Rattle.batch_run.specs.Ran.{IsReadAs, IsGraphFault, IsQuestionsFault, IsBundleFault}
-use Rattle.road_text.specs.Streams.{Input}
+use Rattle.text_lines.specs.Streams.{Input}
 
 -- a graph was read from one input and questions from another, or this fault stopped the run
 pub record HasReadPair {G Q : Type 0} (first first_after : Input G) (second second_after : Input Q) (outcome : Result (Unit {0}) RunFault) : Type 0 where

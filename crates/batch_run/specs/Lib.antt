@@ -13,3 +13,5 @@ pub mod Reports
 pub mod Inputs
 pub mod InputLaws
 pub mod Solvers
+pub mod Factored
+pub mod Batches

@@ -1,9 +1,9 @@
 -- What a batch promises of its inputs and its output.
 use Rattle.std.specs.Prelude.{◌≡◌, ◌≢◌, ℕ, ◌<◌, ◌≤◌, ◌⊎◌, List, [], Option, None, Ok, Err, IfSome}
 use Rattle.road_graph.specs.GraphData.{GraphData}
-use Rattle.road_text.specs.Reads.{IsNumberFrom}
-use Rattle.road_text.specs.Streams.{Output}
-use Rattle.road_text.specs.Rules.{Rules, text_read}
+use Rattle.text_lines.specs.Reads.{IsNumberFrom}
+use Rattle.text_lines.specs.Streams.{Output}
+use Rattle.text_lines.specs.Rules.{Rules, text_read}
 use Rattle.road_files.specs.Asked.{Asked}
 use Rattle.graph_text.specs.GraphFiles.{gr_rules}
 use Rattle.road_files.specs.QuestionFiles.{question_rules}

@@ -3,12 +3,13 @@
 -- 1 is answered, 2 are. With factors: it begins (2 questions, 0 diffusions), the graph is factored, 1 is answered, 2 are.
 use Rattle.std.specs.Prelude.{◌≡◌, ◌≢◌, ℕ, ◌+◌, Bool, true, false, List, [], ◌∷◌, ◌++◌, length, map, Option, None, Some, IsSome, Result, Ok, Err, OnOk, IfErr}
 use Rattle.std.specs.List.{AllByRecursion, AllZip, flat_map}
-use Rattle.road_text.specs.Streams.{Output}
+use Rattle.text_lines.specs.Streams.{Output}
 use Rattle.road_graph.specs.GraphData.{GraphData}
 use Rattle.road_files.specs.Asked.{Question, Asked, sources_of}
 use Rattle.path_algebra.specs.Algebra.{Algebra}
 use Rattle.shard_store.specs.declared.tally.Tally.{Tally}
 use Rattle.shard_store.specs.Plans.{PlanData}
+use Rattle.shard_store.specs.Setup.{setup_of}
 use Rattle.station.specs.Gather.{IsGathered}
 use Rattle.question_solvers.specs.declared.factor_solver.Factoring.{Factoring}
 use Rattle.batch_run.specs.declared.faults.File.TheVariants.{NoFile}
@@ -17,9 +18,8 @@ use Rattle.batch_run.specs.declared.settings.Settings.{Settings}
 use Rattle.batch_run.specs.Answered.{WroteAtLeast}
 use Rattle.batch_run.specs.Choice.{without_diffusions}
 use Rattle.batch_run.specs.Cut.{IsCut, order_of}
-use Rattle.batch_run.specs.declared.watcher.Report.{Report}
-use Rattle.batch_run.specs.declared.watcher.Report.TheVariants.{Begun, Factored, Gathered, Answered}
-use Rattle.station.specs.Opened.{setup_of}
+use Rattle.batch_run.specs.declared.watcher.Progress.{Progress}
+use Rattle.batch_run.specs.declared.watcher.Progress.TheVariants.{Begun, Factored, Gathered, Answered}
 
 -- The counts of a diffusion over a graph from a source are those that `gather` reports with some labels, in the shards and the order that the settings choose: some events, counted in full, lead from
 -- its opening to a state that has ended and is quiet; each counter is the lesser of its total and its top, full exactly where a total reaches that, and all totals are
@@ -36,14 +36,14 @@ pub data Due : Type 0 where
   Beginning : (questions diffusions : ℕ) → Due
   Attempt : (became : Factoring) → Due
   Account : (question source : ℕ) → Due
-  Progress : (questions : ℕ) → Due
+  Answering : (questions : ℕ) → Due
 
 -- the report is the one that is due; one of a diffusion that was gathered has its counts
-abbrev pub IsReportOf : {V : Type 0} → Algebra V → Settings → GraphData → Due → Report → Type 0
+abbrev pub IsReportOf : {V : Type 0} → Algebra V → Settings → GraphData → Due → Progress → Type 0
 IsReportOf A how g (Beginning n d) r = r ≡ Begun n d
 IsReportOf A how g (Attempt became) r = r ≡ Factored became
 IsReportOf A how g (Account k s) r = (tally : Tally) × IsAccount A how g s tally × (r ≡ Gathered k s tally)
-IsReportOf A how g (Progress n) r = r ≡ Answered n
+IsReportOf A how g (Answering n) r = r ≡ Answered n
 
 -- the sources from which a question is answered by diffusions: none with the plain solver
 abbrev pub diffused : Bool → Question → List ℕ
@@ -60,12 +60,12 @@ accounts_due plain k q = map (Account k) (diffused plain q)
 
 -- due of a question of this number: its accounts, and that it is answered
 abbrev pub question_due : Bool → ℕ → Question → List Due
-question_due plain k q = accounts_due plain k q ++ Progress k ∷ []
+question_due plain k q = accounts_due plain k q ++ Answering k ∷ []
 
 -- due of questions, in order, when so many are answered: for each its accounts, and that it is answered
 abbrev pub questions_due : Bool → ℕ → List Question → List Due
 questions_due plain n [] = []
-questions_due plain n (q ∷ qs) = accounts_due plain (n + 1) q ++ Progress (n + 1) ∷ [] ++ questions_due plain (n + 1) qs
+questions_due plain n (q ∷ qs) = accounts_due plain (n + 1) q ++ Answering (n + 1) ∷ [] ++ questions_due plain (n + 1) qs
 
 -- due before the first question: that the batch begins, and what became of factoring its graph, if factors are to answer
 abbrev pub start_due : Bool → Option Factoring → List Question → List Due
@@ -82,36 +82,36 @@ IsTold true became = IsSome became
 IsTold false became = became ≡ None
 
 -- given these reports, one after the other, a watcher went from the one state to the other
-abbrev pub FollowsReports : {S : Type 0} → (S → Report → S → Type 0) → S → List Report → S → Type 0
+abbrev pub FollowsReports : {S : Type 0} → (S → Progress → S → Type 0) → S → List Progress → S → Type 0
 FollowsReports may_become old [] new = new ≡ old
 FollowsReports {S} may_become old (r ∷ rs) new = (next : S) × may_become old r next × FollowsReports may_become next rs new
 
 -- what is due was reported to a watcher, in order, and nothing else
-pub record Reported {V S : Type 0} (A : Algebra V) (how : Settings) (g : GraphData) (may_become : S → Report → S → Type 0) (due : List Due) (old new : S) : Type 0 where
-  pub reports : List Report
+pub record Reported {V S : Type 0} (A : Algebra V) (how : Settings) (g : GraphData) (may_become : S → Progress → S → Type 0) (due : List Due) (old new : S) : Type 0 where
+  pub reports : List Progress
   pub are_due : AllZip (IsReportOf A how g) due reports
   pub told : FollowsReports may_become old reports new
 
 -- a prefix of what is due was
-pub record ReportedPrefix {V S : Type 0} (A : Algebra V) (how : Settings) (g : GraphData) (may_become : S → Report → S → Type 0) (due : List Due) (old new : S) : Type 0 where
+pub record ReportedPrefix {V S : Type 0} (A : Algebra V) (how : Settings) (g : GraphData) (may_become : S → Progress → S → Type 0) (due : List Due) (old new : S) : Type 0 where
   pub prefix : List Due
   pub rest : List Due
   pub due_is : due ≡ prefix ++ rest
   pub reported : Reported A how g may_become prefix old new
 
 -- all that is due was reported, or before a fault a prefix of it
-abbrev pub ReportedAllOrPrefix : {V S T E : Type 0} (A : Algebra V) (how : Settings) (g : GraphData) (may_become : S → Report → S → Type 0) (due : List Due) (old new : S) → Result T E → Type 0
+abbrev pub ReportedAllOrPrefix : {V S T E : Type 0} (A : Algebra V) (how : Settings) (g : GraphData) (may_become : S → Progress → S → Type 0) (due : List Due) (old new : S) → Result T E → Type 0
 ReportedAllOrPrefix A how g may_become due old new (Ok _) = Reported A how g may_become due old new
 ReportedAllOrPrefix A how g may_become due old new (Err _) = ReportedPrefix A how g may_become due old new
 
 -- all that is due of questions was reported, and of factoring what may be told
-pub record ReportedWhole {V S : Type 0} (A : Algebra V) (how : Settings) (g : GraphData) (plain : Bool) (Told : Option Factoring → Type 0) (qs : List Question) (may_become : S → Report → S → Type 0) (old new : S) : Type 0 where
+pub record ReportedWhole {V S : Type 0} (A : Algebra V) (how : Settings) (g : GraphData) (plain : Bool) (Told : Option Factoring → Type 0) (qs : List Question) (may_become : S → Progress → S → Type 0) (old new : S) : Type 0 where
   pub became : Option Factoring
   pub told : Told became
   pub reported : Reported A how g may_become (batch_due plain became qs) old new
 
 -- so it was with what was read
-pub record ReportedAll {V S : Type 0} (A : Algebra V) (how : Settings) (plain : Bool) (IsRead : GraphData → Asked → Type 0) (may_become : S → Report → S → Type 0) (old new : S) : Type 0 where
+pub record ReportedAll {V S : Type 0} (A : Algebra V) (how : Settings) (plain : Bool) (IsRead : GraphData → Asked → Type 0) (may_become : S → Progress → S → Type 0) (old new : S) : Type 0 where
   pub graph : GraphData
   pub asked : Asked
   pub read : IsRead graph asked
@@ -122,24 +122,24 @@ abbrev pub IsWritten : {V W : Type 0} → Algebra V → GraphData → Asked → 
 IsWritten A g asked out out_after (Beginning n d) = WroteAtLeast A g asked 0 out out_after
 IsWritten A g asked out out_after (Attempt became) = Unit {0}
 IsWritten A g asked out out_after (Account k s) = Unit {0}
-IsWritten A g asked out out_after (Progress n) = WroteAtLeast A g asked n out out_after
+IsWritten A g asked out out_after (Answering n) = WroteAtLeast A g asked n out out_after
 
 -- a prefix of what is due of a batch was reported, of factoring what may be told, and what it says was written
-pub record ReportedWritten {V S W : Type 0} (A : Algebra V) (how : Settings) (g : GraphData) (asked : Asked) (plain : Bool) (Told : Option Factoring → Type 0) (may_become : S → Report → S → Type 0) (old new : S) (out out_after : Output W) : Type 0 where
+pub record ReportedWritten {V S W : Type 0} (A : Algebra V) (how : Settings) (g : GraphData) (asked : Asked) (plain : Bool) (Told : Option Factoring → Type 0) (may_become : S → Progress → S → Type 0) (old new : S) (out out_after : Output W) : Type 0 where
   pub became : Option Factoring
   pub told : Told became
   pub reported : ReportedPrefix A how g may_become (batch_due plain became asked.questions) old new
   pub written : AllByRecursion (IsWritten A g asked out out_after) reported.prefix
 
 -- so it was with a prefix of what is due of what was read
-pub record ReportedFirst {V S W : Type 0} (A : Algebra V) (how : Settings) (plain : Bool) (IsRead : GraphData → Asked → Type 0) (may_become : S → Report → S → Type 0) (old new : S) (out out_after : Output W) : Type 0 where
+pub record ReportedFirst {V S W : Type 0} (A : Algebra V) (how : Settings) (plain : Bool) (IsRead : GraphData → Asked → Type 0) (may_become : S → Progress → S → Type 0) (old new : S) (out out_after : Output W) : Type 0 where
   pub graph : GraphData
   pub asked : Asked
   pub read : IsRead graph asked
   pub reported : ReportedWritten A how graph asked plain (IsTold how.factors) may_become old new out out_after
 
 -- what a batch over what was read reported to a watcher, which went from the one state to the other, while the output took bytes
-pub record Watched {V S W : Type 0} (A : Algebra V) (how : Settings) (IsRead : GraphData → Asked → Type 0) (may_become : S → Report → S → Type 0) (old new : S) (out out_after : Output W) (outcome : Result (Unit {0}) RunFault) : Type 0 where
+pub record Watched {V S W : Type 0} (A : Algebra V) (how : Settings) (IsRead : GraphData → Asked → Type 0) (may_become : S → Progress → S → Type 0) (old new : S) (out out_after : Output W) (outcome : Result (Unit {0}) RunFault) : Type 0 where
   -- on success all that is due was reported, in order, and nothing else
   pub all : OnOk outcome (ReportedAll A how (without_diffusions how) IsRead may_become old new)
   -- before a fault of the run a prefix of it was, and each question that it reports as answered has its answer in the output, whole

@@ -1,5 +1,5 @@
 -- What a batch leaves, between two moments of its inputs and its output.
-pub use Rattle.road_text.specs.Streams.{Input, Output}
+pub use Rattle.text_lines.specs.Streams.{Input, Output}
 use Rattle.std.specs.Prelude.{◌≡◌, ◌≢◌, ℕ, ◌+◌, ◌≤◌, ◌<◌, ◌⊎◌, Bool, true, false, [], Result, Err, OnOk, IfErr}
 use Rattle.std.specs.Io.KnownBytes.{Keeps}
 use Rattle.road_graph.specs.GraphData.{GraphData}

@@ -1,5 +1,5 @@
 -- Solvers between two questions.
-use Rattle.std.specs.Prelude.{◌≡◌, ◌↔◌, ℕ, Bool, true, false, Option, None, Some, IfSome, IsSome}
+use Rattle.std.specs.Prelude.{◌≡◌, ℕ, Bool, true, false, Option, IfSome, IsSome}
 use Rattle.road_graph.specs.GraphData.{GraphData}
 use Rattle.road_files.specs.Asked.{Asked}
 use Rattle.path_algebra.specs.declared.algebra.PathAlgebra.{Ghosts}
@@ -7,8 +7,6 @@ use Rattle.path_algebra.specs.Algebra.{Algebra}
 use Rattle.batch_run.specs.declared.settings.Settings.{Settings}
 use Rattle.batch_run.specs.Diffusions.{AreNext, sources_to_come}
 use Rattle.question_solvers.specs.Solvers.{IsFactorReady, IsPlainReady, last_by_factors, last_of_plain}
-use Rattle.question_solvers.specs.declared.factor_solver.Factoring.{Factoring}
-use Rattle.question_solvers.specs.declared.factor_solver.Factoring.TheVariants.{Made}
 use Rattle.question_solvers.specs.declared.solved.Solved.{Solved}
 use Rattle.batch_run.specs.declared.solve.Solver.{Solver}
 use Rattle.batch_run.specs.declared.solve.Solver.TheVariants.{Plain, Factors, Workers}
@@ -30,26 +28,6 @@ abbrev pub is_plain : {S V : Type 0} {G : Ghosts S V} → Solver S V G → Bool
 is_plain (Plain s) = true
 is_plain (Factors s) = true
 is_plain (Workers s) = false
-
--- it solves by factors, if the graph can be factored
-abbrev pub is_by_factors : {S V : Type 0} {G : Ghosts S V} → Solver S V G → Bool
-is_by_factors (Plain s) = false
-is_by_factors (Factors s) = true
-is_by_factors (Workers s) = false
-
--- what became of factoring its graph: it is made exactly if there are factors; nothing did if it solves without them
-abbrev pub IsFactoringOf : {S V : Type 0} {G : Ghosts S V} → Solver S V G → Option Factoring → Type 0
-IsFactoringOf (Plain s) became = became ≡ None
-IsFactoringOf (Factors s) None = ⊥
-IsFactoringOf (Factors s) (Some said) = (said ≡ Made) ↔ IsSome s.factored
-IsFactoringOf (Workers s) became = became ≡ None
-
--- what it may tell of factoring its graph: what became of it, at some moment
-pub record MayTell {S V : Type 0} {G : Ghosts S V} (s : Solver S V G) (became : Option Factoring) : Type 0 where
-  pub moment : Solver S V G
-  pub graph : graph_of moment ≡ graph_of s
-  pub kind : is_by_factors moment ≡ is_by_factors s
-  pub is_true : IsFactoringOf moment became
 
 -- what it solved last
 abbrev pub last_of : {S V : Type 0} {G : Ghosts S V} → Solver S V G → Option (Solved V)

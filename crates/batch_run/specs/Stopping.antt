@@ -4,8 +4,7 @@ use Rattle.road_graph.specs.GraphData.{GraphData, HasVertex}
 use Rattle.road_files.specs.Asked.{Asked}
 use Rattle.path_algebra.specs.Algebra.{Algebra}
 use Rattle.shard_store.specs.Plans.{PlanData}
-use Rattle.shard_store.specs.Setup.{SetupData}
-use Rattle.station.specs.Opened.{setup_of}
+use Rattle.shard_store.specs.Setup.{SetupData, setup_of}
 use Rattle.worker_fleet.specs.declared.group.GroupFault.{GroupFault}
 use Rattle.worker_fleet.specs.declared.group.GroupFault.TheVariants.{Memory, Stalled, Gated}
 use Rattle.worker_fleet.specs.Stops.{StopsGroup}

@@ -2,22 +2,21 @@
 ghost use Rattle.std.specs.Prelude.{◌≡◌, ◌+◌, ◌<◌, length, slice_index_or, IfErr, IfNone, IfSome, OnErr, OnOk};
 ghost use Rattle.road_files.specs.Asked.{AreQuestionsOf, Question, asked_of};
 ghost use Rattle.batch_run.specs.Answered.{AnsweredAll, WroteNext};
-ghost use Rattle.batch_run.specs.Causes.{MayStop};
-ghost use Rattle.batch_run.specs.Reports.{Reported, ReportedPrefix, ReportedWhole, ReportedWritten, accounts_due, question_due};
-ghost use Rattle.batch_run.specs.Stopping.{Stops};
-ghost use Rattle.batch_run.specs.Solvers.{IsReady, IsSameSolver, MayTell, graph_of, is_plain};
+ghost use Rattle.batch_run.specs.Batches.{IsReadyAt, MayStopBatch, ReportedBatch, ReportedOfBatch};
+ghost use Rattle.batch_run.specs.Reports.{Reported, ReportedPrefix, accounts_due, question_due};
+ghost use Rattle.batch_run.specs.Solvers.{IsSameSolver, graph_of, is_plain};
 
 use crate::batch::Batch;
 use crate::begin::begin;
 use crate::faults::Cause;
 use crate::solve::{Solver, solve_next, start};
-use crate::watcher::{Report, Watcher};
+use crate::watcher::{Progress, Watcher};
 use crate::write::answer_at;
 use path_algebra::PathAlgebra;
 use question_solvers::Factoring;
-use road_text::RoadWrite;
 use std::sync::Wait;
 use std::thread::Threads;
+use text_lines::RoadWrite;
 use worker_fleet::Gate;
 
 /// Answers the question at a place: solves it, writes its answer and reports that it is answered.
@@ -30,17 +29,13 @@ fn answer_next<A: PathAlgebra, W: RoadWrite, R: Threads + Wait + Sync, T: Gate, 
 ) -> Result<(), Cause>
     requires place { i < length (asked_of batch.now.questions.now).questions }
     requires within { AreQuestionsOf (graph_of solver.old).vertices batch.now.questions.now }
-    requires ready { IsReady A.meaning batch.now.algebra batch.now.run.now.settings.now
-        (asked_of batch.now.questions.now) i solver.old }
+    requires ready { IsReadyAt A.meaning batch.now i solver.old }
     ensures same { IsSameSolver solver.old solver.new }
-    ensures ready { OnOk result (IsReady A.meaning batch.now.algebra batch.now.run.now.settings.now
-        (asked_of batch.now.questions.now) (i + 1) solver.new) }
+    ensures ready { OnOk result (IsReadyAt A.meaning batch.now (i + 1) solver.new) }
     ensures wrote { (default : Question) → WroteNext (A.meaning batch.now.algebra)
         (graph_of solver.old) (slice_index_or (asked_of batch.now.questions.now).questions i
         default) (W.seen out.old) (W.seen out.new) result }
-    ensures kind { IfErr result (MayStop (is_plain solver.old) (Stops A.meaning batch.now.algebra
-        (graph_of solver.old) batch.now.run.now.settings.now
-        (T.may_answer batch.now.run.now.gate.now))) }
+    ensures kind { IfErr result (MayStopBatch A.meaning T.may_answer batch.now solver.old) }
     ensures reported { OnOk result ((default : Question) → Reported (A.meaning batch.now.algebra)
         batch.now.run.now.settings.now (graph_of solver.old) O.may_become
         (question_due (is_plain solver.old) (i + 1)
@@ -55,17 +50,17 @@ fn answer_next<A: PathAlgebra, W: RoadWrite, R: Threads + Wait + Sync, T: Gate, 
     solve_next(batch, solver, i, watcher)?;
     answer_at(batch, solver, i, out)?;
     let questions = (i + 1) as u32;
-    watcher.report(Report::Answered { questions });
+    watcher.report(Progress::Answered { questions });
     Ok(())
 }
 
 /// Reports what became of factoring the graph, if factors are to answer.
 fn report_factoring<O: Watcher>(became: Option<Factoring>, watcher: &mut O)
-    ensures some { IfSome became (λ f. O.may_become watcher.old (Report.Factored f) watcher.new) }
+    ensures some { IfSome became (λ f. O.may_become watcher.old (Progress.Factored f) watcher.new) }
     ensures none { IfNone became (watcher.new ≡ watcher.old) }
 {
     if let Some(became) = became {
-        watcher.report(Report::Factored { became });
+        watcher.report(Progress::Factored { became });
     }
 }
 
@@ -78,19 +73,13 @@ pub fn answer_all<A: PathAlgebra, W: RoadWrite, R: Threads + Wait + Sync, T: Gat
 ) -> Result<(), Cause>
     requires within { AreQuestionsOf (graph_of solver.old).vertices batch.now.questions.now }
     ensures same { IsSameSolver solver.old solver.new }
-    ensures answered { AnsweredAll (A.meaning batch.now.algebra) (graph_of solver.old)
-        (asked_of batch.now.questions.now) (MayStop (is_plain solver.old) (Stops A.meaning
-        batch.now.algebra (graph_of solver.old) batch.now.run.now.settings.now
-        (T.may_answer batch.now.run.now.gate.now)))
-        (W.seen out.old) (W.seen out.new) result }
-    ensures all { OnOk result (ReportedWhole (A.meaning batch.now.algebra)
-        batch.now.run.now.settings.now (graph_of solver.old) (is_plain solver.old)
-        (MayTell solver.old) (asked_of batch.now.questions.now).questions O.may_become watcher.old
+    ensures answered { AnsweredAll (A.meaning batch.now.algebra) (graph_of solver.old) (asked_of
+        batch.now.questions.now) (MayStopBatch A.meaning T.may_answer batch.now solver.old) (W.seen
+        out.old) (W.seen out.new) result }
+    ensures all { OnOk result (ReportedBatch A.meaning batch.now solver.old O.may_become watcher.old
         watcher.new) }
-    ensures reported { ReportedWritten (A.meaning batch.now.algebra) batch.now.run.now.settings.now
-        (graph_of solver.old) (asked_of batch.now.questions.now) (is_plain solver.old)
-        (MayTell solver.old) O.may_become watcher.old watcher.new (W.seen out.old)
-        (W.seen out.new) }
+    ensures reported { ReportedOfBatch A.meaning batch.now solver.old O.may_become watcher.old
+        watcher.new (W.seen out.old) (W.seen out.new) }
 {
     let plain = solver.is_plain();
     begin(batch.algebra, batch.questions, plain, out, watcher)?;

@@ -1,16 +1,16 @@
 //! How a batch begins: its header is written, and what it has is reported.
 ghost use Rattle.std.specs.Prelude.{◌≡◌, ℕ, [], length, OnOk, OnErr};
-ghost use Rattle.road_text.specs.Written.{WritesText};
+ghost use Rattle.text_lines.specs.Written.{WritesText};
 ghost use Rattle.road_files.specs.Asked.{AreQuestionsOf, asked_of};
 ghost use Rattle.batch_run.specs.Answered.{begun_text};
 ghost use Rattle.batch_run.specs.Reports.{count_diffusions};
 
 use crate::solve::count_diffusions;
-use crate::watcher::{Report, Watcher};
+use crate::watcher::{Progress, Watcher};
 use answer_text::write_header;
 use path_algebra::PathAlgebra;
 use road_files::Questions;
-use road_text::{RoadWrite, WriteFault};
+use text_lines::{RoadWrite, WriteFault};
 
 /// Writes the header of the answers, and reports how many questions there are and how many diffusions answer them.
 pub(crate) fn begin<A: PathAlgebra, W: RoadWrite, O: Watcher>(
@@ -23,7 +23,7 @@ pub(crate) fn begin<A: PathAlgebra, W: RoadWrite, O: Watcher>(
     requires { (vertices : ℕ) × AreQuestionsOf vertices questions.now }
     ensures wrote { WritesText (W.seen out.old) (W.seen out.new)
         (begun_text (A.meaning algebra) (asked_of questions.now) []) result }
-    ensures reported { OnOk result (O.may_become watcher.old (Report.Begun
+    ensures reported { OnOk result (O.may_become watcher.old (Progress.Begun
         (length (asked_of questions.now).questions)
         (count_diffusions plain (asked_of questions.now).questions)) watcher.new) }
     ensures unreported { OnErr result (watcher.new ≡ watcher.old) }
@@ -31,7 +31,7 @@ pub(crate) fn begin<A: PathAlgebra, W: RoadWrite, O: Watcher>(
     let count = questions.len() as u32;
     write_header(out, questions.kind(), count, algebra.name())?;
     let diffusions = count_diffusions(questions, plain);
-    watcher.report(Report::Begun {
+    watcher.report(Progress::Begun {
         questions: count,
         diffusions,
     });

@@ -10,9 +10,9 @@ use crate::inputs::{BundleInput, PairInput};
 use crate::run::run_batch;
 use crate::watcher::Watcher;
 use path_algebra::PathAlgebra;
-use road_text::{RoadRead, RoadWrite};
 use std::sync::Wait;
 use std::thread::Threads;
+use text_lines::{RoadRead, RoadWrite};
 use worker_fleet::Gate;
 
 /// Answers the questions of one input over the graph of another, and writes the answers, as `run_batch` does.

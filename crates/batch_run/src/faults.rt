@@ -4,9 +4,9 @@ ghost use Rattle.batch_run.specs.Causes.{number_of};
 ghost use Rattle.batch_run.specs.FaultTexts.{fault_shown, file_text};
 
 use road_graph::Memory;
-use road_text::{MEMORY, ReadFault, WriteFault};
 use std::error::Error;
 use std::fmt;
+use text_lines::{MEMORY, ReadFault, WriteFault};
 use worker_fleet::GroupFault;
 
 /// The input that a fault speaks of.

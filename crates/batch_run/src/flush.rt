@@ -3,11 +3,9 @@ ghost use Rattle.std.specs.Prelude.{◌≡◌, ◌≢◌, ◌+◌, ◌≤◌, �
 ghost use Rattle.std.specs.Io.KnownBytes.{Keeps};
 ghost use Rattle.road_files.specs.Asked.{AreQuestionsOf, asked_of};
 ghost use Rattle.batch_run.specs.Answered.{WroteAllOrPrefix, WroteWhole};
-ghost use Rattle.batch_run.specs.Causes.{MayStop};
-ghost use Rattle.batch_run.specs.Reports.{ReportedWhole, ReportedWritten};
+ghost use Rattle.batch_run.specs.Batches.{MayStopBatch, ReportedBatch, ReportedOfBatch};
 ghost use Rattle.batch_run.specs.Ran.{IsPassedOn};
-ghost use Rattle.batch_run.specs.Stopping.{Stops};
-ghost use Rattle.batch_run.specs.Solvers.{MayTell, graph_of, is_plain};
+ghost use Rattle.batch_run.specs.Solvers.{graph_of};
 
 use crate::answering::answer_all;
 use crate::batch::Batch;
@@ -17,9 +15,9 @@ use crate::solve::Solver;
 use crate::watcher::Watcher;
 use answer_text::first_answers_begin_all;
 use path_algebra::PathAlgebra;
-use road_text::RoadWrite;
 use std::sync::Wait;
 use std::thread::Threads;
+use text_lines::RoadWrite;
 use worker_fleet::Gate;
 
 /// Passes on what was written, also after a fault that was no failed write: the first fault stays.
@@ -63,9 +61,7 @@ pub(crate) fn answer_and_flush<
         result }
     ensures passed_on { OnOk result ((W.seen out.new).held ≡ []) }
     ensures sound { OnOk result ((W.seen out.new).failures ≡ (W.seen out.old).failures) }
-    ensures kind { IfErr result (MayStop (is_plain solver.old) (Stops A.meaning batch.now.algebra
-        (graph_of solver.old) batch.now.run.now.settings.now
-        (T.may_answer batch.now.run.now.gate.now))) }
+    ensures kind { IfErr result (MayStopBatch A.meaning T.may_answer batch.now solver.old) }
     ensures failed { IfErr result (λ cause. cause ≡ Cause.Write → (W.seen out.old).failures <
         (W.seen out.new).failures) }
     ensures whole { IfErr result (λ cause. cause ≢ Cause.Write → WroteWhole
@@ -75,14 +71,10 @@ pub(crate) fn answer_and_flush<
         (W.seen out.old).failures + 1) }
     ensures flushed { IfErr result (λ cause. cause ≢ Cause.Write → IsPassedOn (W.seen out.new).held
         (W.seen out.old).failures (W.seen out.new).failures) }
-    ensures all { OnOk result (ReportedWhole (A.meaning batch.now.algebra)
-        batch.now.run.now.settings.now (graph_of solver.old) (is_plain solver.old)
-        (MayTell solver.old) (asked_of batch.now.questions.now).questions O.may_become watcher.old
+    ensures all { OnOk result (ReportedBatch A.meaning batch.now solver.old O.may_become watcher.old
         watcher.new) }
-    ensures reported { ReportedWritten (A.meaning batch.now.algebra) batch.now.run.now.settings.now
-        (graph_of solver.old) (asked_of batch.now.questions.now) (is_plain solver.old)
-        (MayTell solver.old) O.may_become watcher.old watcher.new (W.seen out.old)
-        (W.seen out.new) }
+    ensures reported { ReportedOfBatch A.meaning batch.now solver.old O.may_become watcher.old
+        watcher.new (W.seen out.old) (W.seen out.new) }
 {
     answers_exist(batch.algebra);
     first_answers_begin_all(batch.algebra);

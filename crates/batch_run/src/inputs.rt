@@ -10,8 +10,8 @@ ghost use Rattle.batch_run.specs.declared.faults.RunFault.{RunFault};
 use crate::faults::{File, RunFault, fault_in};
 use graph_text::{FromArcs, read_gr_as};
 use road_files::{Questions, read_bundle_as, read_questions};
-use road_text::RoadRead;
 use std::alloc::Global;
+use text_lines::RoadRead;
 
 /// What the graph and the questions of a batch are read from.
 pub trait BatchInput {

@@ -25,5 +25,5 @@ pub use question_solvers::{FactorSolver, Factoring, PlainSolver, Refusal, Solved
 pub use run::run_batch;
 pub use settings::{Settings, SolverKind};
 pub use solve::{Solver, WorkerSolver};
-pub use watcher::{Report, Unwatched, Watcher};
+pub use watcher::{Progress, Unwatched, Watcher};
 pub use worker_fleet::{Driven, Gate, OpenGate, Outcome, drive};

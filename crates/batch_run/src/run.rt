@@ -5,7 +5,8 @@ ghost use Rattle.batch_run.specs.Reports.{Watched};
 ghost use Rattle.batch_run.specs.Runs.{Ran};
 ghost use Rattle.batch_run.specs.Stopping.{Stopped};
 ghost use Rattle.batch_run.specs.Ran.{IsRoadNumber};
-ghost use Rattle.batch_run.specs.Solvers.{graph_of, is_by_factors, is_plain};
+ghost use Rattle.batch_run.specs.Factored.{is_by_factors};
+ghost use Rattle.batch_run.specs.Solvers.{graph_of, is_plain};
 ghost use Rattle.batch_run.specs.Choice.{without_diffusions};
 
 use crate::batch::{Batch, Run};
@@ -19,9 +20,9 @@ use path_algebra::PathAlgebra;
 use question_solvers::{FactorSolver, PlainSolver};
 use road_files::Questions;
 use road_graph::{Graph, OutGraph};
-use road_text::RoadWrite;
 use std::sync::Wait;
 use std::thread::Threads;
+use text_lines::RoadWrite;
 use worker_fleet::Gate;
 
 /// Reads the graph and the questions of a batch, and makes the solver that the settings choose.

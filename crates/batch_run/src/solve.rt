@@ -2,10 +2,11 @@
 ghost use Rattle.std.specs.Prelude.{◌≡◌, ◌+◌, ◌<◌, true, length, slice_index_or, IfErr, OnOk, IfSome, IsSome, Some};
 ghost use Rattle.road_graph.specs.GraphData.{IsGraph};
 ghost use Rattle.road_files.specs.Asked.{AreQuestionsOf, Question, asked_of};
-ghost use Rattle.batch_run.specs.Stopping.{Stops};
+ghost use Rattle.batch_run.specs.Batches.{IsReadyAt, StopsBatch};
 ghost use Rattle.batch_run.specs.Reports.{ReportedAllOrPrefix, accounts_due};
 ghost use Rattle.question_solvers.specs.Solved.{IsSolvedFor};
-ghost use Rattle.batch_run.specs.Solvers.{IsFactoringOf, IsReady, IsSameSolver, graph_of, is_by_factors, is_plain, last_of};
+ghost use Rattle.batch_run.specs.Factored.{IsFactoringOf, is_by_factors};
+ghost use Rattle.batch_run.specs.Solvers.{IsSameSolver, graph_of, is_plain, last_of};
 
 mod diffusion;
 mod group;
@@ -102,8 +103,7 @@ pub(crate) fn start<A: PathAlgebra, R, T>(
 ) -> Result<(), Memory>
     ensures same { IsSameSolver solver.old solver.new }
     ensures kind { is_by_factors solver.new ≡ is_by_factors solver.old }
-    ensures ready { OnOk result (IsReady A.meaning batch.now.algebra batch.now.run.now.settings.now
-        (asked_of batch.now.questions.now) 0 solver.new) }
+    ensures ready { OnOk result (IsReadyAt A.meaning batch.now 0 solver.new) }
 {
     match solver {
         Solver::Plain(solver) => start_plain(&batch.task(), solver),
@@ -121,17 +121,15 @@ pub(crate) fn solve_next<A: PathAlgebra, R: Threads + Wait + Sync, T: Gate, O: W
 ) -> Result<(), GroupFault>
     requires place { i < length (asked_of batch.now.questions.now).questions }
     requires within { AreQuestionsOf (graph_of solver.old).vertices batch.now.questions.now }
-    requires ready { IsReady A.meaning batch.now.algebra batch.now.run.now.settings.now (asked_of
-        batch.now.questions.now) i solver.old }
+    requires ready { IsReadyAt A.meaning batch.now i solver.old }
     ensures same { IsSameSolver solver.old solver.new }
-    ensures ready { OnOk result (IsReady A.meaning batch.now.algebra batch.now.run.now.settings.now
-        (asked_of batch.now.questions.now) (i + 1) solver.new) }
+    ensures ready { OnOk result (IsReadyAt A.meaning batch.now (i + 1) solver.new) }
     ensures some { OnOk result (IsSome (last_of solver.new)) }
     ensures solved { OnOk result (IfSome (last_of solver.new) (IsSolvedFor
         (A.meaning batch.now.algebra) (graph_of solver.old) (asked_of batch.now.questions.now) i)) }
     ensures plain { is_plain solver.old ≡ true → IfErr result (λ f. f ≡ GroupFault.Memory) }
-    ensures stops { IfErr result (Stops A.meaning batch.now.algebra (graph_of solver.old)
-        batch.now.run.now.settings.now (T.may_answer batch.now.run.now.gate.now)) }
+    ensures stops { IfErr result (StopsBatch A.meaning T.may_answer batch.now (graph_of
+        solver.old)) }
     ensures reported { (default : Question) → ReportedAllOrPrefix (A.meaning batch.now.algebra)
         batch.now.run.now.settings.now (graph_of solver.old) O.may_become (accounts_due (is_plain
         solver.old) (i + 1) (slice_index_or (asked_of batch.now.questions.now).questions i default))

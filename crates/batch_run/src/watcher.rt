@@ -1,5 +1,5 @@
 //! What a batch reports while it runs, and to whom.
-ghost use Rattle.batch_run.specs.declared.watcher.Report.{Report};
+ghost use Rattle.batch_run.specs.declared.watcher.Progress.{Progress};
 
 use question_solvers::Factoring;
 use road_graph::Vertex;
@@ -7,7 +7,7 @@ use shard_part::Tally;
 
 /// What a batch reports while it runs.
 #[derive(Clone, Copy, Debug, PartialEq, Eq)]
-pub enum Report {
+pub enum Progress {
     /// The questions were read: so many, over so many diffusions (none with `plain`).
     Begun {
         questions: u32,
@@ -32,10 +32,10 @@ pub enum Report {
 /// Takes the reports of a batch as it goes; it can't stop it.
 pub trait Watcher {
     // Given this report in the one state, it may be in the other afterwards.
-    ghost may_become: { Self → Report → Self → Type 0 };
+    ghost may_become: { Self → Progress → Self → Type 0 };
 
     /// Takes note of a report.
-    fn report(&mut self, report: Report)
+    fn report(&mut self, report: Progress)
         ensures { may_become self.old report self.new };
 }
 
@@ -46,5 +46,5 @@ pub struct Unwatched;
 impl Watcher for Unwatched {
     ghost may_become = { λ _ _ _. Unit {0} };
 
-    fn report(&mut self, _report: Report) {}
+    fn report(&mut self, _report: Progress) {}
 }

@@ -16,11 +16,11 @@ use batch_run::{
 use path_algebra::{Hops, PathAlgebra, Reach, Reliable, Shortest, Widest, Within};
 use road_files::Questions;
 use road_graph::Graph;
-use road_text::Plain;
 use std::alloc::Global;
 use std::process::Abort;
 use std::sync::Wait;
 use std::thread::Threads;
+use text_lines::Plain;
 
 /// Five vertices, of which the last is reached from nowhere.
 const FIVE: &str = "p sp 5 7\na 1 2 4\na 1 3 1\na 3 2 2\na 2 4 5\na 3 4 8\na 4 4 0\na 5 1 3\n";

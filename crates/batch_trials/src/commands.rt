@@ -7,12 +7,12 @@ use program::{
     FileSystem, Host, Refusal, RunOptions, Subcommand, WatchOptions, choose, parse_args,
     run_command_line,
 };
-use road_text::{Buffered, Plain, ReadFailed, WriteFault};
 use std::alloc::{AllocError, Global};
 use std::io;
 use std::process::Abort;
 use std::sync::Wait;
 use std::thread::Threads;
+use text_lines::{Buffered, Plain, ReadFailed, WriteFault};
 
 /// The words of a command line.
 fn words_of(rt: &(impl Abort + AllocGlobal), line: &str) -> Vec<String> {

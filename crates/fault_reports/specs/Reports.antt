@@ -1,7 +1,7 @@
 -- How a command ends: what it shows, the line that reports a fault, and the exit status.
 use Rattle.std.specs.Prelude.{◌≡◌, ℕ, ◌⊎◌, ◌<◌, List, [], ◌∷◌, ◌++◌, Result, Ok, Err, codes, decimal, nat_eq, if◌then◌else◌, ◌||◌}
 use Rattle.std.specs.Io.KnownBytes.{Appends}
-use Rattle.road_text.specs.Written.{WrotePrefix, FailedAfterPrefix}
+use Rattle.text_lines.specs.Written.{WrotePrefix, FailedAfterPrefix}
 use Rattle.batch_run.specs.declared.faults.File.TheVariants.{NoFile}
 use Rattle.batch_run.specs.declared.faults.RunFault.{RunFault}
 use Rattle.batch_run.specs.FaultTexts.{file_text, line_text}
@@ -45,11 +45,11 @@ Reaches text out out_after (Ok _) = Appends out.written out_after.written text �
 Reaches text out out_after (Err f) = (f ≡ run_fault 42) × (out.failures < out_after.failures)
 
 -- what is wrong was said on the error output, and the status is that of wrong usage
-abbrev pub Complains : {E : Type 0} → List ℕ → Output E → Output E → ℕ → Type 0
-Complains text errors errors_after result = (result ≡ 2) × IsReported text errors errors_after
+abbrev pub ReportsUsage : {E : Type 0} → List ℕ → Output E → Output E → ℕ → Type 0
+ReportsUsage text errors errors_after result = (result ≡ 2) × IsReported text errors errors_after
 
 -- some text was said on the error output alone, with status 2
 pub record IsUsage {W E : Type 0} (out out_after : Output W) (errors errors_after : Output E) (result : ℕ) : Type 0 where
   pub text : List ℕ
   pub unwritten : out_after ≡ out
-  pub complains : Complains text errors errors_after result
+  pub reports : ReportsUsage text errors errors_after result

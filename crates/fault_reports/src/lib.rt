@@ -5,6 +5,6 @@ mod reports;
 mod rows;
 mod table;
 
-pub use reports::{USAGE, complain, end_with, report, show};
+pub use reports::{USAGE, end_with, report_fault, report_usage, write_and_flush};
 pub use rows::{FaultRow, explain};
 pub use table::all_faults;

@@ -1,9 +1,9 @@
 //! How a command ends: what it shows, the line of a fault, and the exit status.
 ghost use Rattle.std.specs.Prelude.{◌≡◌};
-ghost use Rattle.fault_reports.specs.Reports.{Complains, EndsAs, Reaches, ReportsFault, fault_text, status_of};
+ghost use Rattle.fault_reports.specs.Reports.{EndsAs, Reaches, ReportsFault, ReportsUsage, fault_text, status_of};
 
 use batch_run::{RunFault, WRITE, fault_of_run};
-use road_text::{Line, RoadWrite, push_number, write_bytes};
+use text_lines::{Line, RoadWrite, push_number, write_bytes};
 
 /// The exit status of wrong usage.
 pub const USAGE: u8 = 2;
@@ -38,7 +38,7 @@ fn status_of(number: u8) -> u8
 }
 
 /// Writes the line of a fault, and gives the exit status, which is the same if the line cannot be written.
-pub fn report<E: RoadWrite>(errors: &mut E, fault: RunFault) -> u8
+pub fn report_fault<E: RoadWrite>(errors: &mut E, fault: RunFault) -> u8
     ensures { ReportsFault fault (E.seen errors.old) (E.seen errors.new) result }
 {
     let _ = write_bytes(errors, line_of_fault(fault).as_str().as_bytes());
@@ -51,12 +51,12 @@ pub fn end_with<E: RoadWrite>(errors: &mut E, outcome: Result<(), RunFault>) -> 
 {
     match outcome {
         Ok(()) => 0,
-        Err(fault) => report(errors, fault),
+        Err(fault) => report_fault(errors, fault),
     }
 }
 
 /// Writes a text on the output, and flushes it.
-pub fn show<W: RoadWrite>(out: &mut W, text: &[u8]) -> Result<(), RunFault>
+pub fn write_and_flush<W: RoadWrite>(out: &mut W, text: &[u8]) -> Result<(), RunFault>
     ensures { Reaches text.now (W.seen out.old) (W.seen out.new) result }
 {
     match write_bytes(out, text) {
@@ -69,8 +69,8 @@ pub fn show<W: RoadWrite>(out: &mut W, text: &[u8]) -> Result<(), RunFault>
 }
 
 /// Says on the error output what is wrong with a command line, and gives the exit status.
-pub fn complain<E: RoadWrite>(errors: &mut E, text: &[u8]) -> u8
-    ensures { Complains text.now (E.seen errors.old) (E.seen errors.new) result }
+pub fn report_usage<E: RoadWrite>(errors: &mut E, text: &[u8]) -> u8
+    ensures { ReportsUsage text.now (E.seen errors.old) (E.seen errors.new) result }
 {
     let _ = write_bytes(errors, text);
     USAGE

@@ -2,11 +2,11 @@
 ghost use Rattle.std.specs.Prelude.{◌≡◌, Some, Any, IfOk, IfSome, IfNone, flat_map, string_bytes};
 ghost use Rattle.fault_reports.specs.Explained.{AreAskedFor, Explains, HasNoRow, IsRowOf, row_text};
 
-use crate::reports::{complain, end_with, report, show};
+use crate::reports::{end_with, report_fault, report_usage, write_and_flush};
 use batch_run::fault_of_run;
-use road_text::{MEMORY, RoadWrite};
 use std::alloc::{AllocError, Global};
 use std::fmt;
+use text_lines::{MEMORY, RoadWrite};
 
 /// What is said of a number that is no fault's.
 const NO_SUCH_FAULT: &[u8] = b"error: no fault has this number; `diffuse faults` lists them\n";
@@ -100,12 +100,12 @@ pub fn explain<W: RoadWrite, E: RoadWrite>(
 {
     let rows = match rows_for(alloc, table, numbers) {
         Ok(Some(rows)) => rows,
-        Ok(None) => return complain(errors, NO_SUCH_FAULT),
-        Err(_) => return report(errors, fault_of_run(MEMORY)),
+        Ok(None) => return report_usage(errors, NO_SUCH_FAULT),
+        Err(_) => return report_fault(errors, fault_of_run(MEMORY)),
     };
     let Ok(text) = text_of_rows(alloc, rows.as_slice()) else {
-        return report(errors, fault_of_run(MEMORY));
+        return report_fault(errors, fault_of_run(MEMORY));
     };
-    let outcome = show(out, text.as_str().as_bytes());
+    let outcome = write_and_flush(out, text.as_str().as_bytes());
     end_with(errors, outcome)
 }

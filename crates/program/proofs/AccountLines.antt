@@ -2,10 +2,10 @@
 use Rattle.std.specs.Prelude.{if◌then◌else◌}
 use Rattle.std.proofs.Common.{◌≡◌, ℕ, List, [], ◌∷◌, ◌++◌, true, false, Option, Result, ap, subst, ◌∙◌, decimal, codes, arith}
 use Rattle.std.proofs.lemmas.Grind.{common_steps}
-use Rattle.road_text.specs.Texts.{spelled}
-use Rattle.road_text.specs.Streams.{Output}
-use Rattle.road_text.specs.Written.{WrotePrefix, FailedAfterPrefix, WritesText}
-use Rattle.road_text.proofs.WriteLaws.{wrote_then, fell_first}
+use Rattle.text_lines.specs.Texts.{spelled}
+use Rattle.text_lines.specs.Streams.{Output}
+use Rattle.text_lines.specs.Written.{WrotePrefix, FailedAfterPrefix, WritesText}
+use Rattle.text_lines.proofs.WriteLaws.{wrote_then, fell_first}
 use Rattle.shard_store.specs.declared.tally.Tally.{Tally}
 use Rattle.program.specs.Accounts.{account_text, counts_text, full_words, owner_text}
 

@@ -2,7 +2,7 @@
 use Rattle.std.specs.Prelude.{◌≡◌, ◌≢◌, ℕ, List, [], ◌∷◌, ◌++◌, Bool, true, false, Option, Result, Ok, Err, OnOk}
 use Rattle.std.proofs.Common.{inl, inr, refl, sym, subst, ◌∙◌}
 use Rattle.std.proofs.lemmas.Bool.Decides.{eqb_tells}
-use Rattle.road_text.specs.Streams.{Output}
+use Rattle.text_lines.specs.Streams.{Output}
 use Rattle.road_graph.specs.GraphData.{GraphData}
 use Rattle.road_files.specs.Asked.{Asked}
 use Rattle.path_algebra.specs.Algebra.{Algebra}
@@ -10,23 +10,23 @@ use Rattle.batch_run.specs.declared.faults.File.{File}
 use Rattle.batch_run.specs.declared.faults.File.TheVariants.{Graph, Questions, Bundle, Answers, NoFile}
 use Rattle.batch_run.specs.declared.faults.RunFault.{RunFault}
 use Rattle.batch_run.specs.declared.settings.Settings.{Settings}
-use Rattle.batch_run.specs.declared.watcher.Report.{Report}
+use Rattle.batch_run.specs.declared.watcher.Progress.{Progress}
 use Rattle.batch_run.specs.Choice.{without_diffusions}
 use Rattle.batch_run.specs.Reports.{FollowsReports, ReportedFirst, Watched}
 use Rattle.path_algebra.specs.declared.choice.AlgebraChoice.{AlgebraChoice}
 use Rattle.path_algebra.specs.Choices.{Under}
 use Rattle.path_algebra.proofs.Chosen.{under_some}
-use Rattle.program.specs.declared.watch.watcher.Watch.{Watch}
+use Rattle.program.specs.declared.watch.watcher.CommandWatcher.{CommandWatcher}
 use Rattle.program.specs.Accounts.{accounts_text}
 use Rattle.program.specs.Progress.{all_after, progress_text, shown_at}
 use Rattle.program.specs.Watching.{AreReportsOf, HasAccounts, IsAddedIf, Notes}
 use Rattle.program.proofs.Adding.{added_none, added_then, has_none, has_then}
 
 -- some reports were made to a watcher
-abbrev pub WasTold : {S : Type 0} → (S → Report → S → Type 0) → S → S → Type 0
-WasTold may_become old new = (reports : List Report) × FollowsReports may_become old reports new
+abbrev pub WasTold : {S : Type 0} → (S → Progress → S → Type 0) → S → S → Type 0
+WasTold may_become old new = (reports : List Progress) × FollowsReports may_become old reports new
 
-module _ {V S W : Type 0} (A : Algebra V) (how : Settings) (plain : Bool) (IsRead : GraphData → Asked → Type 0) (may_become : S → Report → S → Type 0) (old new : S) (out out_after : Output W) where
+module _ {V S W : Type 0} (A : Algebra V) (how : Settings) (plain : Bool) (IsRead : GraphData → Asked → Type 0) (may_become : S → Progress → S → Type 0) (old new : S) (out out_after : Output W) where
   none_told : new ≡ old → WasTold may_become old new
   none_told e = ([], e)
 
@@ -45,7 +45,7 @@ module _ {V S W : Type 0} (A : Algebra V) (how : Settings) (plain : Bool) (IsRea
   fault_told Answers number first nothing untouched = none_told (nothing (λ e. cc))
 
 -- a batch makes some reports to its watcher, which on success are its own
-pub watched_told : {V S W : Type 0} (A : Algebra V) (how : Settings) (IsRead : GraphData → Asked → Type 0) (may_become : S → Report → S → Type 0) (old new : S) (out out_after : Output W) (outcome : Result (Unit {0}) RunFault) →
+pub watched_told : {V S W : Type 0} (A : Algebra V) (how : Settings) (IsRead : GraphData → Asked → Type 0) (may_become : S → Progress → S → Type 0) (old new : S) (out out_after : Output W) (outcome : Result (Unit {0}) RunFault) →
     Watched A how IsRead may_become old new out out_after outcome → (told : WasTold may_become old new) × OnOk outcome (AreReportsOf A how (without_diffusions how) IsRead told.0)
 watched_told A how IsRead may_become old new out out_after (Ok u) w =
     let made = w.all.reported in (
@@ -55,7 +55,7 @@ watched_told A how IsRead may_become old new out out_after (Ok u) w =
 watched_told A how IsRead may_become old new out out_after (Err f) w = (fault_told A how (without_diffusions how) IsRead may_become old new out out_after f.file f.number w.first w.nothing w.untouched, tt)
 
 -- the same under the algebra that was chosen
-pub under_told : {S W : Type 0} (c : AlgebraChoice) (how : Settings) (IsRead : GraphData → Asked → Type 0) (may_become : S → Report → S → Type 0) (old new : S) (out out_after : Output W) (outcome : Result (Unit {0}) RunFault) →
+pub under_told : {S W : Type 0} (c : AlgebraChoice) (how : Settings) (IsRead : GraphData → Asked → Type 0) (may_become : S → Progress → S → Type 0) (old new : S) (out out_after : Output W) (outcome : Result (Unit {0}) RunFault) →
     Under c (λ V A. Watched A how IsRead may_become old new out out_after outcome) →
     (told : WasTold may_become old new) × Under c (λ V A. OnOk outcome (AreReportsOf A how (without_diffusions how) IsRead told.0))
 under_told c how IsRead may_become old new out out_after outcome w =
@@ -63,8 +63,8 @@ under_told c how IsRead may_become old new out out_after outcome w =
     (λ V A it. watched_told A how IsRead may_become old new out out_after outcome it) w
 
 -- what a watcher of a command leaves to which all these reports were made
-pub record Noted {A E M : Type 0} (seen : A → Output A) (shown : E → Output E) (old : Watch A E M)
-    (reports : List Report) (new : Watch A E M) : Type 0 where
+pub record Noted {A E M : Type 0} (seen : A → Output A) (shown : E → Output E) (old : CommandWatcher A E M)
+    (reports : List Progress) (new : CommandWatcher A E M) : Type 0 where
   pub same : (new.accounts.ghost_name ≡ old.accounts.ghost_name) × (new.errors.ghost_name ≡ old.errors.ghost_name)
   pub accounts : HasAccounts seen old.accounts.now new.accounts.now old.lost new.lost (accounts_text old.name reports)
   pub errors : IsAddedIf shown old.progress old.errors.now new.errors.now (progress_text old.all reports)
@@ -80,14 +80,14 @@ module _ {E : Type 0} (shown : E → Output E) where
   shown_then false old mid new x y p q = q ∙ p
 
 module _ {A E M : Type 0} (seen : A → Output A) (shown : E → Output E) where
-  noted_none : (old new : Watch A E M) → new ≡ old → Noted seen shown old [] new
+  noted_none : (old new : CommandWatcher A E M) → new ≡ old → Noted seen shown old [] new
   noted_none old new e = subst (Noted seen shown old []) (sym e) (record {
     same = (refl, refl);
     accounts = has_none seen old.accounts.now old.lost;
     errors = shown_none shown old.progress old.errors.now;
   })
 
-  errors_then : (old next new : Watch A E M) (r : Report) (rs : List Report) → Notes seen shown old r next → Noted seen shown next rs new →
+  errors_then : (old next new : CommandWatcher A E M) (r : Progress) (rs : List Progress) → Notes seen shown old r next → Noted seen shown next rs new →
       IsAddedIf shown old.progress old.errors.now new.errors.now (progress_text old.all (r ∷ rs))
   errors_then old next new r rs first more =
       shown_then shown old.progress old.errors.now next.errors.now new.errors.now (shown_at old.all r) (progress_text (all_after old.all r) rs) first.errors
@@ -95,7 +95,7 @@ module _ {A E M : Type 0} (seen : A → Output A) (shown : E → Output E) where
       (subst (λ n. IsAddedIf shown next.progress next.errors.now new.errors.now (progress_text n rs)) first.all more.errors))
 
   -- a watcher has noted all reports that were made to it
-  pub noted_all : (rs : List Report) (old new : Watch A E M) → FollowsReports (Notes seen shown) old rs new → Noted seen shown old rs new
+  pub noted_all : (rs : List Progress) (old new : CommandWatcher A E M) → FollowsReports (Notes seen shown) old rs new → Noted seen shown old rs new
   noted_all [] old new e = noted_none old new e
   noted_all (r ∷ rs) old new (next, first, rest) =
       let more = noted_all rs next new rest in record {

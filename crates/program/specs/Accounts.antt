@@ -2,10 +2,10 @@
 use Rattle.std.specs.Prelude.{ℕ, List, [], ◌∷◌, ◌++◌, Bool, codes, decimal, flat_map, if◌then◌else◌}
 use Rattle.path_algebra.specs.Names.{name_text}
 use Rattle.path_algebra.specs.declared.name.AlgebraName.{AlgebraName}
-use Rattle.road_text.specs.Texts.{spelled}
+use Rattle.text_lines.specs.Texts.{spelled}
 use Rattle.shard_store.specs.declared.tally.Tally.{Tally}
-use Rattle.batch_run.specs.declared.watcher.Report.{Report}
-use Rattle.batch_run.specs.declared.watcher.Report.TheVariants.{Begun, Factored, Gathered, Answered}
+use Rattle.batch_run.specs.declared.watcher.Progress.{Progress}
+use Rattle.batch_run.specs.declared.watcher.Progress.TheVariants.{Begun, Factored, Gathered, Answered}
 
 -- the header before the accounts of so many diffusions
 abbrev pub heading_text : ℕ → AlgebraName → List ℕ
@@ -28,12 +28,12 @@ abbrev pub counts_text : Tally → List ℕ
 counts_text t = (32 ∷ decimal t.sent) ++ (32 ∷ decimal t.delivered) ++ (32 ∷ decimal t.signalled) ++ (32 ∷ decimal t.accepted) ++ (if t.full then codes " full" else []) ++ 10 ∷ []
 
 -- what a report adds to the accounts of a batch under an algebra of this name: its beginning the header, a diffusion that was gathered its line
-abbrev pub account_of : AlgebraName → Report → List ℕ
+abbrev pub account_of : AlgebraName → Progress → List ℕ
 account_of name (Begun questions diffusions) = heading_text diffusions name
 account_of name (Factored became) = []
 account_of name (Gathered question source tally) = account_text question source tally
 account_of name (Answered questions) = []
 
 -- the accounts of all that was reported
-abbrev pub accounts_text : AlgebraName → List Report → List ℕ
+abbrev pub accounts_text : AlgebraName → List Progress → List ℕ
 accounts_text name reports = flat_map (account_of name) reports

@@ -1,6 +1,6 @@
 -- Inputs that were opened: which of them a name leads to.
 use Rattle.std.specs.Prelude.{◌≡◌, ◌≢◌, ℕ, ◌≤◌, List, codes, count_by, bytes_eq}
-use Rattle.road_text.specs.Streams.{Input}
+use Rattle.text_lines.specs.Streams.{Input}
 use Rattle.program.specs.declared.opened_input.OpenedInput.{OpenedInput}
 use Rattle.program.specs.declared.opened_input.OpenedInput.TheVariants as opened
 

@@ -1,5 +1,5 @@
 -- What a command works with, at a moment.
-use Rattle.road_text.specs.Streams.{Output}
+use Rattle.text_lines.specs.Streams.{Output}
 use Rattle.program.specs.declared.host.Host.{Host}
 
 -- its files, its output and its error output

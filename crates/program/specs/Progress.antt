@@ -3,8 +3,8 @@ use Rattle.std.specs.Prelude.{ℕ, ◌-◌, ◌*◌, ◌/◌, List, [], ◌∷�
 use Rattle.question_solvers.specs.declared.factor_solver.Factoring.{Factoring}
 use Rattle.question_solvers.specs.declared.factor_solver.Factoring.TheVariants.{Untried, Made, Refused}
 use Rattle.question_solvers.specs.declared.factor_solver.Refusal.TheVariants.{Dense, Heavy}
-use Rattle.batch_run.specs.declared.watcher.Report.{Report}
-use Rattle.batch_run.specs.declared.watcher.Report.TheVariants.{Begun, Factored, Gathered, Answered}
+use Rattle.batch_run.specs.declared.watcher.Progress.{Progress}
+use Rattle.batch_run.specs.declared.watcher.Progress.TheVariants.{Begun, Factored, Gathered, Answered}
 
 -- how many whole hundredths of all questions so many are
 abbrev pub hundredths : ℕ → ℕ → ℕ
@@ -30,20 +30,20 @@ line_of_factoring (Refused Dense) = codes "diffuse: the graph is too dense to fa
 line_of_factoring (Refused Heavy) = codes "diffuse: the graph's sums are too large to factor; searches answer" ++ 10 ∷ []
 
 -- how many questions there are, after a report
-abbrev pub all_after : ℕ → Report → ℕ
+abbrev pub all_after : ℕ → Progress → ℕ
 all_after all (Begun questions diffusions) = questions
 all_after all (Factored became) = all
 all_after all (Gathered question source tally) = all
 all_after all (Answered questions) = all
 
 -- what is shown at a report of a batch with so many questions
-abbrev pub shown_at : ℕ → Report → List ℕ
+abbrev pub shown_at : ℕ → Progress → List ℕ
 shown_at all (Begun questions diffusions) = due_line 0 questions
 shown_at all (Factored became) = line_of_factoring became
 shown_at all (Gathered question source tally) = []
 shown_at all (Answered questions) = due_line questions all
 
 -- what is shown of all that is reported
-abbrev pub progress_text : ℕ → List Report → List ℕ
+abbrev pub progress_text : ℕ → List Progress → List ℕ
 progress_text all [] = []
 progress_text all (r ∷ rs) = shown_at all r ++ progress_text (all_after all r) rs

@@ -1,9 +1,9 @@
 -- What a verdict on answers promises of the three inputs, and how it is written.
 use Rattle.std.specs.Prelude.{◌≡◌, ◌≢◌, ℕ, ◌⊎◌, List, [], ◌∷◌, Option, None, Err, IfSome, codes, decimal}
 use Rattle.road_graph.specs.GraphData.{GraphData}
-use Rattle.road_text.specs.Reads.{IsNumberFrom}
-use Rattle.road_text.specs.Rules.{text_read}
-use Rattle.road_text.specs.Texts.{spelled}
+use Rattle.text_lines.specs.Reads.{IsNumberFrom}
+use Rattle.text_lines.specs.Rules.{text_read}
+use Rattle.text_lines.specs.Texts.{spelled}
 use Rattle.road_files.specs.Asked.{Asked}
 use Rattle.graph_text.specs.GraphFiles.{gr_rules}
 use Rattle.road_files.specs.QuestionFiles.{question_rules}

@@ -8,14 +8,14 @@ use Rattle.path_algebra.specs.Algebra.{Algebra}
 use Rattle.batch_run.specs.declared.faults.File.{File}
 use Rattle.batch_run.specs.declared.faults.RunFault.{RunFault}
 use Rattle.batch_run.specs.declared.settings.Settings.{Settings}
-use Rattle.batch_run.specs.declared.watcher.Report.{Report}
+use Rattle.batch_run.specs.declared.watcher.Progress.{Progress}
 use Rattle.batch_run.specs.Choice.{without_diffusions}
 use Rattle.batch_run.specs.Reports.{IsReportOf, IsTold, batch_due}
 use Rattle.question_solvers.specs.declared.factor_solver.Factoring.{Factoring}
-use Rattle.road_text.specs.Streams.{Output}
+use Rattle.text_lines.specs.Streams.{Output}
 use Rattle.path_algebra.specs.declared.choice.AlgebraChoice.{AlgebraChoice}
 use Rattle.path_algebra.specs.Choices.{Under, name_of}
-use Rattle.program.specs.declared.watch.watcher.Watch.{Watch}
+use Rattle.program.specs.declared.watch.watcher.CommandWatcher.{CommandWatcher}
 use Rattle.program.specs.Accounts.{account_of, accounts_text}
 use Rattle.program.specs.Progress.{all_after, progress_text, shown_at}
 use Rattle.fault_reports.specs.Reports.{EndsAs, Reaches, run_fault}
@@ -49,7 +49,7 @@ pub record HasAccounts {A : Type 0} (seen : A → Output A) (old new : Option A)
   pub stays : lost ≡ true → (lost_after ≡ true) × (new ≡ old)
 
 -- what the watcher of a command does at a report
-pub record Notes {A E M : Type 0} (seen : A → Output A) (shown : E → Output E) (old : Watch A E M) (report : Report) (new : Watch A E M) : Type 0 where
+pub record Notes {A E M : Type 0} (seen : A → Output A) (shown : E → Output E) (old : CommandWatcher A E M) (report : Progress) (new : CommandWatcher A E M) : Type 0 where
   -- it goes on to write to the same files
   pub same : (new.accounts.ghost_name ≡ old.accounts.ghost_name) × (new.errors.ghost_name ≡ old.errors.ghost_name)
   -- under the same name, and shows progress as before
@@ -63,7 +63,7 @@ pub record Notes {A E M : Type 0} (seen : A → Output A) (shown : E → Output 
   pub errors : IsAddedIf shown old.progress old.errors.now new.errors.now (shown_at old.all report)
 
 -- these are the reports of a batch over what was read: of factoring, if it is to answer; of each question in order, and each account is of a diffusion that has ended
-pub record AreReportsOf {V : Type 0} (A : Algebra V) (how : Settings) (plain : Bool) (IsRead : GraphData → Asked → Type 0) (reports : List Report) : Type 0 where
+pub record AreReportsOf {V : Type 0} (A : Algebra V) (how : Settings) (plain : Bool) (IsRead : GraphData → Asked → Type 0) (reports : List Progress) : Type 0 where
   pub graph : GraphData
   pub asked : Asked
   pub read : IsRead graph asked
@@ -95,7 +95,7 @@ pub record EndsWatched {W A E : Type 0} (chosen : AlgebraChoice) (settings : Set
     (HasRead : Result (Unit {0}) RunFault → Type 0) (out out_after : Output W) (accounts accounts_after : Option (Output A)) (errors errors_after : Output E) (result : ℕ) : Type 0 where
   pub outcome : Result (Unit {0}) RunFault
   pub ran : RanUnder chosen settings IsRead inputs HasRead out out_after outcome
-  pub reports : List Report
+  pub reports : List Progress
   pub reported : Under chosen (λ V A. OnOk outcome (AreReportsOf A settings (without_diffusions settings) IsRead reports))
   pub kept : Result (Unit {0}) RunFault
   pub accounted : Account (accounts_text (name_of chosen) reports) accounts accounts_after kept

@@ -14,16 +14,16 @@ use crate::files::FileSystem;
 use crate::host::Host;
 use crate::task::{MeasuredTask, Task, Watching};
 use crate::times::{FilePhases, Phases, Unmeasured};
-use crate::watch::Watch;
+use crate::watch::CommandWatcher;
 use batch_run::{
     BatchInput, OpenGate, PairInput, Run, RunFault, WRITE, Watcher, fault_of_run, run_batch,
 };
 use fault_reports::end_with;
 use path_algebra::with_algebra;
-use road_text::{RoadRead, RoadWrite};
 use service::run_service;
 use std::sync::Wait;
 use std::thread::Threads;
+use text_lines::{RoadRead, RoadWrite};
 
 /// Answers the questions of an input over its graph, under the chosen algebra, before a watcher.
 fn run_chosen<R: Threads + Wait + Sync, I: BatchInput, W: RoadWrite, O: Watcher>(
@@ -121,7 +121,7 @@ pub(crate) fn answer_in_phases<
         (option_map A.seen watching.new.accounts) (E.seen errors.old) (E.seen errors.new) result }
 {
     let task = measured.task;
-    let mut watch = Watch {
+    let mut watch = CommandWatcher {
         name: task.chosen.name(),
         accounts: &mut watching.accounts,
         lost: false,

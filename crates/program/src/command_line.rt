@@ -14,8 +14,7 @@ use batch_run::fault_of_run;
 use clap::Error;
 use clap::error::ErrorKind;
 use command_args::{Subcommand, parse_args};
-use fault_reports::{all_faults, complain, end_with, explain, report, show};
-use road_text::{Buffered, MEMORY, Plain, RoadWrite};
+use fault_reports::{all_faults, end_with, explain, report_fault, report_usage, write_and_flush};
 use std::alloc::Global;
 use std::io::Write;
 use std::rt::{Env, Files};
@@ -23,6 +22,7 @@ use std::sync::Wait;
 use std::thread::Threads;
 use std::time::Clock;
 use std::{env, io};
+use text_lines::{Buffered, MEMORY, Plain, RoadWrite};
 
 /// Writes what the command line's parser says: help on the output, a usage fault on the error output.
 fn say<P, W: RoadWrite, E: RoadWrite>(alloc: Global, host: &mut Host<P, W, E>, error: &Error) -> u8
@@ -30,16 +30,16 @@ fn say<P, W: RoadWrite, E: RoadWrite>(alloc: Global, host: &mut Host<P, W, E>, e
         host.new) result }
 {
     if error.kind() == ErrorKind::OutOfMemory {
-        return report(&mut host.errors, fault_of_run(MEMORY));
+        return report_fault(&mut host.errors, fault_of_run(MEMORY));
     }
     let Ok(text) = format!(in alloc; "{error}") else {
-        return report(&mut host.errors, fault_of_run(MEMORY));
+        return report_fault(&mut host.errors, fault_of_run(MEMORY));
     };
     let text = text.as_str().as_bytes();
     if error.use_stderr() {
-        return complain(&mut host.errors, text);
+        return report_usage(&mut host.errors, text);
     }
-    let outcome = show(&mut host.out, text);
+    let outcome = write_and_flush(&mut host.out, text);
     end_with(&mut host.errors, outcome)
 }
 
@@ -96,7 +96,7 @@ where
     let _taken = take_closed_streams(rt);
     let mut errors = Plain::new(errors);
     let Ok(out) = Buffered::new(rt.alloc(), Plain::new(io::writer(rt))) else {
-        return report(&mut errors, fault_of_run(MEMORY));
+        return report_fault(&mut errors, fault_of_run(MEMORY));
     };
     let files = HostFiles { rt, stopwatch };
     let out = TimedWriter::new(out, stopwatch);

@@ -16,9 +16,9 @@ use crate::times::show_times;
 use batch_run::{BundleInput, File};
 use command_args::{BundleArgs, CheckArgs, ServeArgs, SolveArgs};
 use fault_reports::end_with;
-use road_text::RoadWrite;
 use std::sync::Wait;
 use std::thread::Threads;
+use text_lines::RoadWrite;
 
 /// Answers the questions of one input over the graph of another. The inputs are opened in the order of their names, and the file of
 /// accounts, which may be none of them, is created, before one is read.

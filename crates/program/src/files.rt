@@ -3,12 +3,12 @@ ghost use Rattle.std.specs.Prelude.{◌≡◌, ℕ, List, Bool, IfOk};
 
 use crate::opening::STDIN_NAME;
 use crate::times::{Phase, Stopwatch, Times};
-use road_text::{Plain, ReadFailed, RoadRead, RoadWrite, WriteFault};
 use std::fs;
 use std::fs::Metadata;
 use std::os::unix::fs::MetadataExt;
 use std::rt::Files;
 use std::time::Clock;
+use text_lines::{Plain, ReadFailed, RoadRead, RoadWrite, WriteFault};
 
 /// Files by their names, read or written, standard input, and a stopwatch, if there is one. A test may bring its own.
 pub trait FileSystem {

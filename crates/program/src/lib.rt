@@ -21,7 +21,7 @@ pub use command_args::{
 };
 pub use command_line::{run, run_command_line};
 pub use commands::{bundle, check, serve, solve};
-pub use fault_reports::{FaultRow, all_faults, explain, report};
+pub use fault_reports::{FaultRow, all_faults, explain, report_fault};
 pub use files::{FileSystem, HostFiles};
 pub use host::Host;
 pub use judging::{judge, write_verdict};

@@ -2,7 +2,7 @@
 ghost use Rattle.std.specs.Prelude.{refl};
 ghost use Rattle.program.specs.Inputs.{opened_input};
 
-use road_text::{ReadFailed, RoadRead};
+use text_lines::{ReadFailed, RoadRead};
 
 /// An input that was opened.
 #[derive(Drop)]

@@ -10,7 +10,7 @@ use crate::task::Watching;
 use batch_run::{File, RunFault, SETTINGS, WRITE, fault_of_run};
 use command_args::{CheckArgs, RunOptions, SolveArgs, WatchOptions};
 use path_algebra::{AlgebraChoice, AlgebraName};
-use road_text::READ_FAILED;
+use text_lines::READ_FAILED;
 
 /// The name of standard input.
 pub(crate) const STDIN_NAME: &str = "-";

@@ -2,8 +2,8 @@
 ghost use Rattle.program.specs.Refusals.{Says};
 
 use batch_run::RunFault;
-use fault_reports::{complain, report};
-use road_text::RoadWrite;
+use fault_reports::{report_fault, report_usage};
+use text_lines::RoadWrite;
 
 const TWO_SOLVERS: &[u8] = b"error: `--plain` and `--factors` cannot be used together\n";
 
@@ -46,13 +46,13 @@ pub(crate) fn refuse<E: RoadWrite>(errors: &mut E, refusal: Refusal) -> u8
     ensures { Says refusal (E.seen errors.old) (E.seen errors.new) result }
 {
     match refusal {
-        Refusal::TwoSolvers => complain(errors, TWO_SOLVERS),
-        Refusal::Uncounted => complain(errors, UNCOUNTED),
-        Refusal::StdinTwice => complain(errors, STDIN_TWICE),
-        Refusal::StdinTaken => complain(errors, STDIN_TAKEN),
-        Refusal::NoFile => complain(errors, NO_FILE),
-        Refusal::FileTaken => complain(errors, FILE_TAKEN),
-        Refusal::NoText => complain(errors, NO_TEXT),
-        Refusal::Fault(fault) => report(errors, fault),
+        Refusal::TwoSolvers => report_usage(errors, TWO_SOLVERS),
+        Refusal::Uncounted => report_usage(errors, UNCOUNTED),
+        Refusal::StdinTwice => report_usage(errors, STDIN_TWICE),
+        Refusal::StdinTaken => report_usage(errors, STDIN_TAKEN),
+        Refusal::NoFile => report_usage(errors, NO_FILE),
+        Refusal::FileTaken => report_usage(errors, FILE_TAKEN),
+        Refusal::NoText => report_usage(errors, NO_TEXT),
+        Refusal::Fault(fault) => report_fault(errors, fault),
     }
 }

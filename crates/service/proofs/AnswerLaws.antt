@@ -1,9 +1,9 @@
 -- What a batch wrote, as an answer of a service.
 use Rattle.std.proofs.Common.{◌≡◌, ◌≢◌, ℕ, ◌+◌, inl, inr, Bool, List, [], ◌++◌, Option, Result, refl, sym, append-nil}
 use Rattle.road_graph.specs.GraphData.{GraphData}
-use Rattle.road_text.specs.Streams.{Output}
-use Rattle.road_text.specs.Written.{WrotePrefix, FailedAfterPrefix, WritesText}
-use Rattle.road_text.proofs.WriteLaws.{wrote_then}
+use Rattle.text_lines.specs.Streams.{Output}
+use Rattle.text_lines.specs.Written.{WrotePrefix, FailedAfterPrefix, WritesText}
+use Rattle.text_lines.proofs.WriteLaws.{wrote_then}
 use Rattle.road_files.specs.Asked.{Asked}
 use Rattle.path_algebra.specs.Algebra.{Algebra}
 use Rattle.answer_text.specs.AnswerText.{answers_text}

@@ -3,17 +3,17 @@ use Rattle.std.proofs.Common.{◌≡◌, ℕ, ◌+◌, min, true, false, List, [
 use Rattle.std.specs.List.{All}
 use Rattle.std.specs.Result.{OnOk, OnErr}
 use Rattle.std.specs.Str.Lines.{strip_carriage_return}
-use Rattle.road_text.specs.Cuts.{IsPresent, IsLine}
-use Rattle.road_text.specs.Lines.{lines, has_bytes, is_line_end}
-use Rattle.road_text.specs.Rules.{at_line, fault_at}
-use Rattle.road_text.specs.Streams.{Output}
-use Rattle.road_text.specs.Written.{WritesText}
-use Rattle.road_text.proofs.TextLaws.{lines_last, lines_none}
+use Rattle.text_lines.specs.Cuts.{IsPresent, IsLine}
+use Rattle.text_lines.specs.Lines.{lines, has_bytes, is_line_end}
+use Rattle.text_lines.specs.Rules.{at_line, fault_at}
+use Rattle.text_lines.specs.Streams.{Output}
+use Rattle.text_lines.specs.Written.{WritesText}
+use Rattle.text_lines.proofs.TextLaws.{lines_last, lines_none}
 use Rattle.road_files.specs.Asked.{Asked}
 use Rattle.road_files.specs.RequestTakes.{parser_state, RequestSoFar}
 use Rattle.road_files.specs.ServiceText.{Request, ServiceState, Gives, LinesMay, service_end}
 use Rattle.service.specs.declared.service.Service.{Service}
-use Rattle.service.specs.Fed.{held_line, fault_text, WasFed, HasLines, HasRequests, LineEnded, LastFed, LastFedPart, Finished, FinishedPart, RepliedOrFell}
+use Rattle.service.specs.Fed.{held_line, fault_text, WasFed, HasLines, HasRequests, LineEnded, LastFed, LastFedPart, Finished, FinishedPart, Replied, RepliedOrFell}
 use Rattle.service.proofs.FedLaws.{replied_none, replied_one, replied_then, fell_before}
 use Rattle.service.proofs.ServiceLaws.{lines_may_then}
 
@@ -76,6 +76,10 @@ module _ (answers : Asked → List ℕ → Type 0) where
   pub end_one : {A E : Type 0} (s : ServiceState) (line : ℕ) {X : Type 0} (old new : Output X) (res : Result A E) → service_end s ≡ Err 19 ∷ [] → WritesText old new (fault_text 19 line) res
       → (at : ℕ) → line ≡ held_line at → RepliedOrFell answers (map (at_line at) (service_end s)) old new res
   end_one s line old new res open_is wrote at e = rw open_is (replied_one answers (Err (fault_at at 19)) (fault_text 19 line) old new res (ap (fault_text 19) e) wrote)
+
+  -- no request goes on
+  pub end_none : (s : ServiceState) (at : ℕ) {X : Type 0} (old : Output X) → service_end s ≡ [] → Replied answers (map (at_line at) (service_end s)) old old
+  end_none s at old none = rw none (replied_none answers old)
 
   module _ (t u : Service) {X : Type 0} (old mid new : Output X) (same : u.cutter.taker.questions.list.vertices ≡ t.cutter.taker.questions.list.vertices) where
     finish_taken : {A E : Type 0} (res : Result A E) → LastFed answers t u old mid →

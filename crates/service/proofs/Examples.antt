@@ -1,8 +1,8 @@
 -- What the definitions say of some texts over a graph with five vertices.
 use Rattle.std.proofs.Common.{◌≡◌, ℕ, true, false, List, [], ◌∷◌, ◌++◌, flat_map, Ok, Err, refl}
 use Rattle.std.specs.Prelude.{codes}
-use Rattle.road_text.specs.Lines.{lines, fields, number}
-use Rattle.road_text.specs.Rules.{fault_at}
+use Rattle.text_lines.specs.Lines.{lines, fields, number}
+use Rattle.text_lines.specs.Rules.{fault_at}
 use Rattle.road_files.specs.Asked.{BetweenPair, FromSources}
 use Rattle.road_files.specs.QuestionFiles.{question_line_of, question_problem, source_of_line, pair_of_line, sources_of_line}
 use Rattle.road_files.specs.declared.questions.Kind.TheVariants.{Sources, Pairs, Multi}

@@ -2,9 +2,9 @@
 use Rattle.std.proofs.Common.{◌≡◌, ℕ, ◌+◌, List, [], ◌∷◌, ◌++◌, Option, Result, Ok, Err, refl, sym, ap, ◌∙◌, subst, append_assoc, append-nil}
 use Rattle.std.specs.Io.KnownBytes.{Appends}
 use Rattle.std.proofs.KnownBytes.{Appends-trans, Appends-nil}
-use Rattle.road_text.specs.Streams.{Output}
-use Rattle.road_text.specs.Written.{FailedAfterPrefix, WritesText}
-use Rattle.road_text.proofs.WriteLaws.{fell_first}
+use Rattle.text_lines.specs.Streams.{Output}
+use Rattle.text_lines.specs.Written.{FailedAfterPrefix, WritesText}
+use Rattle.text_lines.proofs.WriteLaws.{fell_first}
 use Rattle.road_files.specs.Asked.{Asked}
 use Rattle.road_files.specs.ServiceText.{Request}
 use Rattle.service.specs.Fed.{IsReplyBy, AreRepliesBy, joined, Replied, FellIn, RepliedOrFell}
@@ -39,8 +39,7 @@ module _ (answers : Asked → List ℕ → Type 0) where
     requests_are = refl;
     texts = text ∷ [];
     right = (is, tt);
-    wrote =
-        fell_first old new text [] was;
+    wrote = fell_first old new text [] was;
   }
 
   -- replies, and then others
@@ -76,8 +75,7 @@ module _ (answers : Asked → List ℕ → Type 0) where
     first = p.first;
     later = p.later ++ qs;
     requests_are = ap (λ x. x ++ qs) p.requests_are ∙ append_assoc p.first p.later qs;
-    texts =
-        p.texts;
+    texts = p.texts;
     right = p.right;
     wrote = p.wrote;
   }

@@ -4,10 +4,10 @@ use Rattle.std.specs.Prelude.{codes, bytes_eq, slice_index}
 use Rattle.std.specs.List.{AllZip}
 use Rattle.std.proofs.lemmas.Bool.{ne_eqb}
 use Rattle.std.proofs.lemmas.Slice.Eq.{bytes_eq-Decides}
-use Rattle.road_text.specs.Lines.{lines, fields}
-use Rattle.road_text.specs.Rules.{Rules, at_line, value_of_lines, text_read, unless, ◌>>=◌}
-use Rattle.road_text.specs.Words.{Word, word_of, word_at}
-use Rattle.road_text.proofs.TextLaws.{lines_none, lines_cut}
+use Rattle.text_lines.specs.Lines.{lines, fields}
+use Rattle.text_lines.specs.Rules.{Rules, at_line, value_of_lines, text_read, unless, ◌>>=◌}
+use Rattle.text_lines.specs.Words.{Word, word_of, word_at}
+use Rattle.text_lines.proofs.TextLaws.{lines_none, lines_cut}
 use Rattle.road_files.specs.Asked.{Asked, Question}
 use Rattle.road_files.specs.declared.questions.Kind.{Kind}
 use Rattle.road_files.specs.declared.questions.Kind.TheVariants.{Sources, Pairs, Multi}

@@ -2,15 +2,15 @@
 use Rattle.std.proofs.Common.{◌≡◌, ℕ, ◌+◌, true, List, [], ◌++◌, Option, None, Some, refl, sym, ap, ◌∙◌, subst, append_assoc, append-nil, inl, inr, arith}
 use Rattle.std.specs.Io.KnownBytes.{Consumes, IsAtEnd, Keeps, Appends}
 use Rattle.std.proofs.KnownBytes.{Consumes-nil, Consumes-trans, Consumes-whole, Appends-nil}
-use Rattle.road_text.specs.Streams.{Output}
+use Rattle.text_lines.specs.Streams.{Output}
 use Rattle.road_files.specs.Asked.{Asked}
 use Rattle.road_files.specs.ServiceText.{Request}
 use Rattle.service.specs.declared.service.Service.{Service}
 use Rattle.service.specs.Fed.{WasFed, IsUnfinished, HasRequests, MakesWhole, BeginsWith, Fed, FedPart, FedLong, Finished, FinishedPart, HasServed, Served, ServedSoFar, ServedToLimit, ServedPart, Replied, FellIn}
 use Rattle.service.proofs.FedLaws.{replied_then}
 use Rattle.service.proofs.ServiceLaws.{Done, Failed}
-use Rattle.road_text.specs.Lines.{lines}
-use Rattle.road_text.proofs.TextLaws.{lines_cut}
+use Rattle.text_lines.specs.Lines.{lines}
+use Rattle.text_lines.proofs.TextLaws.{lines_cut}
 use Rattle.road_files.specs.RequestTakes.{parser_state}
 use Rattle.road_files.specs.ServiceText.{Gives, LinesMay}
 
@@ -83,8 +83,7 @@ module _ (answers : Asked → List ℕ → Type 0) where
       rest = r.wrote.rest;
       text_is = r.wrote.text_is;
       bytes = kept_first first.written old.written new.written r.wrote.prefix kept r.wrote.bytes;
-      failed =
-          r.wrote.failed ∙ ap (λ k. k + 1) sound;
+      failed = r.wrote.failed ∙ ap (λ k. k + 1) sound;
     };
   }
 

@@ -2,11 +2,11 @@
 use Rattle.std.proofs.Common.{◌≡◌, ℕ, ◌+◌, min, Bool, true, false, cond, not, drop, List, [], ◌∷◌, ◌++◌, length, take, map, None, Option, Result, Ok, Err, refl, sym, ap, ◌∙◌, subst, append_assoc, append-nil, length-append, take-append-drop, length-drop, ◌<◌, inl, inr, arith}
 use Rattle.std.specs.Str.Lines.{strip_carriage_return}
 use Rattle.std.proofs.lemmas.List.{append_cancel_left}
-use Rattle.road_text.specs.Cuts.{IsPresent, IsLine, EndsLine, StaysInLine}
-use Rattle.road_text.specs.Lines.{lines, fields}
-use Rattle.road_text.specs.Rules.{at_line}
-use Rattle.road_text.proofs.TextLaws.{lines_first, lines_cut}
-use Rattle.road_text.specs.Streams.{Output}
+use Rattle.text_lines.specs.Cuts.{IsPresent, IsLine, EndsLine, StaysInLine}
+use Rattle.text_lines.specs.Lines.{lines, fields}
+use Rattle.text_lines.specs.Rules.{at_line}
+use Rattle.text_lines.proofs.TextLaws.{lines_first, lines_cut}
+use Rattle.text_lines.specs.Streams.{Output}
 use Rattle.road_files.specs.Asked.{Asked}
 use Rattle.road_files.specs.declared.request_parser.LineDone.{LineDone}
 use Rattle.road_files.specs.RequestTakes.{parser_state, RequestSoFar, ended_of, ended_list}
@@ -38,24 +38,27 @@ lines_may_then n at s m t (l ∷ ls) ms rs qs (step, more, may, is, rest) h =
           (subst (λ k. LinesMay n k m ms qs t) same h),
     )
 
+no_lines : lines true [] ≡ []
+no_lines = lines_cut [] (λ k d h. absurd (omega arith))
+
 -- no byte was taken
 pub fresh : (s : Service) → parser_state s.cutter.taker ≡ Gives None → s.line ≡ 1 → s.count ≡ 0 → IsPresent RequestSoFar s.cutter [] → WasFed s [] []
 fresh s state line count held = record {
-  made = rw (lines_cut [] (λ k d h. absurd (omega arith))) (refl, state);
-  line = rw (lines_cut [] (λ k d h. absurd (omega arith))) line;
+  made = rw no_lines (refl, state);
+  line = rw no_lines line;
   own = [];
   is_open = record {
     before = [];
     fed_is = refl;
-    closed = λ cut more. rw (lines_cut [] (λ k d h. absurd (omega arith))) refl;
+    closed = λ cut more. rw no_lines refl;
     from = Gives None;
     begins = inl (refl, refl);
-    made = rw (lines_cut [] (λ k d h. absurd (omega arith))) (refl, refl);
-    goes = rw (lines_cut [] (λ k d h. absurd (omega arith))) state;
+    made = rw no_lines (refl, refl);
+    goes = rw no_lines state;
   };
   count = count;
   present = [];
-  ends = λ cut more. rw (lines_cut [] (λ k d h. absurd (omega arith))) refl;
+  ends = λ cut more. rw no_lines refl;
   held = held;
 }
 
@@ -96,7 +99,7 @@ open_after n at fed bytes rs old own o fed_made l step c d all closed may made i
     from = step.next;
     begins = inr (record { ls = lines true fed; l = l; rs = rs; state = old; ended = step.ended; lines_are = all; made = fed_made; may = may; anew = anew });
     made = made;
-    goes = rw (lines_cut [] (λ k d h. absurd (omega arith))) refl;
+    goes = rw no_lines refl;
   },
   count,
 )
@@ -167,9 +170,8 @@ module _ (answers : Asked → List ℕ → Type 0) (t v u : Service) {X : Type 0
       let first : (c : Bool) (after : List ℕ) → lines c (h.present ++ (bytes ++ after)) ≡ l ∷ lines c after =
       λ c after. ap (λ x. lines c (h.present ++ (x ++ after))) cut.ends ∙ ap (λ x. lines c (h.present ++ x)) (append_assoc cut.prefix (10 ∷ []) after)
       ∙ ap (lines c) (sym (append_assoc h.present cut.prefix (10 ∷ after))) ∙ lines_first c (h.present ++ cut.prefix) after (cut.within h.present h.held) in
-      let none : lines true [] ≡ [] = lines_cut [] (λ k d lt. absurd (omega arith)) in
       let all : lines true (fed ++ bytes) ≡ lines true fed ++ l ∷ [] =
-      h.ends true bytes ∙ ap (λ ls. lines true fed ++ ls) (ap (λ x. lines true (h.present ++ x)) (sym (append-nil bytes)) ∙ first true [] ∙ ap (λ ls. l ∷ ls) none) in
+      h.ends true bytes ∙ ap (λ ls. lines true fed ++ ls) (ap (λ x. lines true (h.present ++ x)) (sym (append-nil bytes)) ∙ first true [] ∙ ap (λ ls. l ∷ ls) no_lines) in
       let count : length (lines true (fed ++ bytes)) ≡ length (lines true fed) + 1 = ap length all ∙ length-append (lines true fed) (l ∷ []) in
       let whole : LinesMay t.cutter.taker.questions.list.vertices 1 (Gives None) (lines true (fed ++ bytes)) (rs ++ more) step.next =
       rw all (lines_may_then t.cutter.taker.questions.list.vertices 1 (Gives None) (parser_state t.cutter.taker) step.next (lines true fed) (l ∷ []) rs more h.made
@@ -214,40 +216,31 @@ fed_stay answers s t u whole xs ys n old mid same state line counted e f stay = 
 abbrev pub Done : Result (Unit {0}) (Unit {0})
 Done = Ok tt
 
-pub fed_line : (answers : Asked → List ℕ → Type 0) (s t v u : Service) (xs ys : List ℕ) {X : Type 0} (old mid new : Output X)
-    → v.cutter.taker.questions.list.vertices ≡ t.cutter.taker.questions.list.vertices → parser_state v.cutter.taker ≡ parser_state t.cutter.taker → v.line ≡ t.line
-    → u.cutter.taker.questions.list.vertices ≡ v.cutter.taker.questions.list.vertices → u.line ≡ min (v.line + 1) 18446744073709551615 → IsPresent RequestSoFar u.cutter [] →
-    v.count ≡ t.count + length ys
-    → Fed answers s t xs old mid → EndsLine RequestSoFar t.cutter v.cutter ys
-    → ((at : ℕ) (l : List ℕ) → v.line ≡ held_line at → IsLine RequestSoFar v.cutter l → LineEnded answers at l v u mid new Done) → Fed answers s u (xs ++ ys) old new
-fed_line answers s t v u xs ys old mid new same state line same_after line_after ready counted f cut did = λ fed rs h.
-    let (more, taken, replied) = f fed rs h in
-    let (next, further, after) = taken_line answers t v u mid new same state line same_after line_after ready Done (fed ++ xs) ys (rs ++ more) counted taken cut did in (
-      more ++ next,
-      subst (λ (x : List ℕ). WasFed u x (rs ++ (more ++ next))) (append_assoc fed xs ys) (subst (λ (x : List Request). WasFed u ((fed ++ xs) ++ ys) x) (append_assoc rs more next) further),
-      replied_then answers more next old mid new Done replied after,
-    )
-
 abbrev pub Failed : Result (Unit {0}) (Unit {0})
 Failed = Err tt
 
--- a write fails in the replies to what ends with a line
-pub fed_part : (answers : Asked → List ℕ → Type 0) (s t v u : Service) (all xs ys zs : List ℕ) {X : Type 0} (old mid new : Output X)
-    → v.cutter.taker.questions.list.vertices ≡ t.cutter.taker.questions.list.vertices → parser_state v.cutter.taker ≡ parser_state t.cutter.taker → v.line ≡ t.line
-    → u.cutter.taker.questions.list.vertices ≡ v.cutter.taker.questions.list.vertices → u.line ≡ min (v.line + 1) 18446744073709551615 → IsPresent RequestSoFar u.cutter [] →
-    v.count ≡ t.count + length ys
-    → all ≡ (xs ++ ys) ++ zs → Fed answers s t xs old mid → EndsLine RequestSoFar t.cutter v.cutter ys
-    → ((at : ℕ) (l : List ℕ) → v.line ≡ held_line at → IsLine RequestSoFar v.cutter l → LineEnded answers at l v u mid new Failed) → FedPart answers s u all old new
-fed_part answers s t v u all xs ys zs old mid new same state line same_after line_after ready counted is f cut did = λ fed rs h.
-    let (more, taken, replied) = f fed rs h in
-    let (next, further, after) = taken_line answers t v u mid new same state line same_after line_after ready Failed (fed ++ xs) ys (rs ++ more) counted taken cut did in (
-      xs ++ ys,
-      zs,
-      more ++ next,
-      is,
-      subst (λ (x : List ℕ). WasFed u x (rs ++ (more ++ next))) (append_assoc fed xs ys) (subst (λ (x : List Request). WasFed u ((fed ++ xs) ++ ys) x) (append_assoc rs more next) further),
-      replied_then answers more next old mid new Failed replied after,
-    )
+-- a piece and then bytes that end a line
+module _ (answers : Asked → List ℕ → Type 0) (s t v u : Service) (xs ys : List ℕ) {X : Type 0} (old mid new : Output X)
+    (same : v.cutter.taker.questions.list.vertices ≡ t.cutter.taker.questions.list.vertices) (state : parser_state v.cutter.taker ≡ parser_state t.cutter.taker) (line : v.line ≡ t.line)
+    (same_after : u.cutter.taker.questions.list.vertices ≡ v.cutter.taker.questions.list.vertices) (line_after : u.line ≡ min (v.line + 1) 18446744073709551615)
+    (ready : IsPresent RequestSoFar u.cutter []) (counted : v.count ≡ t.count + length ys) (f : Fed answers s t xs old mid) (cut : EndsLine RequestSoFar t.cutter v.cutter ys) where
+  fed_to : {A E : Type 0} (res : Result A E) → ((at : ℕ) (l : List ℕ) → v.line ≡ held_line at → IsLine RequestSoFar v.cutter l → LineEnded answers at l v u mid new res)
+      → (fed : List ℕ) (rs : List Request) → WasFed s fed rs → (more : List Request) × WasFed u (fed ++ (xs ++ ys)) (rs ++ more) × RepliedOrFell answers more old new res
+  fed_to res did fed rs h =
+      let (more, taken, replied) = f fed rs h in
+      let (next, further, after) = taken_line answers t v u mid new same state line same_after line_after ready res (fed ++ xs) ys (rs ++ more) counted taken cut did in (
+        more ++ next,
+        subst (λ (x : List ℕ). WasFed u x (rs ++ (more ++ next))) (append_assoc fed xs ys) (subst (λ (x : List Request). WasFed u ((fed ++ xs) ++ ys) x) (append_assoc rs more next) further),
+        replied_then answers more next old mid new res replied after,
+      )
+
+  pub fed_line : ((at : ℕ) (l : List ℕ) → v.line ≡ held_line at → IsLine RequestSoFar v.cutter l → LineEnded answers at l v u mid new Done) → Fed answers s u (xs ++ ys) old new
+  fed_line did = fed_to Done did
+
+  -- a write fails in the replies to what ends with the line
+  pub fed_part : (all zs : List ℕ) → all ≡ (xs ++ ys) ++ zs → ((at : ℕ) (l : List ℕ) → v.line ≡ held_line at → IsLine RequestSoFar v.cutter l → LineEnded answers at l v u mid new Failed)
+      → FedPart answers s u all old new
+  fed_part all zs is did = λ fed rs h. let (more, taken, fell) = fed_to Failed did fed rs h in (xs ++ ys, zs, more, is, taken, fell)
 
 -- no more bytes fit
 pub fed_long : (answers : Asked → List ℕ → Type 0) (s t : Service) (all : List ℕ) (k : ℕ) {X : Type 0} (old mid : Output X) → k < length all → t.count ≡ 4294967296 →

@@ -2,8 +2,8 @@
 use Rattle.std.proofs.Common.{◌≡◌, ℕ, ◌+◌, Bool, true, false, not, nat_lt, List, [], ◌∷◌, ◌++◌, length, map, refl, ap, ◌∙◌, sym, append_assoc, length-append, None, Some, Option, Result, Ok, Err, arith}
 use Rattle.std.specs.Bool.{⊤}
 use Rattle.std.specs.List.{AllByRecursion}
-use Rattle.road_text.specs.Lines.{lines, fields}
-use Rattle.road_text.specs.Rules.{Rules, at_line, fault_at, value_of_lines, state_after, unless, ◌>>=◌}
+use Rattle.text_lines.specs.Lines.{lines, fields}
+use Rattle.text_lines.specs.Rules.{Rules, at_line, fault_at, value_of_lines, state_after, unless, ◌>>=◌}
 use Rattle.road_files.specs.Asked.{Asked}
 use Rattle.road_files.specs.QuestionFiles.{AskedSoFar, question_rules, question_end}
 use Rattle.road_files.specs.ServiceText.{Request, requests, requests_of, ServiceState, Gives, Passes, Step, service_line, begins_request, given, whole_or_on}
@@ -136,8 +136,7 @@ module _ (n start : ℕ) (all : List (List ℕ)) where
   line_holds cut at Passes l ls h next false e = rw e (next Passes (record {
     before = h.before ++ l ∷ [];
     lines_are = h.lines_are ∙ sym (append_assoc h.before (l ∷ []) ls);
-    place =
-        omega (arith, h.place, length-append h.before (l ∷ []));
+    place = omega (arith, h.place, length-append h.before (l ∷ []));
   }))
 
   end_holds : (cut : Bool) (at : ℕ) (state : ServiceState) → HasState at state [] → Holds (requests_of cut n at state [])

@@ -1,10 +1,10 @@
 -- What a service that is fed bytes has taken, and what it has replied.
 use Rattle.std.specs.Prelude.{◌≡◌, ℕ, ◌+◌, ◌<◌, ◌⊎◌, Bool, true, false, not, if◌then◌else◌, List, [], ◌∷◌, ◌++◌, length, map, Option, None, Some, IfSome, Result}
 use Rattle.std.specs.Io.KnownBytes.{Consumes}
-use Rattle.road_text.specs.Cuts.{IsPresent}
-use Rattle.road_text.specs.Lines.{lines, fields}
-use Rattle.road_text.specs.Streams.{Output}
-use Rattle.road_text.specs.Rules.{at_line}
+use Rattle.text_lines.specs.Cuts.{IsPresent}
+use Rattle.text_lines.specs.Lines.{lines, fields}
+use Rattle.text_lines.specs.Streams.{Output}
+use Rattle.text_lines.specs.Rules.{at_line}
 use Rattle.road_files.specs.Asked.{Asked}
 use Rattle.road_files.specs.RequestTakes.{parser_state, RequestSoFar}
 use Rattle.road_files.specs.ServiceText.{Request, ServiceState, Gives, Step, LineMay, LinesMay, service_end}

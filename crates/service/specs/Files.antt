@@ -1,6 +1,6 @@
 -- Question files, one after the other.
 use Rattle.std.specs.Prelude.{◌≡◌, ℕ, List, [], ◌∷◌, ◌++◌, None, Ok}
-use Rattle.road_text.specs.Rules.{text_read}
+use Rattle.text_lines.specs.Rules.{text_read}
 use Rattle.road_files.specs.Asked.{Asked}
 use Rattle.road_files.specs.QuestionFiles.{question_rules}
 

@@ -2,10 +2,10 @@
 use Rattle.std.specs.Prelude.{◌≡◌, ◌≢◌, ℕ, ⊤, List, [], ◌∷◌, ◌++◌, min, nat_eq, if◌then◌else◌, Option, Result, Ok, Err, codes, decimal}
 use Rattle.std.specs.Io.KnownBytes.{Appends}
 use Rattle.std.specs.List.{AllZip}
-use Rattle.road_text.specs.declared.faults.ReadFault.{ReadFault}
-use Rattle.road_text.specs.Streams.{Output}
-use Rattle.road_text.specs.Texts.{spelled}
-use Rattle.road_text.specs.Written.{FailedAfterPrefix}
+use Rattle.text_lines.specs.declared.faults.ReadFault.{ReadFault}
+use Rattle.text_lines.specs.Streams.{Output}
+use Rattle.text_lines.specs.Texts.{spelled}
+use Rattle.text_lines.specs.Written.{FailedAfterPrefix}
 use Rattle.road_files.specs.Asked.{Asked}
 use Rattle.road_files.specs.ServiceText.{Request}
 

@@ -1,6 +1,6 @@
 -- Requests as question texts.
 use Rattle.std.specs.Prelude.{◌≡◌, ℕ, ◌+◌, false, List, ◌++◌, length, None}
-use Rattle.road_text.specs.Rules.{value_of_lines}
+use Rattle.text_lines.specs.Rules.{value_of_lines}
 use Rattle.road_files.specs.QuestionFiles.{question_rules}
 use Rattle.road_files.specs.ServiceText.{Request}
 

@@ -2,7 +2,7 @@
 use Rattle.std.specs.Prelude.{◌≡◌, ◌≢◌, ℕ, ◌+◌, ◌≤◌, ◌↔◌, ◌⊎◌, Bool, true, List, [], Option, Result, Err, OnOk, IfErr}
 use Rattle.std.specs.Io.KnownBytes.{IsAtEnd}
 use Rattle.road_graph.specs.GraphData.{GraphData}
-use Rattle.road_text.specs.Reads.{BreaksNone, RunsOutAfter}
+use Rattle.text_lines.specs.Reads.{BreaksNone, RunsOutAfter}
 use Rattle.graph_text.specs.GraphFiles.{gr_rules}
 use Rattle.path_algebra.specs.Algebra.{Algebra}
 use Rattle.batch_run.specs.declared.faults.File.TheVariants.{Graph, Questions, NoFile}
@@ -10,7 +10,7 @@ use Rattle.batch_run.specs.declared.faults.RunFault.{RunFault}
 use Rattle.batch_run.specs.declared.settings.Settings.{Settings}
 use Rattle.batch_run.specs.InRange.{AreInRange}
 use Rattle.batch_run.specs.Ran.{IsReadAs, IsGraphFault, IsRoadNumber}
-use Rattle.road_text.specs.Streams.{Input, Output}
+use Rattle.text_lines.specs.Streams.{Input, Output}
 use Rattle.service.specs.Fed.{Served, ServedSoFar, ServedToLimit, ServedPart}
 use Rattle.service.specs.Answering.{MayAnswer}
 

@@ -1,6 +1,6 @@
 //! Answers the questions of a service as a batch does.
 ghost use Rattle.std.specs.Prelude.{ℕ, List};
-ghost use Rattle.road_text.specs.Written.{WritesText};
+ghost use Rattle.text_lines.specs.Written.{WritesText};
 ghost use Rattle.road_files.specs.Asked.{AreQuestionsOf, asked_of};
 ghost use Rattle.batch_run.specs.InRange.{AreInRange};
 ghost use Rattle.batch_run.specs.Solvers.{IsSameSolver, graph_of};
@@ -11,9 +11,9 @@ use answer_text::first_answers_begin_all;
 use batch_run::{Batch, Cause, Gate, Run, Solver, Unwatched, answer_all, answers_exist};
 use path_algebra::PathAlgebra;
 use road_files::Questions;
-use road_text::{RoadWrite, WriteFault};
 use std::sync::Wait;
 use std::thread::Threads;
+use text_lines::{RoadWrite, WriteFault};
 
 /// How questions are answered.
 #[derive(Drop)]

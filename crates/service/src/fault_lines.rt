@@ -1,12 +1,12 @@
 //! Writes the lines of faults.
 ghost use Rattle.std.specs.Prelude.{◌≡◌, ℕ, [], OnOk};
-ghost use Rattle.road_text.specs.Written.{WritesText};
+ghost use Rattle.text_lines.specs.Written.{WritesText};
 ghost use Rattle.service.specs.Replies.{fault_text};
 
-use road_text::{Line, RoadWrite, WriteFault, push_spaced, write_bytes};
+use text_lines::{Line, RoadWrite, WriteFault, push_spaced, write_bytes};
 
 /// The line that reports a fault.
-#[tactic(auto, unfolding(road_text::specs::Texts::spelled, crate::specs::Replies::fault_text))]
+#[tactic(auto, unfolding(text_lines::specs::Texts::spelled, crate::specs::Replies::fault_text))]
 fn line_of_fault(number: u8, line: u64) -> Line
     ensures { result.bytes ≡ fault_text number line }
 {

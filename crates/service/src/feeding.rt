@@ -1,12 +1,11 @@
 //! Feeds bytes to a service, which replies to the requests in them.
-ghost use Rattle.std.specs.Prelude.{◌≡◌, ◌≢◌, ℕ, ◌+◌, [], ◌++◌, List, map, min, OnOk, OnErr, Err, ◌≤◌};
-ghost use Rattle.road_text.specs.Cuts.{IsLine, IsPresent};
-ghost use Rattle.road_files.specs.RequestTakes.{RequestSoFar, parser_state, ended_of};
-ghost use Rattle.service.specs.Answering.{MayAnswerBy};
+ghost use Rattle.std.specs.Prelude.{◌≡◌, ◌≢◌, ℕ, ◌+◌, [], ◌++◌, List, min, OnOk, OnErr, Err, ◌≤◌};
+ghost use Rattle.text_lines.specs.Cuts.{IsLine, IsPresent};
+ghost use Rattle.road_files.specs.RequestTakes.{RequestSoFar, ended_of};
+ghost use Rattle.service.specs.Giving.{MayGive};
 ghost use Rattle.batch_run.specs.Solvers.{IsSameSolver, graph_of};
-ghost use Rattle.service.specs.Fed.{held_line, WasFed, LineEnded, Fed, FedPart, FedLong, LastFed, LastFedPart, Finished, FinishedPart, RepliedOrFell, goes_on, count_after};
-ghost use Rattle.road_text.specs.Rules.{at_line};
-ghost use Rattle.road_files.specs.ServiceText.{ServiceState, service_end};
+ghost use Rattle.service.specs.Fed.{held_line, WasFed, LineEnded, Fed, FedPart, FedLong, LastFed, LastFedPart, Finished, FinishedPart, goes_on, count_after};
+ghost use Rattle.road_files.specs.ServiceText.{ServiceState};
 
 use crate::batch_answers::BatchAnswers;
 use crate::fault_lines::send_fault;
@@ -16,10 +15,10 @@ use batch_run::{Gate, Solver};
 use path_algebra::PathAlgebra;
 use road_files::rules::TOO_FEW;
 use road_files::{LineDone, RequestParser};
-use road_text::{LineCutter, MAX_BYTES, RoadWrite, WriteFault};
 use std::alloc::Global;
 use std::sync::Wait;
 use std::thread::Threads;
+use text_lines::{LineCutter, MAX_BYTES, RoadWrite, WriteFault};
 
 /// Why bytes were not taken.
 #[derive(Clone, Copy, Debug, PartialEq, Eq)]
@@ -64,10 +63,9 @@ impl Service {
     ) -> Result<(), WriteFault>
         requires { self.old.cutter.taker.questions.list.vertices ≡ (graph_of solver.old).vertices }
         ensures ended { (at : ℕ) (line : List ℕ) → self.old.line ≡ held_line at → IsLine
-            RequestSoFar self.old.cutter line → LineEnded (MayAnswerBy
-            (A.meaning answers.now.algebra) answers.now.run.now.settings.now
-            (T.may_answer answers.now.run.now.gate.now) solver.old) at line self.old self.new
-            (W.seen out.old) (W.seen out.new) result }
+            RequestSoFar self.old.cutter line → LineEnded (MayGive A.meaning T.may_answer
+            answers.now solver.old) at line self.old self.new (W.seen out.old) (W.seen out.new)
+            result }
         ensures ready { IsPresent RequestSoFar self.new.cutter [] }
         ensures line { self.new.line ≡ min (self.old.line + 1) 18446744073709551615 }
         ensures vertices { self.new.cutter.taker.questions.list.vertices ≡
@@ -92,17 +90,12 @@ impl Service {
         out: &mut W,
     ) -> Result<(), Unfed>
         requires { self.old.cutter.taker.questions.list.vertices ≡ (graph_of solver.old).vertices }
-        ensures fed { OnOk result (Fed (MayAnswerBy (A.meaning answers.now.algebra)
-            answers.now.run.now.settings.now (T.may_answer answers.now.run.now.gate.now) solver.old)
+        ensures fed { OnOk result (Fed (MayGive A.meaning T.may_answer answers.now solver.old)
             self.old self.new bytes.now (W.seen out.old) (W.seen out.new)) }
-        ensures fell { result ≡ Err Unfed.Write → FedPart
-            (MayAnswerBy (A.meaning answers.now.algebra) answers.now.run.now.settings.now
-            (T.may_answer answers.now.run.now.gate.now) solver.old) self.old self.new bytes.now
-            (W.seen out.old) (W.seen out.new) }
-        ensures long { result ≡ Err Unfed.TooLong → FedLong
-            (MayAnswerBy (A.meaning answers.now.algebra) answers.now.run.now.settings.now
-            (T.may_answer answers.now.run.now.gate.now) solver.old) self.old self.new bytes.now
-            (W.seen out.old) (W.seen out.new) }
+        ensures fell { result ≡ Err Unfed.Write → FedPart (MayGive A.meaning T.may_answer
+            answers.now solver.old) self.old self.new bytes.now (W.seen out.old) (W.seen out.new) }
+        ensures long { result ≡ Err Unfed.TooLong → FedLong (MayGive A.meaning T.may_answer
+            answers.now solver.old) self.old self.new bytes.now (W.seen out.old) (W.seen out.new) }
         ensures same { IsSameSolver solver.old solver.new }
         ensures passed_on { result ≢ Err Unfed.Write → (W.seen out.old).held ≡ [] →
             (W.seen out.new).held ≡ [] }
@@ -137,12 +130,10 @@ impl Service {
         out: &mut W,
     ) -> Result<(), WriteFault>
         requires { self.old.cutter.taker.questions.list.vertices ≡ (graph_of solver.old).vertices }
-        ensures fed { OnOk result (LastFed (MayAnswerBy (A.meaning answers.now.algebra)
-            answers.now.run.now.settings.now (T.may_answer answers.now.run.now.gate.now) solver.old)
+        ensures fed { OnOk result (LastFed (MayGive A.meaning T.may_answer answers.now solver.old)
             self.old self.new (W.seen out.old) (W.seen out.new)) }
-        ensures fell { OnErr result (LastFedPart (MayAnswerBy (A.meaning answers.now.algebra)
-            answers.now.run.now.settings.now (T.may_answer answers.now.run.now.gate.now) solver.old)
-            self.old self.new (W.seen out.old) (W.seen out.new)) }
+        ensures fell { OnErr result (LastFedPart (MayGive A.meaning T.may_answer answers.now
+            solver.old) self.old self.new (W.seen out.old) (W.seen out.new)) }
         ensures same { IsSameSolver solver.old solver.new }
         ensures passed_on { OnOk result ((W.seen out.old).held ≡ [] → (W.seen out.new).held ≡ []) }
         ensures vertices { self.new.cutter.taker.questions.list.vertices ≡
@@ -154,26 +145,7 @@ impl Service {
         Ok(())
     }
 
-    /// Replies to the request that has not ended, if there is one: it has too few lines.
-    fn end_request<A: PathAlgebra, R: Threads + Wait + Sync, T: Gate, W: RoadWrite>(
-        &self,
-        _answers: &BatchAnswers<'_, A, R, T>,
-        _solver: &Solver<A>,
-        out: &mut W,
-    ) -> Result<(), WriteFault>
-        ensures replied { (at : ℕ) → self.now.line ≡ held_line at → RepliedOrFell (MayAnswerBy
-            (A.meaning _answers.now.algebra) _answers.now.run.now.settings.now
-            (T.may_answer _answers.now.run.now.gate.now) _solver.now) (map (at_line at) (service_end
-            (parser_state self.now.cutter.taker))) (W.seen out.old) (W.seen out.new) result }
-        ensures passed_on { OnOk result ((W.seen out.old).held ≡ [] → (W.seen out.new).held ≡ []) }
-    {
-        if self.cutter.taker.is_open() {
-            return send_fault(out, TOO_FEW.number, self.line);
-        }
-        Ok(())
-    }
-
-    /// Takes the end of the text, and replies to the requests that end with it.
+    /// Takes the end of the text, and replies to the requests that end with it: one that goes on has too few lines.
     pub fn finish<A: PathAlgebra, R: Threads + Wait + Sync, T: Gate, W: RoadWrite>(
         mut self,
         answers: &BatchAnswers<'_, A, R, T>,
@@ -181,18 +153,20 @@ impl Service {
         out: &mut W,
     ) -> Result<(), WriteFault>
         requires { self.cutter.taker.questions.list.vertices ≡ (graph_of solver.old).vertices }
-        ensures finished { OnOk result (Finished (MayAnswerBy (A.meaning answers.now.algebra)
-            answers.now.run.now.settings.now (T.may_answer answers.now.run.now.gate.now) solver.old)
-            self (W.seen out.old) (W.seen out.new)) }
-        ensures fell { OnErr result (FinishedPart (MayAnswerBy (A.meaning answers.now.algebra)
-            answers.now.run.now.settings.now (T.may_answer answers.now.run.now.gate.now) solver.old)
-            self (W.seen out.old) (W.seen out.new)) }
+        ensures finished { OnOk result (Finished (MayGive A.meaning T.may_answer answers.now
+            solver.old) self (W.seen out.old) (W.seen out.new)) }
+        ensures fell { OnErr result (FinishedPart (MayGive A.meaning T.may_answer answers.now
+            solver.old) self (W.seen out.old) (W.seen out.new)) }
         ensures same { IsSameSolver solver.old solver.new }
         ensures passed_on { OnOk result ((W.seen out.old).held ≡ [] → (W.seen out.new).held ≡ []) }
     {
         match self.end_lines(answers, solver, out) {
-            Ok(()) => self.end_request(answers, solver, out),
-            Err(fault) => Err(fault),
+            Ok(()) => {}
+            Err(fault) => return Err(fault),
         }
+        if self.cutter.taker.is_open() {
+            return send_fault(out, TOO_FEW.number, self.line);
+        }
+        Ok(())
     }
 }

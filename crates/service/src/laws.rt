@@ -4,7 +4,7 @@ ghost use Rattle.std.specs.Prelude.{map, flat_map, Ok};
 ghost use Rattle.std.specs.List.{AllByRecursion, AllZip};
 ghost use Rattle.road_files.specs.Asked.{Asked};
 ghost use Rattle.service.specs.Files.{IsFileOf};
-ghost use Rattle.road_text.specs.Lines.{lines};
+ghost use Rattle.text_lines.specs.Lines.{lines};
 ghost use Rattle.road_files.specs.ServiceText.{Request, ServiceState, LinesMay, requests, requests_of, state_after_lines};
 ghost use Rattle.service.specs.Replies.{IsNotOutOfMemory};
 ghost use Rattle.service.specs.RequestTexts.{IsTextIn};

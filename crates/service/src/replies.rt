@@ -1,10 +1,10 @@
 //! Writes the replies to requests, and flushes the output after each.
 ghost use Rattle.std.specs.Prelude.{◌≡◌, ℕ, [], List, map, OnOk};
-ghost use Rattle.road_text.specs.Rules.{at_line, fault_at};
-ghost use Rattle.road_text.specs.Written.{WritesText};
+ghost use Rattle.text_lines.specs.Rules.{at_line, fault_at};
+ghost use Rattle.text_lines.specs.Written.{WritesText};
 ghost use Rattle.road_files.specs.Asked.{asked_of, AreQuestionsOf};
 ghost use Rattle.road_files.specs.RequestTakes.{EndFits, ended_list, ended_of};
-ghost use Rattle.service.specs.Answering.{MayAnswerBy};
+ghost use Rattle.service.specs.Giving.{MayGive};
 ghost use Rattle.batch_run.specs.Solvers.{IsSameSolver, graph_of};
 ghost use Rattle.service.specs.Replies.{held_line, reported_line, RepliedOrFell};
 
@@ -14,9 +14,9 @@ use batch_run::{Gate, Solver};
 use path_algebra::PathAlgebra;
 use road_files::rules::TOO_FEW;
 use road_files::{Ended, LineDone, Questions};
-use road_text::{MEMORY, RoadWrite, WriteFault};
 use std::sync::Wait;
 use std::thread::Threads;
+use text_lines::{MEMORY, RoadWrite, WriteFault};
 
 /// Writes an answer, and flushes the output.
 fn send_answer<A: PathAlgebra, R: Threads + Wait + Sync, T: Gate, W: RoadWrite>(
@@ -26,8 +26,7 @@ fn send_answer<A: PathAlgebra, R: Threads + Wait + Sync, T: Gate, W: RoadWrite>(
     out: &mut W,
 ) -> Result<(), WriteFault>
     requires { AreQuestionsOf (graph_of solver.old).vertices questions.now }
-    ensures wrote { (text : List ℕ) × MayAnswerBy (A.meaning answers.now.algebra)
-        answers.now.run.now.settings.now (T.may_answer answers.now.run.now.gate.now) solver.old
+    ensures wrote { (text : List ℕ) × MayGive A.meaning T.may_answer answers.now solver.old
         (asked_of questions.now) text × WritesText (W.seen out.old) (W.seen out.new) text result }
     ensures same { IsSameSolver solver.old solver.new }
     ensures passed_on { OnOk result ((W.seen out.new).held ≡ []) }
@@ -55,10 +54,9 @@ fn send_end<A: PathAlgebra, R: Threads + Wait + Sync, T: Gate, W: RoadWrite>(
     out: &mut W,
 ) -> Result<(), WriteFault>
     requires { EndFits (graph_of solver.old).vertices ended }
-    ensures replied { (at : ℕ) → line ≡ held_line at → RepliedOrFell (MayAnswerBy
-        (A.meaning answers.now.algebra) answers.now.run.now.settings.now
-        (T.may_answer answers.now.run.now.gate.now) solver.old) (map (at_line at)
-        (ended_list ended)) (W.seen out.old) (W.seen out.new) result }
+    ensures replied { (at : ℕ) → line ≡ held_line at → RepliedOrFell (MayGive A.meaning T.may_answer
+        answers.now solver.old) (map (at_line at) (ended_list ended)) (W.seen out.old) (W.seen
+        out.new) result }
     ensures same { IsSameSolver solver.old solver.new }
     ensures passed_on { OnOk result ((W.seen out.old).held ≡ [] → (W.seen out.new).held ≡ []) }
 {
@@ -78,10 +76,9 @@ pub(crate) fn send_done<A: PathAlgebra, R: Threads + Wait + Sync, T: Gate, W: Ro
     out: &mut W,
 ) -> Result<(), WriteFault>
     requires { EndFits (graph_of solver.old).vertices done.ended }
-    ensures replied { (at : ℕ) → line ≡ held_line at → RepliedOrFell (MayAnswerBy
-        (A.meaning answers.now.algebra) answers.now.run.now.settings.now
-        (T.may_answer answers.now.run.now.gate.now) solver.old) (map (at_line at) (ended_of done))
-        (W.seen out.old) (W.seen out.new) result }
+    ensures replied { (at : ℕ) → line ≡ held_line at → RepliedOrFell (MayGive A.meaning T.may_answer
+        answers.now solver.old) (map (at_line at) (ended_of done)) (W.seen out.old) (W.seen out.new)
+        result }
     ensures same { IsSameSolver solver.old solver.new }
     ensures passed_on { OnOk result ((W.seen out.old).held ≡ [] → (W.seen out.new).held ≡ []) }
 {

@@ -1,11 +1,11 @@
 //! Runs a service from bytes to bytes.
 ghost use Rattle.std.specs.Prelude.{◌≡◌, true, IfOk, IfErr, OnOk, OnErr};
-ghost use Rattle.road_text.specs.Reads.{ReadsText};
+ghost use Rattle.text_lines.specs.Reads.{ReadsText};
 ghost use Rattle.graph_text.specs.GraphFiles.{gr_rules};
 ghost use Rattle.batch_run.specs.Causes.{number_of};
 ghost use Rattle.batch_run.specs.Choice.{without_diffusions};
-ghost use Rattle.batch_run.specs.Solvers.{IsSameSolver, graph_of, is_by_factors, is_plain};
-ghost use Rattle.service.specs.Factoring.{HasFactorsOf};
+ghost use Rattle.batch_run.specs.Factored.{HasFactorsOf, is_by_factors};
+ghost use Rattle.batch_run.specs.Solvers.{IsSameSolver, graph_of, is_plain};
 ghost use Rattle.service.specs.Served.{RanService};
 
 use crate::batch_answers::BatchAnswers;
@@ -17,9 +17,9 @@ use batch_run::{
 use graph_text::read_gr_as;
 use path_algebra::PathAlgebra;
 use question_solvers::factor;
-use road_text::{READ_FAILED, ReadFault, RoadRead, RoadWrite, TOO_LONG};
 use std::sync::Wait;
 use std::thread::Threads;
+use text_lines::{READ_FAILED, ReadFault, RoadRead, RoadWrite, TOO_LONG};
 
 /// A fault of the input of requests, in no line.
 fn fault_of_requests(number: u8) -> RunFault

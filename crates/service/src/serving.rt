@@ -1,7 +1,7 @@
 //! Serves an input to its end.
 ghost use Rattle.std.specs.Prelude.{◌≡◌, ◌≢◌, ℕ, ◌≤◌, ◌+◌, [], length, IfOk, OnOk, OnErr, Err};
 ghost use Rattle.std.specs.Io.KnownBytes.{IsAtEnd, ReadConsumes};
-ghost use Rattle.service.specs.Answering.{MayAnswer};
+ghost use Rattle.service.specs.Giving.{MayGiveOver};
 ghost use Rattle.batch_run.specs.Choice.{without_diffusions};
 ghost use Rattle.batch_run.specs.Solvers.{graph_of, is_plain};
 ghost use Rattle.service.specs.Fed.{Served, ServedSoFar, ServedToLimit, ServedPart};
@@ -11,9 +11,9 @@ use crate::feeding::Unfed;
 use crate::service::Service;
 use batch_run::{Gate, Solver};
 use path_algebra::PathAlgebra;
-use road_text::{ReadFailed, RoadRead, RoadWrite};
 use std::sync::Wait;
 use std::thread::Threads;
+use text_lines::{ReadFailed, RoadRead, RoadWrite};
 
 /// The bytes that are asked for at once.
 const BUFFER: usize = 65_536;
@@ -30,7 +30,7 @@ pub(crate) enum Stopped {
 }
 
 /// Reads the next piece. At each read nothing is left buffered in the output.
-fn ask<I: RoadRead, W: RoadWrite>(
+fn read_piece<I: RoadRead, W: RoadWrite>(
     input: &mut I,
     _out: &W,
     buffer: &mut [u8],
@@ -52,25 +52,19 @@ pub(crate) fn serve<A: PathAlgebra, I: RoadRead, W: RoadWrite, R: Threads + Wait
     out: &mut W,
 ) -> Result<(), Stopped>
     requires kind { is_plain solver.old ≡ without_diffusions answers.now.run.now.settings.now }
-    ensures served { OnOk result (Served (MayAnswer (A.meaning answers.now.algebra)
-        answers.now.run.now.settings.now (T.may_answer answers.now.run.now.gate.now)
-        (graph_of solver.old)) (graph_of solver.old).vertices (I.seen input.old).left
-        (W.seen out.old) (W.seen out.new)) }
-    ensures read { result ≡ Err Stopped.Read → ServedSoFar (MayAnswer
-        (A.meaning answers.now.algebra) answers.now.run.now.settings.now
-        (T.may_answer answers.now.run.now.gate.now) (graph_of solver.old))
-        (graph_of solver.old).vertices (I.seen input.old).left (I.seen input.new).left
-        (W.seen out.old) (W.seen out.new) × ((I.seen input.new).failures ≡
+    ensures served { OnOk result (Served (MayGiveOver A.meaning T.may_answer answers.now (graph_of
+        solver.old)) (graph_of solver.old).vertices (I.seen input.old).left (W.seen out.old) (W.seen
+        out.new)) }
+    ensures read { result ≡ Err Stopped.Read → ServedSoFar (MayGiveOver A.meaning T.may_answer
+        answers.now (graph_of solver.old)) (graph_of solver.old).vertices (I.seen input.old).left
+        (I.seen input.new).left (W.seen out.old) (W.seen out.new) × ((I.seen input.new).failures ≡
         (I.seen input.old).failures + 1) }
-    ensures write { result ≡ Err Stopped.Write → ServedPart (MayAnswer
-        (A.meaning answers.now.algebra) answers.now.run.now.settings.now
-        (T.may_answer answers.now.run.now.gate.now) (graph_of solver.old))
-        (graph_of solver.old).vertices (I.seen input.old).left (W.seen out.old) (W.seen out.new) }
-    ensures long { result ≡ Err Stopped.TooLong → ServedToLimit
-        (MayAnswer (A.meaning answers.now.algebra) answers.now.run.now.settings.now
-        (T.may_answer answers.now.run.now.gate.now) (graph_of solver.old))
-        (graph_of solver.old).vertices (I.seen input.old).left (I.seen input.new).left
+    ensures write { result ≡ Err Stopped.Write → ServedPart (MayGiveOver A.meaning T.may_answer
+        answers.now (graph_of solver.old)) (graph_of solver.old).vertices (I.seen input.old).left
         (W.seen out.old) (W.seen out.new) }
+    ensures long { result ≡ Err Stopped.TooLong → ServedToLimit (MayGiveOver A.meaning T.may_answer
+        answers.now (graph_of solver.old)) (graph_of solver.old).vertices (I.seen input.old).left
+        (I.seen input.new).left (W.seen out.old) (W.seen out.new) }
     ensures passed_on { result ≢ Err Stopped.Write → (W.seen out.new).held ≡ [] }
     ensures end { OnOk result (IsAtEnd (I.seen input.new).left) }
     ensures sound { result ≢ Err Stopped.Read → (I.seen input.new).failures ≡
@@ -83,7 +77,7 @@ pub(crate) fn serve<A: PathAlgebra, I: RoadRead, W: RoadWrite, R: Threads + Wait
     let mut service = Service::new(answers.run.alloc, solver.vertices());
     let mut buffer = [0u8; BUFFER];
     for _ in answers.run.rt.forever() {
-        match ask(input, out, &mut buffer) {
+        match read_piece(input, out, &mut buffer) {
             Err(_) => return Err(Stopped::Read),
             Ok(0) => match service.finish(answers, solver, out) {
                 Ok(()) => return Ok(()),

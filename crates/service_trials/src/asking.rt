@@ -3,11 +3,11 @@ ghost use Rattle.std.specs.Prelude.{◌<◌};
 
 use batch_run::{Gate, OpenGate, Run, RunFault, Settings};
 use path_algebra::{PathAlgebra, Shortest};
-use road_text::{Plain, RoadRead, RoadWrite};
 use service::run_service;
 use std::process::Abort;
 use std::sync::Wait;
 use std::thread::Threads;
+use text_lines::{Plain, RoadRead, RoadWrite};
 use text_trials::Pieces;
 
 /// Five vertices. No arc leads to the last.

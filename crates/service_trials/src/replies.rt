@@ -5,7 +5,7 @@ use crate::asking::{
 };
 use batch_run::Settings;
 use path_algebra::Widest;
-use road_text::Plain;
+use text_lines::Plain;
 
 #[test]
 fn each_kind_in_pieces(rt: HostRuntime) {

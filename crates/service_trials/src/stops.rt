@@ -6,10 +6,10 @@ use crate::asking::{
 };
 use batch_run::{File, Gate, OpenGate, Run, RunFault, Settings};
 use path_algebra::Shortest;
-use road_text::Plain;
 use std::process::Abort;
 use std::sync::Wait;
 use std::thread::Threads;
+use text_lines::Plain;
 use text_trials::{Pieces, Sheet};
 
 /// A gate that lets no worker make a turn.

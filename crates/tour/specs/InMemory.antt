@@ -1,6 +1,6 @@
 -- A text in memory.
 use Rattle.std.specs.Prelude.{ℕ, List, [], Some}
-use Rattle.road_text.specs.Streams.{Output}
+use Rattle.text_lines.specs.Streams.{Output}
 
 -- an output that has taken this text: it holds nothing back, and no write failed
 abbrev pub in_memory : List ℕ → Output (List ℕ)

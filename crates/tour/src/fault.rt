@@ -1,9 +1,9 @@
 //! What stops an example.
 use batch_run::RunFault;
 use road_graph::Memory;
-use road_text::ReadFault;
 use std::alloc::{AllocError, AllocFailed};
 use std::io;
+use text_lines::ReadFault;
 
 /// What stops an example.
 #[derive(Debug, Drop)]

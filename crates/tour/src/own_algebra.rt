@@ -9,11 +9,12 @@ use crate::stops::Stops;
 use answer_check::{Verdict, check};
 use answer_text::read_answers;
 use batch_run::{OpenGate, Run, Settings, Unwatched, run_bundle};
-use road_files::read_bundle;
-use road_text::Plain;
+use road_files::{Questions, read_bundle_as};
+use road_graph::OutGraph;
 use std::alloc::Global;
 use std::sync::Wait;
 use std::thread::Threads;
+use text_lines::Plain;
 
 /// Five vertices, and a question from vertex 1 to all of them.
 const BUNDLE: &str =
@@ -47,7 +48,8 @@ fn judged<R: Threads + Sync>(
     bundle: &str,
     answers: &[u8],
 ) -> Result<Verdict, Fault> {
-    let (graph, questions) = read_bundle(alloc, &mut Plain::new(bundle.as_bytes()))?;
+    let mut bundle = Plain::new(bundle.as_bytes());
+    let (graph, questions): (OutGraph, Questions) = read_bundle_as(alloc, &mut bundle)?;
     let answers = read_answers(alloc, &mut Plain::new(answers), graph.vertices())?;
     Ok(check(rt, alloc, Stops, &graph, &questions, &answers)?)
 }

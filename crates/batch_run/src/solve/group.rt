@@ -2,10 +2,11 @@
 ghost use Rattle.std.specs.Prelude.{◌≡◌, ℕ, ◌<◌, ◌≤◌, [], ◌∷◌, ◌++◌, length, get_or, IfOk, IfErr, vec_len};
 ghost use Rattle.std.specs.List.{All};
 ghost use Rattle.road_graph.specs.GraphData.{HasVertex};
-ghost use Rattle.station.specs.Opened.{AreOpened, setup_of};
-ghost use Rattle.batch_run.specs.Stopping.{Stops};
+ghost use Rattle.station.specs.Opened.{AreOpened};
+ghost use Rattle.batch_run.specs.Batches.{StopsOver};
 ghost use Rattle.batch_run.specs.Cut.{IsCut};
 ghost use Rattle.batch_run.specs.Diffusions.{IsEnded, IsGatheredOver, IsPlanOf, sources_in_order};
+ghost use Rattle.shard_store.specs.Setup.{setup_of};
 
 use crate::batch::BatchOver;
 use crate::solve::diffusion::{EndedDiffusion, GatheredDiffusion, gather_ended};
@@ -132,8 +133,7 @@ pub(crate) fn run_together<A: PathAlgebra, R: Threads + Wait, T: Gate>(
     ensures gathered { IfOk result (λ v. All (IsGatheredOver (A.meaning batch.now.algebra)
         batch.now.run.now.settings.now batch.now.graph.now) v.items) }
     ensures sources { IfOk result (λ v. sources_in_order v.items ≡ sources.now) }
-    ensures stops { IfErr result (Stops A.meaning batch.now.algebra batch.now.graph.now
-        batch.now.run.now.settings.now (T.may_answer batch.now.run.now.gate.now)) }
+    ensures stops { IfErr result (StopsOver A.meaning T.may_answer batch.now) }
 {
     let (alloc, settings) = (batch.run.alloc, batch.run.settings);
     let (algebra, graph) = (batch.algebra, batch.graph);

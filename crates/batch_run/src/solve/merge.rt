@@ -1,10 +1,8 @@
 //! Best labels from the sources of a question, by workers.
-ghost use Rattle.std.specs.Prelude.{◌+◌, ◌<◌, length, slice_index_or, false, IfOk, IfErr, OnOk};
+ghost use Rattle.std.specs.Prelude.{◌+◌, ◌<◌, length, slice_index_or, IfOk, IfErr, OnOk};
 ghost use Rattle.path_algebra.specs.Walks.{AreBest};
 ghost use Rattle.road_files.specs.Asked.{Question, asked_of, sources_of};
-ghost use Rattle.batch_run.specs.Stopping.{Stops};
-ghost use Rattle.batch_run.specs.Diffusions.{AreNext, sources_to_come};
-ghost use Rattle.batch_run.specs.Reports.{ReportedAllOrPrefix, accounts_due};
+ghost use Rattle.batch_run.specs.Batches.{AreNextAt, ReportedAccounts, StopsOver};
 
 use crate::batch::BatchOver;
 use crate::solve::queue::{DiffusionQueue, next_labels};
@@ -24,21 +22,14 @@ pub(crate) fn merge_all<A: PathAlgebra, R: Threads + Wait, T: Gate, O: Watcher>(
     watcher: &mut O,
 ) -> Result<Labels<A::Value>, GroupFault>
     requires place { i < length (asked_of batch.now.questions.now).questions }
-    requires ready { AreNext (A.meaning batch.now.algebra) batch.now.run.now.settings.now
-        batch.now.graph.now (sources_to_come (asked_of batch.now.questions.now).questions i 0)
-        queue.old }
+    requires ready { AreNextAt A.meaning batch.now i 0 queue.old }
     ensures labels { IfOk result (λ labels. (default : Question) →
         AreBest (A.meaning batch.now.algebra) batch.now.graph.now (sources_of
         (slice_index_or (asked_of batch.now.questions.now).questions i default)) labels) }
-    ensures ready { OnOk result (AreNext (A.meaning batch.now.algebra)
-        batch.now.run.now.settings.now batch.now.graph.now (sources_to_come (asked_of
-        batch.now.questions.now).questions (i + 1) 0) queue.new) }
-    ensures stops { IfErr result (Stops A.meaning batch.now.algebra batch.now.graph.now
-        batch.now.run.now.settings.now (T.may_answer batch.now.run.now.gate.now)) }
-    ensures reported { (default : Question) → ReportedAllOrPrefix (A.meaning batch.now.algebra)
-        batch.now.run.now.settings.now batch.now.graph.now O.may_become (accounts_due false (i + 1)
-        (slice_index_or (asked_of batch.now.questions.now).questions i default)) watcher.old
-        watcher.new result }
+    ensures ready { OnOk result (AreNextAt A.meaning batch.now (i + 1) 0 queue.new) }
+    ensures stops { IfErr result (StopsOver A.meaning T.may_answer batch.now) }
+    ensures reported { ReportedAccounts A.meaning batch.now i O.may_become watcher.old watcher.new
+        result }
 {
     laws_hold(batch.algebra);
     let sources = batch.questions.sources(i);

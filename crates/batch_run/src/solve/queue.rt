@@ -2,15 +2,15 @@
 ghost use Rattle.std.specs.Prelude.{◌≡◌, ◌≤◌, ◌+◌, [], ◌∷◌, length, IfOk, IfErr, OnOk, OnErr};
 ghost use Rattle.path_algebra.specs.Walks.{AreBest};
 ghost use Rattle.road_files.specs.Asked.{asked_of};
-ghost use Rattle.batch_run.specs.Stopping.{Stops};
-ghost use Rattle.batch_run.specs.Diffusions.{AreNext, HasSource, IsGatheredOver, sources_to_come};
+ghost use Rattle.batch_run.specs.Batches.{AreNextAt, StopsOver};
+ghost use Rattle.batch_run.specs.Diffusions.{HasSource, IsGatheredOver, sources_to_come};
 ghost use Rattle.batch_run.specs.Reports.{Account, Reported};
 
 use crate::batch::BatchOver;
 use crate::solve::diffusion::GatheredDiffusion;
 use crate::solve::group::run_together;
 use crate::solve::upcoming::upcoming;
-use crate::watcher::{Report, Watcher};
+use crate::watcher::{Progress, Watcher};
 use path_algebra::{Labels, PathAlgebra};
 use road_graph::{Graph, Vertex};
 use shard_part::Plan;
@@ -33,15 +33,10 @@ fn refill<A: PathAlgebra, R: Threads + Wait, T: Gate>(
     j: usize,
 ) -> Result<(), GroupFault>
     requires source { HasSource (asked_of batch.now.questions.now).questions i j }
-    requires ready { AreNext (A.meaning batch.now.algebra) batch.now.run.now.settings.now
-        batch.now.graph.now (sources_to_come (asked_of batch.now.questions.now).questions i j)
-        queue.old }
+    requires ready { AreNextAt A.meaning batch.now i j queue.old }
     ensures some { OnOk result (1 ≤ length queue.new.waiting.items) }
-    ensures ready { OnOk result (AreNext (A.meaning batch.now.algebra)
-        batch.now.run.now.settings.now batch.now.graph.now (sources_to_come (asked_of
-        batch.now.questions.now).questions i j) queue.new) }
-    ensures stops { IfErr result (Stops A.meaning batch.now.algebra batch.now.graph.now
-        batch.now.run.now.settings.now (T.may_answer batch.now.run.now.gate.now)) }
+    ensures ready { OnOk result (AreNextAt A.meaning batch.now i j queue.new) }
+    ensures stops { IfErr result (StopsOver A.meaning T.may_answer batch.now) }
 {
     if !queue.waiting.is_empty() {
         return Ok(());
@@ -64,17 +59,12 @@ fn take_next<A: PathAlgebra, R: Threads + Wait, T: Gate>(
     requires source { HasSource (asked_of batch.now.questions.now).questions i j }
     requires next { sources_to_come (asked_of batch.now.questions.now).questions i j ≡ source ∷
         sources_to_come (asked_of batch.now.questions.now).questions i (j + 1) }
-    requires ready { AreNext (A.meaning batch.now.algebra) batch.now.run.now.settings.now
-        batch.now.graph.now (sources_to_come (asked_of batch.now.questions.now).questions i j)
-        queue.old }
+    requires ready { AreNextAt A.meaning batch.now i j queue.old }
     ensures source { IfOk result (λ d. d.source ≡ source) }
     ensures gathered { IfOk result (IsGatheredOver (A.meaning batch.now.algebra)
         batch.now.run.now.settings.now batch.now.graph.now) }
-    ensures ready { OnOk result (AreNext (A.meaning batch.now.algebra)
-        batch.now.run.now.settings.now batch.now.graph.now (sources_to_come (asked_of
-        batch.now.questions.now).questions i (j + 1)) queue.new) }
-    ensures stops { IfErr result (Stops A.meaning batch.now.algebra batch.now.graph.now
-        batch.now.run.now.settings.now (T.may_answer batch.now.run.now.gate.now)) }
+    ensures ready { OnOk result (AreNextAt A.meaning batch.now i (j + 1) queue.new) }
+    ensures stops { IfErr result (StopsOver A.meaning T.may_answer batch.now) }
 {
     refill(batch, queue, i, j)?;
     let Some(next) = queue.waiting.pop() else {
@@ -95,16 +85,11 @@ pub(crate) fn next_labels<A: PathAlgebra, R: Threads + Wait, T: Gate, O: Watcher
     requires source { HasSource (asked_of batch.now.questions.now).questions i j }
     requires next { sources_to_come (asked_of batch.now.questions.now).questions i j ≡ source ∷
         sources_to_come (asked_of batch.now.questions.now).questions i (j + 1) }
-    requires ready { AreNext (A.meaning batch.now.algebra) batch.now.run.now.settings.now
-        batch.now.graph.now (sources_to_come (asked_of batch.now.questions.now).questions i j)
-        queue.old }
+    requires ready { AreNextAt A.meaning batch.now i j queue.old }
     ensures labels { IfOk result (λ labels. AreBest (A.meaning batch.now.algebra)
         batch.now.graph.now (source ∷ []) labels) }
-    ensures ready { OnOk result (AreNext (A.meaning batch.now.algebra)
-        batch.now.run.now.settings.now batch.now.graph.now (sources_to_come (asked_of
-        batch.now.questions.now).questions i (j + 1)) queue.new) }
-    ensures stops { IfErr result (Stops A.meaning batch.now.algebra batch.now.graph.now
-        batch.now.run.now.settings.now (T.may_answer batch.now.run.now.gate.now)) }
+    ensures ready { OnOk result (AreNextAt A.meaning batch.now i (j + 1) queue.new) }
+    ensures stops { IfErr result (StopsOver A.meaning T.may_answer batch.now) }
     ensures reported { OnOk result (Reported (A.meaning batch.now.algebra)
         batch.now.run.now.settings.now batch.now.graph.now O.may_become (Account (i + 1) source ∷
         []) watcher.old watcher.new) }
@@ -117,7 +102,7 @@ pub(crate) fn next_labels<A: PathAlgebra, R: Threads + Wait, T: Gate, O: Watcher
         labels,
         tally,
     } = next;
-    let report = Report::Gathered {
+    let report = Progress::Gathered {
         question,
         source,
         tally,

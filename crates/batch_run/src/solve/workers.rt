@@ -3,8 +3,7 @@ ghost use Rattle.std.specs.Prelude.{◌≡◌, ◌+◌, ◌<◌, [], ◌∷◌, 
 ghost use Rattle.road_graph.specs.GraphData.{HasVertex};
 ghost use Rattle.path_algebra.specs.Walks.{AreBest};
 ghost use Rattle.road_files.specs.Asked.{AreQuestionsOf, Question, asked_of, sources_of};
-ghost use Rattle.batch_run.specs.Stopping.{Stops};
-ghost use Rattle.batch_run.specs.Diffusions.{AreNext, sources_to_come};
+ghost use Rattle.batch_run.specs.Batches.{AreNextAt, ReportedAccounts, StopsBatch, StopsOver};
 ghost use Rattle.batch_run.specs.Reports.{ReportedAllOrPrefix, accounts_due};
 ghost use Rattle.question_solvers.specs.Solved.{IsAnswerBetween, IsSolvedFor};
 ghost use Rattle.batch_run.specs.Solvers.{IsWorkerReady};
@@ -88,20 +87,13 @@ fn solve_by_workers<A: PathAlgebra, R: Threads + Wait, T: Gate, O: Watcher>(
     watcher: &mut O,
 ) -> Result<Solved<A::Value>, GroupFault>
     requires place { i < length (asked_of batch.now.questions.now).questions }
-    requires ready { AreNext (A.meaning batch.now.algebra) batch.now.run.now.settings.now
-        batch.now.graph.now (sources_to_come (asked_of batch.now.questions.now).questions i 0)
-        queue.old }
+    requires ready { AreNextAt A.meaning batch.now i 0 queue.old }
     ensures solved { IfOk result (IsSolvedFor (A.meaning batch.now.algebra) batch.now.graph.now
         (asked_of batch.now.questions.now) i) }
-    ensures ready { OnOk result (AreNext (A.meaning batch.now.algebra)
-        batch.now.run.now.settings.now batch.now.graph.now (sources_to_come (asked_of
-        batch.now.questions.now).questions (i + 1) 0) queue.new) }
-    ensures stops { IfErr result (Stops A.meaning batch.now.algebra batch.now.graph.now
-        batch.now.run.now.settings.now (T.may_answer batch.now.run.now.gate.now)) }
-    ensures reported { (default : Question) → ReportedAllOrPrefix (A.meaning batch.now.algebra)
-        batch.now.run.now.settings.now batch.now.graph.now O.may_become (accounts_due false (i + 1)
-        (slice_index_or (asked_of batch.now.questions.now).questions i default)) watcher.old
-        watcher.new result }
+    ensures ready { OnOk result (AreNextAt A.meaning batch.now (i + 1) 0 queue.new) }
+    ensures stops { IfErr result (StopsOver A.meaning T.may_answer batch.now) }
+    ensures reported { ReportedAccounts A.meaning batch.now i O.may_become watcher.old watcher.new
+        result }
 {
     let labels = merge_all(batch, queue, i, watcher)?;
     match solve_by_labels(batch, i, labels) {
@@ -159,8 +151,7 @@ pub(crate) fn solve_next_by_workers<A: PathAlgebra, R: Threads + Wait, T: Gate, 
     ensures some { OnOk result (IsSome solver.new.last) }
     ensures solved { OnOk result (IfSome solver.new.last (IsSolvedFor (A.meaning batch.now.algebra)
         solver.old.graph (asked_of batch.now.questions.now) i)) }
-    ensures stops { IfErr result (Stops A.meaning batch.now.algebra solver.old.graph
-        batch.now.run.now.settings.now (T.may_answer batch.now.run.now.gate.now)) }
+    ensures stops { IfErr result (StopsBatch A.meaning T.may_answer batch.now solver.old.graph) }
     ensures reported { (default : Question) → ReportedAllOrPrefix (A.meaning batch.now.algebra)
         batch.now.run.now.settings.now solver.old.graph O.may_become (accounts_due false (i + 1)
         (slice_index_or (asked_of batch.now.questions.now).questions i default)) watcher.old

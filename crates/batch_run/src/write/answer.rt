@@ -9,14 +9,14 @@ ghost use Rattle.batch_run.specs.Solvers.{graph_of, last_of};
 
 use crate::batch::Batch;
 use crate::solve::Solver;
-use crate::write::lines::{write_source, write_sources};
-use answer_text::write_answer;
+use crate::write::lines::write_lines;
+use answer_text::{write_answer, write_source_line, write_sources_line};
 use path_algebra::{Labels, PathAlgebra};
 use question_solvers::Solved;
 use road_files::Questions;
 use road_graph::Vertex;
-use road_text::{RoadWrite, WriteFault};
 use route_tree::Tree;
+use text_lines::{RoadWrite, WriteFault};
 
 /// Writes the right answer to a question from one source to all vertices, by the tree of its best labels.
 fn answer_source<A: PathAlgebra, W: RoadWrite>(
@@ -32,7 +32,9 @@ fn answer_source<A: PathAlgebra, W: RoadWrite>(
         (W.seen out.old) (W.seen out.new) result }
 {
     let (labels, tree) = solved;
-    write_source(out, algebra, solver.vertices(), source, labels, tree)
+    let n = solver.vertices();
+    write_source_line(out, source)?;
+    write_lines(out, algebra, n, labels, tree)
 }
 
 /// Writes the right answer to a question from several sources to all vertices, by the tree of its best labels.
@@ -49,7 +51,9 @@ fn answer_sources<A: PathAlgebra, W: RoadWrite>(
         (W.seen out.old) (W.seen out.new) result }
 {
     let (labels, tree) = solved;
-    write_sources(out, algebra, solver.vertices(), sources, labels, tree)
+    let n = solver.vertices();
+    write_sources_line(out, sources)?;
+    write_lines(out, algebra, n, labels, tree)
 }
 
 /// Writes the right answer to the question at a place, by the tree of its best labels.

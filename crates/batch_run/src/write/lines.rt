@@ -1,16 +1,15 @@
-//! Writes answers a line at a time: one of all vertices takes no memory but its labels and its tree.
-ghost use Rattle.std.specs.Prelude.{◌≡◌, ℕ, Option, length};
-ghost use Rattle.road_text.specs.Texts.{text_of};
-ghost use Rattle.road_text.specs.Written.{WritesText};
-ghost use Rattle.answer_text.specs.AnswerText.{answer_text, vertex_lines};
-ghost use Rattle.answer_text.specs.AnswerData.{SourceAnswer, SourcesAnswer};
+//! Writes the lines of vertices one at a time: they take no memory but labels and their tree.
+ghost use Rattle.std.specs.Prelude.{◌≡◌, Option, length};
+ghost use Rattle.text_lines.specs.Texts.{text_of};
+ghost use Rattle.text_lines.specs.Written.{WritesText};
+ghost use Rattle.answer_text.specs.AnswerText.{vertex_lines};
 ghost use Rattle.batch_run.specs.WrittenLines.{written_line, written_lines};
 
-use answer_text::{Reached, VertexLine, write_source_line, write_sources_line, write_vertex_line};
+use answer_text::{Reached, VertexLine, write_vertex_line};
 use path_algebra::{Labels, PathAlgebra};
 use road_graph::Vertex;
-use road_text::{RoadWrite, WriteFault};
 use route_tree::Tree;
+use text_lines::{RoadWrite, WriteFault};
 
 /// What the line of a vertex says; nothing if no walk reaches it.
 fn line_of<A: PathAlgebra>(
@@ -35,7 +34,7 @@ fn line_of<A: PathAlgebra>(
 }
 
 /// Writes the line of each of n vertices, in order.
-fn write_lines<A: PathAlgebra, W: RoadWrite>(
+pub(crate) fn write_lines<A: PathAlgebra, W: RoadWrite>(
     to: &mut W,
     algebra: A,
     n: u32,
@@ -56,40 +55,4 @@ fn write_lines<A: PathAlgebra, W: RoadWrite>(
         write_vertex_line(to, &mut text, u64::from(v) + 1, line)?;
     }
     Ok(())
-}
-
-/// Writes the answer to a question from one source.
-pub(crate) fn write_source<A: PathAlgebra, W: RoadWrite>(
-    to: &mut W,
-    algebra: A,
-    n: u32,
-    source: Vertex,
-    labels: &Labels<A::Value>,
-    tree: &Tree,
-) -> Result<(), WriteFault>
-    requires labels { length labels.now ≡ n }
-    requires hops { length tree.now.hops ≡ n }
-    ensures { WritesText (W.seen to.old) (W.seen to.new) (answer_text (SourceAnswer source
-        (written_lines (A.meaning algebra) labels.now tree.now n))) result }
-{
-    write_source_line(to, source)?;
-    write_lines(to, algebra, n, labels, tree)
-}
-
-/// Writes the answer to a question from several sources.
-pub(crate) fn write_sources<A: PathAlgebra, W: RoadWrite>(
-    to: &mut W,
-    algebra: A,
-    n: u32,
-    sources: &[Vertex],
-    labels: &Labels<A::Value>,
-    tree: &Tree,
-) -> Result<(), WriteFault>
-    requires labels { length labels.now ≡ n }
-    requires hops { length tree.now.hops ≡ n }
-    ensures { WritesText (W.seen to.old) (W.seen to.new) (answer_text (SourcesAnswer sources.now
-        (written_lines (A.meaning algebra) labels.now tree.now n))) result }
-{
-    write_sources_line(to, sources)?;
-    write_lines(to, algebra, n, labels, tree)
 }

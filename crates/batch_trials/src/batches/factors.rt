@@ -6,7 +6,7 @@ use super::{
     assert_ended, run_two,
 };
 use crate::tolls::Tolls;
-use batch_run::{Factoring, File, OpenGate, Refusal, Report, RunFault, Settings};
+use batch_run::{Factoring, File, OpenGate, Progress, Refusal, RunFault, Settings};
 use path_algebra::{Hops, PathAlgebra, Shortest, Widest, Within};
 use std::process::Abort;
 use std::sync::Wait;
@@ -89,8 +89,8 @@ fn factors_within_a_limit(rt: HostRuntime) {
 }
 
 /// The report of what became of factoring the graph.
-fn told(became: Factoring) -> Report {
-    Report::Factored { became }
+fn told(became: Factoring) -> Progress {
+    Progress::Factored { became }
 }
 
 #[test]

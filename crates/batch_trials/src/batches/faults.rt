@@ -5,11 +5,11 @@ use batch_run::{
     File, OpenGate, Run, RunFault, Settings, Unwatched, fault_of_run, run_bundle, run_pair,
 };
 use path_algebra::Shortest;
-use road_text::{Plain, RoadRead, RoadWrite};
 use std::alloc::Global;
 use std::process::Abort;
 use std::sync::Wait;
 use std::thread::Threads;
+use text_lines::{Plain, RoadRead, RoadWrite};
 use text_trials::{Pieces, Sheet};
 
 /// The outcome of two inputs.

@@ -3,15 +3,15 @@ use super::gates::Closed;
 use super::workers::{SEVERAL, SLOW};
 use super::{FIVE, FROM_ONE, PAIRS};
 use crate::texts::joined;
-use batch_run::{Gate, OpenGate, Report, Run, RunFault, Settings, Watcher, run_bundle, run_pair};
+use batch_run::{Gate, OpenGate, Progress, Run, RunFault, Settings, Watcher, run_bundle, run_pair};
 use path_algebra::{PathAlgebra, Reach, Shortest};
 use road_graph::Vertex;
-use road_text::Plain;
 use shard_part::Tally;
 use std::alloc::Global;
 use std::process::Abort;
 use std::sync::Wait;
 use std::thread::Threads;
+use text_lines::Plain;
 
 /// Three questions, from three vertices.
 const THREE: &str = "p aux sp ss 3\ns 1\ns 4\ns 5\n";
@@ -19,14 +19,14 @@ const THREE: &str = "p aux sp ss 3\ns 1\ns 4\ns 5\n";
 /// Keeps all reports, and notes if memory for one was refused.
 #[derive(Drop)]
 pub(super) struct Notes {
-    reports: Vec<Report>,
+    reports: Vec<Progress>,
     full: bool,
 }
 
 impl Watcher for Notes {
     ghost may_become = { λ _ _ _. Unit {0} };
 
-    fn report(&mut self, report: Report) {
+    fn report(&mut self, report: Progress) {
         if self.reports.push(report).is_err() {
             self.full = true;
         }
@@ -43,16 +43,16 @@ impl Notes {
 }
 
 /// The report that so many questions over so many diffusions were read.
-pub(super) fn begun(questions: u32, diffusions: u64) -> Report {
-    Report::Begun {
+pub(super) fn begun(questions: u32, diffusions: u64) -> Progress {
+    Progress::Begun {
         questions,
         diffusions,
     }
 }
 
 /// The report of a diffusion that counted the same four times.
-fn gathered(question: u32, source: u32, count: u64) -> Report {
-    Report::Gathered {
+fn gathered(question: u32, source: u32, count: u64) -> Progress {
+    Progress::Gathered {
         question,
         source: Vertex(source),
         tally: Tally {
@@ -66,8 +66,8 @@ fn gathered(question: u32, source: u32, count: u64) -> Report {
 }
 
 /// The report that so many questions are answered.
-pub(super) fn answered(questions: u32) -> Report {
-    Report::Answered { questions }
+pub(super) fn answered(questions: u32) -> Progress {
+    Progress::Answered { questions }
 }
 
 /// How a pair of inputs ends at a gate, and what it reports.
@@ -116,7 +116,7 @@ fn watch_bundle<A: PathAlgebra, R: Threads + Wait + Sync>(
 }
 
 /// Asserts what was reported.
-pub(super) fn assert_notes(rt: &impl Abort, notes: &Notes, wanted: &[Report]) {
+pub(super) fn assert_notes(rt: &impl Abort, notes: &Notes, wanted: &[Progress]) {
     assert!(rt; !notes.full);
     assert_eq!(rt; notes.reports.as_slice(), wanted);
 }
@@ -127,7 +127,7 @@ pub(super) fn assert_reports<A: PathAlgebra>(
     algebra: A,
     questions: &str,
     settings: &Settings,
-    wanted: &[Report],
+    wanted: &[Progress],
 ) {
     let inputs = (FIVE, questions);
     let (ended, notes) = watch_pair(rt, rt.alloc(), algebra, inputs, settings, &OpenGate);
@@ -146,7 +146,7 @@ fn assert_reports_before<T: Gate>(
     settings: &Settings,
     gate: &T,
     number: u8,
-    wanted: &[Report],
+    wanted: &[Progress],
 ) {
     let (ended, notes) = watch_pair(rt, rt.alloc(), Shortest, inputs, settings, gate);
     match ended {

@@ -56,6 +56,16 @@ fn pairs_from_one_source(rt: HostRuntime) {
     );
 }
 
+/// With a width of 3 a second group is solved by the searchers of the first.
+#[test]
+fn pairs_that_come_again(rt: HostRuntime) {
+    assert_each(
+        &rt,
+        "p aux sp p2p 8\nq 1 4\nq 1 2\nq 3 4\nq 4 1\nq 1 4\nq 3 2\nq 3 4\nq 5 4\n",
+        "p ans p2p 8 shortest\nq 1 4\nd 8 3\nr 1 3 2 4\nq 1 2\nd 3 2\nr 1 3 2\nq 3 4\nd 7 2\nr 3 2 4\nq 4 1\nu\nq 1 4\nd 8 3\nr 1 3 2 4\nq 3 2\nd 2 1\nr 3 2\nq 3 4\nd 7 2\nr 3 2 4\nq 5 4\nd 11 4\nr 5 1 3 2 4\n",
+    );
+}
+
 #[test]
 fn the_same_sources_and_others(rt: HostRuntime) {
     let nearest = "d 1 3 1 5\nd 2 6 3 3\nd 3 4 2 1\nd 4 0 0 0\nd 5 0 0 0\n";

@@ -12,12 +12,12 @@ use graph_text::read_gr;
 use path_algebra::{PathAlgebra, Reach, Shortest, Widest};
 use post_floor::Floor;
 use road_graph::{Graph, Vertex};
-use road_text::Plain;
 use shard_part::{Plan, QueueOrder};
 use station::{Station, open_diffusion};
 use std::process::Abort;
 use std::sync::Wait;
 use std::thread::Threads;
+use text_lines::Plain;
 
 /// Three pairs, of which two have the same source.
 const THREE_PAIRS: &str = "p aux sp p2p 3\nq 1 4\nq 1 2\nq 5 2\n";

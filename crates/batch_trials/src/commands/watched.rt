@@ -4,10 +4,10 @@ use crate::texts::joined;
 use batch_run::{BatchInput, BundleInput, PairInput, Settings};
 use path_algebra::AlgebraChoice;
 use program::{Task, Watching, answer};
-use road_text::{Plain, RoadRead};
 use std::process::Abort;
 use std::sync::Wait;
 use std::thread::Threads;
+use text_lines::{Plain, RoadRead};
 use text_trials::Sheet;
 
 /// Questions from three of the vertices.

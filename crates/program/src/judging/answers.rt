@@ -14,10 +14,10 @@ use answer_text::{Answers, read_answers};
 use batch_run::{BatchInput, File, PairInput, RunFault, SETTINGS, fault_in, fault_of_run};
 use path_algebra::{AlgebraChoice, AlgebraName, with_algebra};
 use road_files::Questions;
-use road_graph::{Graph, Memory};
-use road_text::{MEMORY, RoadRead};
+use road_graph::{Memory, OutGraph};
 use std::alloc::Global;
 use std::thread::Threads;
+use text_lines::{MEMORY, RoadRead};
 
 /// A name in the header of answers that the program has no algebra for.
 const NO_SUCH_NAME: u8 = 31;
@@ -46,7 +46,7 @@ fn algebra_named(name: AlgebraName, limit: Option<u64>) -> Result<AlgebraChoice,
 /// A graph, questions over it, and answers for it, as they were read.
 #[derive(Drop)]
 struct Inputs {
-    graph: Graph,
+    graph: OutGraph,
     questions: Questions,
     answers: Answers,
 }
@@ -98,7 +98,7 @@ fn read_inputs<G: RoadRead, Q: RoadRead, S: RoadRead>(
         graph: graph_in,
         questions: questions_in,
     };
-    let (graph, questions): (Graph, Questions) = match pair.read(alloc) {
+    let (graph, questions): (OutGraph, Questions) = match pair.read(alloc) {
         Ok(read) => read,
         Err(fault) => return Err(fault),
     };

@@ -6,11 +6,11 @@ ghost use Rattle.program.specs.Verdicts.{verdict_text, verdict_status};
 
 use answer_check::Verdict;
 use batch_run::RunFault;
-use fault_reports::{report, show};
-use road_text::{Line, RoadWrite, push_spaced};
+use fault_reports::{report_fault, write_and_flush};
+use text_lines::{Line, RoadWrite, push_spaced};
 
 /// The line of a verdict.
-#[tactic(auto, unfolding(road_text::specs::Texts::spelled))]
+#[tactic(auto, unfolding(text_lines::specs::Texts::spelled))]
 fn line_of_verdict(verdict: Verdict) -> Line
     ensures { result.bytes ≡ verdict_text verdict }
 {
@@ -38,7 +38,7 @@ fn line_of_verdict(verdict: Verdict) -> Line
 pub fn write_verdict<W: RoadWrite>(to: &mut W, verdict: Verdict) -> Result<(), RunFault>
     ensures { Reaches (verdict_text verdict) (W.seen to.old) (W.seen to.new) result }
 {
-    show(to, line_of_verdict(verdict).as_str().as_bytes())
+    write_and_flush(to, line_of_verdict(verdict).as_str().as_bytes())
 }
 
 /// The exit status of a verdict.
@@ -62,10 +62,10 @@ pub(crate) fn end_check<W: RoadWrite, E: RoadWrite>(
 {
     let verdict = match judged {
         Ok(verdict) => verdict,
-        Err(fault) => return report(errors, fault),
+        Err(fault) => return report_fault(errors, fault),
     };
     match write_verdict(out, verdict) {
         Ok(()) => status_of_verdict(verdict),
-        Err(fault) => report(errors, fault),
+        Err(fault) => report_fault(errors, fault),
     }
 }

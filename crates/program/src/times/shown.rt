@@ -6,7 +6,7 @@ ghost use Rattle.program.specs.Watching.{IsAdded};
 
 use crate::files::FileSystem;
 use crate::host::Host;
-use road_text::{Line, RoadWrite, push_number, write_bytes};
+use text_lines::{Line, RoadWrite, push_number, write_bytes};
 
 /// How long a command read, solved and wrote, in milliseconds.
 #[derive(Clone, Copy, Debug, PartialEq, Eq)]

@@ -3,8 +3,8 @@ ghost use Rattle.std.specs.Prelude.{◌≡◌, refl};
 
 use crate::times::phases::Phase;
 use crate::times::stopwatch::Stopwatch;
-use road_text::{RoadWrite, WriteFault};
 use std::time::Clock;
+use text_lines::{RoadWrite, WriteFault};
 
 /// An output that tells a stopwatch when solving ends and an answer is written.
 #[derive(Drop)]

@@ -1,15 +1,15 @@
 //! The text of accounts: what each diffusion of a batch counted.
 ghost use Rattle.std.specs.Prelude.{◌≡◌};
-ghost use Rattle.road_text.specs.Written.{WritesText};
+ghost use Rattle.text_lines.specs.Written.{WritesText};
 ghost use Rattle.program.specs.Accounts.{account_of, account_text, counts_text, heading_text, owner_text};
 
-use batch_run::Report;
+use batch_run::Progress;
 use path_algebra::AlgebraName;
-use road_text::{Line, RoadWrite, WriteFault, push_spaced, write_bytes};
 use shard_part::Tally;
+use text_lines::{Line, RoadWrite, WriteFault, push_spaced, write_bytes};
 
 /// The header before the accounts of so many diffusions.
-#[tactic(auto, unfolding(road_text::specs::Texts::spelled))]
+#[tactic(auto, unfolding(text_lines::specs::Texts::spelled))]
 fn line_of_heading(diffusions: u64, name: AlgebraName) -> Line
     ensures { result.bytes ≡ heading_text diffusions name }
 {
@@ -78,17 +78,17 @@ fn write_account<W: RoadWrite>(
 pub(crate) fn write_report<W: RoadWrite>(
     to: &mut W,
     name: AlgebraName,
-    report: &Report,
+    report: &Progress,
 ) -> Result<(), WriteFault>
     ensures { WritesText (W.seen to.old) (W.seen to.new) (account_of name report.now) result }
 {
     match report {
-        Report::Begun { diffusions, .. } => write_heading(to, *diffusions, name),
-        Report::Gathered {
+        Progress::Begun { diffusions, .. } => write_heading(to, *diffusions, name),
+        Progress::Gathered {
             question,
             source,
             tally,
         } => write_account(to, *question, source.0, *tally),
-        Report::Factored { .. } | Report::Answered { .. } => Ok(()),
+        Progress::Factored { .. } | Progress::Answered { .. } => Ok(()),
     }
 }

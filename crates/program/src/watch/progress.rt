@@ -3,8 +3,8 @@ ghost use Rattle.std.specs.Prelude.{◌≡◌};
 ghost use Rattle.program.specs.Progress.{due_line, hundredths, is_due, line_of_factoring, line_of_progress, shown_at};
 ghost use Rattle.program.specs.Watching.{IsAdded};
 
-use batch_run::{Factoring, Refusal, Report};
-use road_text::{Line, RoadWrite, push_number, write_bytes};
+use batch_run::{Factoring, Progress, Refusal};
+use text_lines::{Line, RoadWrite, push_number, write_bytes};
 
 /// How many whole hundredths of all questions so many are.
 fn hundredths(answered: u32, all: u32) -> u64
@@ -69,13 +69,13 @@ fn show_factoring<E: RoadWrite>(errors: &mut E, became: Factoring)
 }
 
 /// Shows what a report says of so many questions.
-pub(crate) fn show_report<E: RoadWrite>(errors: &mut E, all: u32, report: &Report)
+pub(crate) fn show_report<E: RoadWrite>(errors: &mut E, all: u32, report: &Progress)
     ensures { IsAdded (E.seen errors.old) (E.seen errors.new) (shown_at all report.now) }
 {
     match report {
-        Report::Begun { questions, .. } => show_progress(errors, 0, *questions),
-        Report::Factored { became } => show_factoring(errors, *became),
-        Report::Gathered { .. } => {}
-        Report::Answered { questions } => show_progress(errors, *questions, all),
+        Progress::Begun { questions, .. } => show_progress(errors, 0, *questions),
+        Progress::Factored { became } => show_factoring(errors, *became),
+        Progress::Gathered { .. } => {}
+        Progress::Answered { questions } => show_progress(errors, *questions, all),
     }
 }

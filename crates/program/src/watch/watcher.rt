@@ -7,13 +7,13 @@ ghost use Rattle.program.specs.Watching.{HasAccounts, IsAddedIf, Notes};
 use crate::times::{Phase, Phases};
 use crate::watch::accounts::write_report;
 use crate::watch::progress::show_report;
-use batch_run::{Report, Watcher};
+use batch_run::{Progress, Watcher};
 use path_algebra::AlgebraName;
-use road_text::RoadWrite;
+use text_lines::RoadWrite;
 
 /// A watcher of a batch.
 #[derive(Drop)]
-pub(crate) struct Watch<'a, 'm, A, E, M> {
+pub(crate) struct CommandWatcher<'a, 'm, A, E, M> {
     /// The name of the batch's algebra.
     pub name: AlgebraName,
     /// Where accounts are written, if they are wanted.
@@ -31,11 +31,11 @@ pub(crate) struct Watch<'a, 'm, A, E, M> {
 }
 
 /// Adds to the accounts what a report says, and says whether they are lost.
-fn note<A: RoadWrite>(
+fn add_to_accounts<A: RoadWrite>(
     accounts: &mut Option<A>,
     lost: bool,
     name: AlgebraName,
-    report: &Report,
+    report: &Progress,
 ) -> bool
     ensures { HasAccounts A.seen accounts.old accounts.new lost result
         (account_of name report.now) }
@@ -50,17 +50,17 @@ fn note<A: RoadWrite>(
 }
 
 /// How many questions there are, after a report.
-fn all_after(all: u32, report: &Report) -> u32
+fn all_after(all: u32, report: &Progress) -> u32
     ensures { result ≡ all_after all report.now }
 {
     match report {
-        Report::Begun { questions, .. } => *questions,
+        Progress::Begun { questions, .. } => *questions,
         _ => all,
     }
 }
 
 /// Shows what a report says of so many questions, if that is wanted.
-fn show<E: RoadWrite>(errors: &mut E, progress: bool, all: u32, report: &Report)
+fn show_if_wanted<E: RoadWrite>(errors: &mut E, progress: bool, all: u32, report: &Progress)
     ensures { IsAddedIf E.seen progress errors.old errors.new (shown_at all report.now) }
 {
     if progress {
@@ -69,19 +69,19 @@ fn show<E: RoadWrite>(errors: &mut E, progress: bool, all: u32, report: &Report)
 }
 
 /// Takes note that the next question is solved, once the questions were read or one was answered.
-fn note_phase<M: Phases>(phases: &M, report: &Report) {
+fn note_phase<M: Phases>(phases: &M, report: &Progress) {
     match report {
-        Report::Factored { .. } | Report::Gathered { .. } => {}
-        Report::Begun { .. } | Report::Answered { .. } => phases.enter(Phase::Solving),
+        Progress::Factored { .. } | Progress::Gathered { .. } => {}
+        Progress::Begun { .. } | Progress::Answered { .. } => phases.enter(Phase::Solving),
     }
 }
 
-impl<A: RoadWrite, E: RoadWrite, M: Phases> Watcher for Watch<'_, '_, A, E, M> {
+impl<A: RoadWrite, E: RoadWrite, M: Phases> Watcher for CommandWatcher<'_, '_, A, E, M> {
     ghost may_become = { Notes A.seen E.seen };
 
-    fn report(&mut self, report: Report) {
-        self.lost = note(self.accounts, self.lost, self.name, &report);
-        show(self.errors, self.progress, self.all, &report);
+    fn report(&mut self, report: Progress) {
+        self.lost = add_to_accounts(self.accounts, self.lost, self.name, &report);
+        show_if_wanted(self.errors, self.progress, self.all, &report);
         self.all = all_after(self.all, &report);
         note_phase(self.phases, &report);
     }

@@ -1,14 +1,14 @@
-use Rattle.std.proofs.Common.{rules, refl, ap, subst, get_or, Ok, Err, ◌+◌, ◌∙◌}
+use Rattle.std.proofs.Common.{rules, refl, ap, subst, get_or, Ok, Err, ◌∙◌}
 use Rattle.std.proofs.lemmas.Result.{err_from_is_err_and}
 use Rattle.road_graph.specs.GraphData.{GraphData}
 use Rattle.road_files.specs.Asked.{asked_of, FromSource}
 use Rattle.answer_text.specs.AnswerText.{answer_text}
 use Rattle.batch_run.specs.Answered.{WroteNext}
-use Rattle.batch_run.specs.Causes.{MayStop}
-use Rattle.batch_run.specs.Stopping.{Stops}
+use Rattle.batch_run.specs.Batches.{MayStopBatch}
 use Rattle.batch_run.specs.Reports.{count_diffusions}
-use Rattle.batch_run.specs.Solvers.{MayTell, graph_of, is_plain}
-use Rattle.batch_run.proofs.Progress.{start, answered, stopped_first, stopped_at, stopped_for_memory, all_answered}
+use Rattle.batch_run.specs.Factored.{MayTell}
+use Rattle.batch_run.specs.Solvers.{graph_of, is_plain}
+use Rattle.batch_run.proofs.AnsweredFirst.{start, answered, stopped_first, stopped_at, stopped_for_memory, all_answered}
 use Rattle.batch_run.proofs.Reporting.{begun as reports_begun}
 use Rattle.batch_run.proofs.Telling.{some_told}
 use Rattle.batch_run.proofs.WrittenReports.{at_least, only_begun, unreported, until_all, until_ended, until_first, until_next, until_stopped}
@@ -21,7 +21,7 @@ pub returns-in_err-begin-clause-answered : goal.returns-in_err-begin-clause-answ
 returns-in_err-begin-clause-answered g c =
     let fault = err_from_is_err_and c.from_residual.result c.from_residual.ensures.1 in
     rw fault.1 (stopped_first (g.A.PathAlgebra.meaning c.args.batch.now.algebra) (graph_of c.args.solver.now) (asked_of c.args.batch.now.questions.now)
-    (MayStop (is_plain c.args.solver.now) (Stops g.A.PathAlgebra.meaning c.args.batch.now.algebra (graph_of c.args.solver.now) c.args.batch.now.run.now.settings.now (g.T.Gate.may_answer c.args.batch.now.run.now.gate.now))) _ _ fault.0 fault.2 (rw fault.2 tt) c.in_err-begin.ensures.wrote)
+    (MayStopBatch g.A.PathAlgebra.meaning g.T.Gate.may_answer c.args.batch.now c.args.solver.now) _ _ fault.0 fault.2 (rw fault.2 tt) c.in_err-begin.ensures.wrote)
 
 pub returns-in_err-begin-clause-reported : goal.returns-in_err-begin-clause-reported
 returns-in_err-begin-clause-reported g c =
@@ -32,7 +32,7 @@ pub returns-in_err-start-clause-answered : goal.returns-in_err-start-clause-answ
 returns-in_err-start-clause-answered g c =
     let fault = err_from_is_err_and c.from_residual-in_err-start.result c.from_residual-in_err-start.ensures.1 in
     rw fault.1 (stopped_for_memory (g.A.PathAlgebra.meaning c.args.batch.now.algebra) (graph_of c.args.solver.now) (asked_of c.args.batch.now.questions.now)
-    (MayStop (is_plain c.args.solver.now) (Stops g.A.PathAlgebra.meaning c.args.batch.now.algebra (graph_of c.args.solver.now) c.args.batch.now.run.now.settings.now (g.T.Gate.may_answer c.args.batch.now.run.now.gate.now))) _ _ fault.0 fault.2 (rw fault.2 (λ other. absurd (other refl)))
+    (MayStopBatch g.A.PathAlgebra.meaning g.T.Gate.may_answer c.args.batch.now c.args.solver.now) _ _ fault.0 fault.2 (rw fault.2 (λ other. absurd (other refl)))
     (start (g.A.PathAlgebra.meaning c.args.batch.now.algebra) (graph_of c.args.solver.now) (asked_of c.args.batch.now.questions.now) _ _ c.in_ok-begin.ensures.wrote))
 
 pub returns-in_err-start-clause-reported : goal.returns-in_err-start-clause-reported
@@ -50,7 +50,7 @@ pub loop-i-init : goal.loop-i-init
 loop-i-init g c =
     let header = start (g.A.PathAlgebra.meaning c.args.batch.now.algebra) (graph_of c.args.solver.now) (asked_of c.args.batch.now.questions.now) _ _ c.in_ok-begin.ensures.wrote in
     record {
-      progress = header;
+      answered = header;
       ready = c.in_ok-start.ensures.ready;
       same = c.in_ok-start.ensures.same;
       first = until_first (g.A.PathAlgebra.meaning c.args.batch.now.algebra) c.args.batch.now.run.now.settings.now (graph_of c.args.solver.now) (asked_of c.args.batch.now.questions.now) (is_plain c.args.solver.now) (MayTell c.args.solver.now) g.O.Watcher.may_become _ _ c.factoring.result
@@ -66,13 +66,13 @@ loop-i-preserved g c =
     let next = c.in_ok-answer_next.ensures in
     let wrote = subst (λ (r : GraphData). WroteNext (g.A.PathAlgebra.meaning c.args.batch.now.algebra) r (get_or (asked_of c.args.batch.now.questions.now).questions c.loop-i.i (FromSource 0))
     (g.W.RoadWrite.seen c.loop-i.out) (g.W.RoadWrite.seen c.answer_next.new.out) (Ok tt)) was.same.graph (next.wrote (FromSource 0)) in
-    let progress = answered (g.A.PathAlgebra.meaning c.args.batch.now.algebra) (graph_of c.args.solver.now) (asked_of c.args.batch.now.questions.now) c.loop-i.i _ _ _ (search rules) (FromSource 0) was.progress wrote in
+    let first = answered (g.A.PathAlgebra.meaning c.args.batch.now.algebra) (graph_of c.args.solver.now) (asked_of c.args.batch.now.questions.now) c.loop-i.i _ _ _ (search rules) (FromSource 0) was.answered wrote in
     record {
-      progress = progress;
+      answered = first;
       ready = next.ready;
       same = record { graph = next.same.graph ∙ was.same.graph; kind = next.same.kind ∙ was.same.kind };
       first = until_next (g.A.PathAlgebra.meaning c.args.batch.now.algebra) c.args.batch.now.run.now.settings.now (graph_of c.args.solver.now) (asked_of c.args.batch.now.questions.now) (is_plain c.args.solver.now) (MayTell c.args.solver.now) g.O.Watcher.may_become _ _ c.loop-i.i _ _ was.first (FromSource 0) _ _ (answer_text wrote.0) (search rules)
-          (rw (was.same.graph, was.same.kind) at (next.reported (FromSource 0))) wrote.2 progress;
+          (rw (was.same.graph, was.same.kind) at (next.reported (FromSource 0))) wrote.2 first;
     }
 
 pub returns-in_err-answer_next-clause-same : goal.returns-in_err-answer_next-clause-same
@@ -86,8 +86,8 @@ returns-in_err-answer_next-clause-answered g c =
     let fault = err_from_is_err_and c.from_residual-in_err-answer_next.result c.from_residual-in_err-answer_next.ensures.1 in
     let was = c.loop-i.invariant in
     let next = c.in_err-answer_next.ensures in
-    rw (fault.1, fault.2) (stopped_at (g.A.PathAlgebra.meaning c.args.batch.now.algebra) (graph_of c.args.solver.now) (asked_of c.args.batch.now.questions.now) c.loop-i.i _ _ _ (search rules) (FromSource 0) was.progress
-    (MayStop (is_plain c.args.solver.now) (Stops g.A.PathAlgebra.meaning c.args.batch.now.algebra (graph_of c.args.solver.now) c.args.batch.now.run.now.settings.now (g.T.Gate.may_answer c.args.batch.now.run.now.gate.now))) c.in_err-answer_next.field-0.0 (rw (was.same.graph, was.same.kind) at next.kind)
+    rw (fault.1, fault.2) (stopped_at (g.A.PathAlgebra.meaning c.args.batch.now.algebra) (graph_of c.args.solver.now) (asked_of c.args.batch.now.questions.now) c.loop-i.i _ _ _ (search rules) (FromSource 0) was.answered
+    (MayStopBatch g.A.PathAlgebra.meaning g.T.Gate.may_answer c.args.batch.now c.args.solver.now) c.in_err-answer_next.field-0.0 (rw (was.same.graph, was.same.kind) at next.kind)
     (subst (λ (r : GraphData). WroteNext (g.A.PathAlgebra.meaning c.args.batch.now.algebra) r (get_or (asked_of c.args.batch.now.questions.now).questions c.loop-i.i (FromSource 0))
     (g.W.RoadWrite.seen c.loop-i.out) (g.W.RoadWrite.seen c.answer_next.new.out) (Err c.in_err-answer_next.field-0.0)) was.same.graph (next.wrote (FromSource 0))))
 
@@ -101,7 +101,7 @@ returns-in_err-answer_next-clause-reported g c =
     (g.W.RoadWrite.seen c.loop-i.out) (g.W.RoadWrite.seen c.answer_next.new.out) (Err c.in_err-answer_next.field-0.0)) was.same.graph (next.wrote (FromSource 0)))
 
 pub returns-clause-answered : goal.returns-clause-answered
-returns-clause-answered g c = all_answered (g.A.PathAlgebra.meaning c.args.batch.now.algebra) (graph_of c.args.solver.now) (asked_of c.args.batch.now.questions.now) (MayStop (is_plain c.args.solver.now) (Stops g.A.PathAlgebra.meaning c.args.batch.now.algebra (graph_of c.args.solver.now) c.args.batch.now.run.now.settings.now (g.T.Gate.may_answer c.args.batch.now.run.now.gate.now))) c.loop-i.i _ _ (search rules) c.loop-i.invariant.progress
+returns-clause-answered g c = all_answered (g.A.PathAlgebra.meaning c.args.batch.now.algebra) (graph_of c.args.solver.now) (asked_of c.args.batch.now.questions.now) (MayStopBatch g.A.PathAlgebra.meaning g.T.Gate.may_answer c.args.batch.now c.args.solver.now) c.loop-i.i _ _ (search rules) c.loop-i.invariant.answered
 
 pub returns-clause-all : goal.returns-clause-all
 returns-clause-all g c =

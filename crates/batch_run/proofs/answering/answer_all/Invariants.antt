@@ -1,12 +1,13 @@
 use Rattle.road_files.specs.Asked.{asked_of}
-use Rattle.batch_run.specs.Solvers.{IsReady, IsSameSolver, MayTell, graph_of, is_plain}
-use Rattle.batch_run.proofs.Progress.{Progress}
+use Rattle.batch_run.specs.Factored.{MayTell}
+use Rattle.batch_run.specs.Solvers.{IsReady, IsSameSolver, graph_of, is_plain}
+use Rattle.batch_run.proofs.AnsweredFirst.{AnsweredFirst}
 use Rattle.batch_run.proofs.WrittenReports.{ReportedUntil}
 use Rattle.batch_run.proofs.answering.answer_all.Given as goal
 
 abbrev pub invariant-loop-i : goal.invariant-loop-i
 invariant-loop-i g l = record {
-  progress : Progress (g.A.PathAlgebra.meaning l.batch.algebra) (graph_of l.fn.solver) (asked_of l.batch.questions.now) l.i (g.W.RoadWrite.seen l.fn.out) (g.W.RoadWrite.seen l.out);
+  answered : AnsweredFirst (g.A.PathAlgebra.meaning l.batch.algebra) (graph_of l.fn.solver) (asked_of l.batch.questions.now) l.i (g.W.RoadWrite.seen l.fn.out) (g.W.RoadWrite.seen l.out);
   ready : IsReady g.A.PathAlgebra.meaning l.batch.algebra l.batch.run.now.settings.now (asked_of l.batch.questions.now) l.i l.solver;
   same : IsSameSolver l.fn.solver l.solver;
   first : ReportedUntil (g.A.PathAlgebra.meaning l.batch.algebra) l.batch.run.now.settings.now (graph_of l.fn.solver) (asked_of l.batch.questions.now) (is_plain l.fn.solver) (MayTell l.fn.solver)

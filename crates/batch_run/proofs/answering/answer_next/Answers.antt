@@ -2,13 +2,13 @@ use Rattle.std.proofs.Common.{◌+◌, get_or, subst}
 use Rattle.std.proofs.lemmas.Result.{err_from_is_err_and}
 use Rattle.road_graph.specs.GraphData.{GraphData}
 use Rattle.road_files.specs.Asked.{asked_of}
-use Rattle.road_text.specs.Written.{FailedAfterPrefix}
+use Rattle.text_lines.specs.Written.{FailedAfterPrefix}
 use Rattle.answer_text.specs.AnswerData.{AnswerData}
 use Rattle.answer_text.specs.AnswerText.{answer_text}
 use Rattle.answer_text.specs.IsAnswer.{IsAnswer}
 use Rattle.batch_run.specs.Stopping.{Stops}
 use Rattle.batch_run.specs.Solvers.{graph_of, is_plain}
-use Rattle.batch_run.proofs.Progress.{group_may_stop, not_solved, not_written}
+use Rattle.batch_run.proofs.AnsweredFirst.{group_may_stop, not_solved, not_written}
 use Rattle.batch_run.proofs.Reporting.{prefix_all, question_answered}
 use Rattle.batch_run.proofs.answering.answer_next.Goals as goal
 

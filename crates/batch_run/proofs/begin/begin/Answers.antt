@@ -1,6 +1,6 @@
 use Rattle.std.proofs.lemmas.Result.{err_from_is_err_and}
 use Rattle.road_files.specs.Asked.{asked_of}
-use Rattle.batch_run.proofs.Progress.{header_written, header_failed}
+use Rattle.batch_run.proofs.AnsweredFirst.{header_written, header_failed}
 use Rattle.batch_run.proofs.begin.begin.Goals as goal
 
 pub returns-in_err-write_header-clause-wrote : goal.returns-in_err-write_header-clause-wrote

@@ -5,7 +5,8 @@ use Rattle.batch_run.specs.Causes.{MayStop, fault_of}
 use Rattle.batch_run.specs.Choice.{without_diffusions}
 use Rattle.batch_run.specs.Reports.{IsTold, ReportedWhole, ReportedWritten}
 use Rattle.batch_run.specs.Stopping.{Stops}
-use Rattle.batch_run.specs.Solvers.{MayTell, graph_of}
+use Rattle.batch_run.specs.Factored.{MayTell}
+use Rattle.batch_run.specs.Solvers.{graph_of}
 use Rattle.batch_run.proofs.CauseCases.{no_setting}
 use Rattle.batch_run.proofs.OfInputs.{ran_stopped, ran_whole}
 use Rattle.batch_run.proofs.Reporting.{watched_all, watched_first}

@@ -1,15 +1,15 @@
 use Rattle.std.proofs.Common.{[], ◌∷◌, Ok, Err, Result, ap, map}
-use Rattle.road_text.specs.Rules.{fault_at, at_line}
+use Rattle.text_lines.specs.Rules.{fault_at, at_line}
 use Rattle.road_files.specs.RequestTakes.{ended_list}
 use Rattle.service.specs.Fed.{fault_text}
 use Rattle.service.proofs.FedLaws.{replied_one, replied_then, fell_before}
 use Rattle.service.proofs.ServiceLaws.{ended_early}
-use Rattle.service.specs.Answering.{MayAnswerBy}
+use Rattle.service.specs.Giving.{MayGive}
 use Rattle.service.proofs.replies.send_done.Goals as goal
 
 pub returns-in-Ok-clause-replied : goal.returns-in-Ok-clause-replied
 returns-in-Ok-clause-replied g c = λ at e.
-    let texts = (MayAnswerBy (g.A.PathAlgebra.meaning c.args.answers.now.algebra) c.args.answers.now.run.now.settings.now (g.T.Gate.may_answer c.args.answers.now.run.now.gate.now) c.args.solver.now) in
+    let texts = (MayGive g.A.PathAlgebra.meaning g.T.Gate.may_answer c.args.answers.now c.args.solver.now) in
     let done : Result (Unit {0}) (Unit {0}) = Ok tt in
     let failed : Result (Unit {0}) (Unit {0}) = Err tt in
     rw (ended_early c.args.done c.if-not-done.false)
@@ -18,7 +18,7 @@ returns-in-Ok-clause-replied g c = λ at e.
 
 pub returns-in-Err-clause-replied : goal.returns-in-Err-clause-replied
 returns-in-Err-clause-replied g c = λ at e.
-    let texts = (MayAnswerBy (g.A.PathAlgebra.meaning c.args.answers.now.algebra) c.args.answers.now.run.now.settings.now (g.T.Gate.may_answer c.args.answers.now.run.now.gate.now) c.args.solver.now) in
+    let texts = (MayGive g.A.PathAlgebra.meaning g.T.Gate.may_answer c.args.answers.now c.args.solver.now) in
     let done : Result (Unit {0}) (Unit {0}) = Ok tt in
     let failed : Result (Unit {0}) (Unit {0}) = Err tt in
     rw (ended_early c.args.done c.if-not-done.false)

@@ -30,9 +30,7 @@ same_read text g h read same = subst (λ (x : GraphData). IsReadAs gr_rules text
 pub returns-in-Err : goal.returns-in-Err
 returns-in-Err g c = record {
   ran = rw c.fault_in.ensures (graph_failed (g.A.PathAlgebra.meaning c.args.algebra) c.args.run.now.settings.now (g.T.Gate.may_answer c.args.run.now.gate.now)
-      (g.G.RoadRead.seen c.args.graph_in.now)
-      (g.G.RoadRead.seen c.read_solver.new.graph_in)
-      (g.Q.RoadRead.seen c.args.requests_in.now) (g.W.RoadWrite.seen c.args.out.now)
+      (g.G.RoadRead.seen c.args.graph_in.now) (g.G.RoadRead.seen c.read_solver.new.graph_in) (g.Q.RoadRead.seen c.args.requests_in.now) (g.W.RoadWrite.seen c.args.out.now)
       c.in-Err.fault (c.suit.ensures.in_range c.if-not-suit.false) c.in-Err.ensures.reads.fault c.in-Err.ensures.reads.before_memory c.in-Err.ensures.reads.told c.in-Err.ensures.reads.untold c.in-Err.ensures.reads.placed
       c.in-Err.ensures.reads.numbered c.read_solver.ensures.reads.asked);
 }
@@ -43,10 +41,7 @@ returns-in-Err-Read g c =
     let read = same_read _ (graph_of c.in-Ok.solver) (graph_of c.factor_graph.new.solver) (record { told = c.in-Ok.ensures.reads.value; some_text = c.in-Ok.ensures.reads.some_text }) c.factor_graph.ensures.same.graph in
     record {
       ran = rw c.fault_of_requests.ensures (stopped (g.A.PathAlgebra.meaning c.args.algebra) c.args.run.now.settings.now (g.T.Gate.may_answer c.args.run.now.gate.now)
-          (g.G.RoadRead.seen c.args.graph_in.now)
-          (g.G.RoadRead.seen c.read_solver.new.graph_in)
-          (g.Q.RoadRead.seen c.args.requests_in.now)
-          (g.Q.RoadRead.seen c.serve-served.new.input)
+          (g.G.RoadRead.seen c.args.graph_in.now) (g.G.RoadRead.seen c.read_solver.new.graph_in) (g.Q.RoadRead.seen c.args.requests_in.now) (g.Q.RoadRead.seen c.serve-served.new.input)
           (g.W.RoadWrite.seen c.args.out.now) (g.W.RoadWrite.seen c.serve-served.new.out)
           (c.suit.ensures.in_range c.if-not-suit.false) (graph_of c.factor_graph.new.solver) read c.in-Ok.ensures.reads.sound c.in-Ok.ensures.reads.end c.read_solver.ensures.reads.asked
           1 (inl refl) (λ one. (c.serve-served.ensures.read is).0) (λ two. absurd (omega (arith, two)))
@@ -59,10 +54,7 @@ returns-in-Err-TooLong g c =
     let read = same_read _ (graph_of c.in-Ok.solver) (graph_of c.factor_graph.new.solver) (record { told = c.in-Ok.ensures.reads.value; some_text = c.in-Ok.ensures.reads.some_text }) c.factor_graph.ensures.same.graph in
     record {
       ran = rw c.fault_of_requests-in-Err-TooLong.ensures (stopped (g.A.PathAlgebra.meaning c.args.algebra) c.args.run.now.settings.now (g.T.Gate.may_answer c.args.run.now.gate.now)
-          (g.G.RoadRead.seen c.args.graph_in.now)
-          (g.G.RoadRead.seen c.read_solver.new.graph_in)
-          (g.Q.RoadRead.seen c.args.requests_in.now)
-          (g.Q.RoadRead.seen c.serve-served.new.input)
+          (g.G.RoadRead.seen c.args.graph_in.now) (g.G.RoadRead.seen c.read_solver.new.graph_in) (g.Q.RoadRead.seen c.args.requests_in.now) (g.Q.RoadRead.seen c.serve-served.new.input)
           (g.W.RoadWrite.seen c.args.out.now) (g.W.RoadWrite.seen c.serve-served.new.out)
           (c.suit.ensures.in_range c.if-not-suit.false) (graph_of c.factor_graph.new.solver) read c.in-Ok.ensures.reads.sound c.in-Ok.ensures.reads.end c.read_solver.ensures.reads.asked
           2 (inr refl) (λ one. absurd (omega (arith, one))) (λ two. c.serve-served.ensures.long is)
@@ -75,8 +67,7 @@ returns-in-Err-Write g c =
     let read = same_read _ (graph_of c.in-Ok.solver) (graph_of c.factor_graph.new.solver) (record { told = c.in-Ok.ensures.reads.value; some_text = c.in-Ok.ensures.reads.some_text }) c.factor_graph.ensures.same.graph in
     record {
       ran = rw c.fault_of_run-in-Err-Write.ensures (fell (g.A.PathAlgebra.meaning c.args.algebra) c.args.run.now.settings.now (g.T.Gate.may_answer c.args.run.now.gate.now)
-          (g.G.RoadRead.seen c.args.graph_in.now) (g.G.RoadRead.seen c.read_solver.new.graph_in)
-          (g.Q.RoadRead.seen c.args.requests_in.now) (g.Q.RoadRead.seen c.serve-served.new.input)
+          (g.G.RoadRead.seen c.args.graph_in.now) (g.G.RoadRead.seen c.read_solver.new.graph_in) (g.Q.RoadRead.seen c.args.requests_in.now) (g.Q.RoadRead.seen c.serve-served.new.input)
           (g.W.RoadWrite.seen c.args.out.now) (g.W.RoadWrite.seen c.serve-served.new.out)
           (c.suit.ensures.in_range c.if-not-suit.false) (graph_of c.factor_graph.new.solver) read c.in-Ok.ensures.reads.sound c.in-Ok.ensures.reads.end c.read_solver.ensures.reads.asked
           (c.serve-served.ensures.write stopped) (c.serve-served.ensures.sound (no_read c.serve-served.result stopped)));
@@ -86,9 +77,7 @@ pub returns-in_err-factor_graph : goal.returns-in_err-factor_graph
 returns-in_err-factor_graph g c =
     let fault = err_from_is_err_and c.from_residual.result c.from_residual.ensures.1 in record {
       ran = rw (fault.1, fault.2, c.in_err-factor_graph.ensures.memory) (unfactored (g.A.PathAlgebra.meaning c.args.algebra) c.args.run.now.settings.now (g.T.Gate.may_answer c.args.run.now.gate.now)
-          (g.G.RoadRead.seen c.args.graph_in.now)
-          (g.G.RoadRead.seen c.read_solver.new.graph_in)
-          (g.Q.RoadRead.seen c.args.requests_in.now) (g.Q.RoadRead.seen c.args.requests_in.now)
+          (g.G.RoadRead.seen c.args.graph_in.now) (g.G.RoadRead.seen c.read_solver.new.graph_in) (g.Q.RoadRead.seen c.args.requests_in.now) (g.Q.RoadRead.seen c.args.requests_in.now)
           (g.W.RoadWrite.seen c.args.out.now) (g.W.RoadWrite.seen c.args.out.now)
           (c.suit.ensures.in_range c.if-not-suit.false) (graph_of c.in-Ok.solver)
           (record { told = c.in-Ok.ensures.reads.value; some_text = c.in-Ok.ensures.reads.some_text }) c.in-Ok.ensures.reads.sound c.in-Ok.ensures.reads.end c.read_solver.ensures.reads.asked

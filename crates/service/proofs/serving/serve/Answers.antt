@@ -6,17 +6,17 @@ use Rattle.service.specs.Fed.{Fed, FedPart, FedLong, Finished, FinishedPart}
 use Rattle.service.proofs.Staying.{stays_own}
 use Rattle.service.specs.declared.feeding.Unfed.{Unfed}
 use Rattle.service.proofs.ServeLaws.{served_more, served_all, read_failed, feed_fell, feed_long, end_fell, flush_fell}
-use Rattle.service.specs.Answering.{MayAnswer}
+use Rattle.service.specs.Giving.{MayGiveOver}
 use Rattle.service.proofs.serving.serve.Goals as goal
 
 pub returns-in-Ok-finish-clause-served : goal.returns-in-Ok-finish-clause-served
 returns-in-Ok-finish-clause-served g c =
-    let buffer : List ℕ = c.ask.new.buffer in
-    let nothing : Consumes (g.I.RoadRead.seen c.loop.input).left (g.I.RoadRead.seen c.ask.new.input).left [] =
-    subst (λ k. Consumes (g.I.RoadRead.seen c.loop.input).left (g.I.RoadRead.seen c.ask.new.input).left (take k buffer)) c.in-Ok-eq0.field-0-test c.in-Ok-eq0.ensures.bytes.0 in
+    let buffer : List ℕ = c.read_piece.new.buffer in
+    let nothing : Consumes (g.I.RoadRead.seen c.loop.input).left (g.I.RoadRead.seen c.read_piece.new.input).left [] =
+    subst (λ k. Consumes (g.I.RoadRead.seen c.loop.input).left (g.I.RoadRead.seen c.read_piece.new.input).left (take k buffer)) c.in-Ok-eq0.field-0-test c.in-Ok-eq0.ensures.bytes.0 in
     let room : 0 < length buffer = search rules in
-    served_all (MayAnswer (g.A.PathAlgebra.meaning c.args.answers.now.algebra) c.args.answers.now.run.now.settings.now (g.T.Gate.may_answer c.args.answers.now.run.now.gate.now) (graph_of c.args.solver.now)) c.loop.service (graph_of c.args.solver.now).vertices (g.I.RoadRead.seen c.args.input.now).left
-    (g.I.RoadRead.seen c.loop.input).left (g.I.RoadRead.seen c.ask.new.input).left
+    served_all (MayGiveOver g.A.PathAlgebra.meaning g.T.Gate.may_answer c.args.answers.now (graph_of c.args.solver.now)) c.loop.service (graph_of c.args.solver.now).vertices (g.I.RoadRead.seen c.args.input.now).left
+    (g.I.RoadRead.seen c.loop.input).left (g.I.RoadRead.seen c.read_piece.new.input).left
     (g.W.RoadWrite.seen c.args.out.now) (g.W.RoadWrite.seen c.flush.new.self) (g.W.RoadWrite.seen c.loop.out) (g.W.RoadWrite.seen c.finish.new.out)
     c.loop.invariant.vertices c.loop.invariant.served nothing (c.in-Ok-eq0.ensures.bytes.1 c.in-Ok-eq0.field-0-test room) c.flush.ensures.bytes c.in-Ok.ensures.sound (stays_own (g.A.PathAlgebra.meaning c.args.answers.now.algebra) c.args.answers.now.run.now.settings.now (g.T.Gate.may_answer c.args.answers.now.run.now.gate.now) c.args.solver.now c.loop.solver c.loop.invariant.same c.requires.kind
     (λ (may : Asked → List ℕ → Type 0). Finished may c.loop.service (g.W.RoadWrite.seen c.loop.out) (g.W.RoadWrite.seen c.finish.new.out)) c.in-Ok-finish.ensures.finished)
@@ -25,32 +25,32 @@ pub loop-preserved : goal.loop-preserved
 loop-preserved g c = record {
   can = tt;
   finite = tt;
-  served = served_more (MayAnswer (g.A.PathAlgebra.meaning c.args.answers.now.algebra) c.args.answers.now.run.now.settings.now (g.T.Gate.may_answer c.args.answers.now.run.now.gate.now) (graph_of c.args.solver.now)) c.loop.service c.feed.new.self (take c.in-Ok-ask.n c.ask.new.buffer)
-      (g.I.RoadRead.seen c.args.input.now).left (g.I.RoadRead.seen c.loop.input).left (g.I.RoadRead.seen c.ask.new.input).left
+  served = served_more (MayGiveOver g.A.PathAlgebra.meaning g.T.Gate.may_answer c.args.answers.now (graph_of c.args.solver.now)) c.loop.service c.feed.new.self (take c.in-Ok-read_piece.n c.read_piece.new.buffer)
+      (g.I.RoadRead.seen c.args.input.now).left (g.I.RoadRead.seen c.loop.input).left (g.I.RoadRead.seen c.read_piece.new.input).left
       (g.W.RoadWrite.seen c.flush.new.self) (g.W.RoadWrite.seen c.loop.out) (g.W.RoadWrite.seen c.feed.new.out)
-      c.loop.invariant.served c.in-Ok-ask.ensures.bytes.0 (stays_own (g.A.PathAlgebra.meaning c.args.answers.now.algebra) c.args.answers.now.run.now.settings.now (g.T.Gate.may_answer c.args.answers.now.run.now.gate.now) c.args.solver.now c.loop.solver c.loop.invariant.same c.requires.kind
-      (λ (may : Asked → List ℕ → Type 0). Fed may c.loop.service c.feed.new.self (take c.in-Ok-ask.n c.ask.new.buffer) (g.W.RoadWrite.seen c.loop.out) (g.W.RoadWrite.seen c.feed.new.out)) c.in-Ok-feed.ensures.fed);
+      c.loop.invariant.served c.in-Ok-read_piece.ensures.bytes.0 (stays_own (g.A.PathAlgebra.meaning c.args.answers.now.algebra) c.args.answers.now.run.now.settings.now (g.T.Gate.may_answer c.args.answers.now.run.now.gate.now) c.args.solver.now c.loop.solver c.loop.invariant.same c.requires.kind
+      (λ (may : Asked → List ℕ → Type 0). Fed may c.loop.service c.feed.new.self (take c.in-Ok-read_piece.n c.read_piece.new.buffer) (g.W.RoadWrite.seen c.loop.out) (g.W.RoadWrite.seen c.feed.new.out)) c.in-Ok-feed.ensures.fed);
   held = c.in-Ok-feed.ensures.passed_on (λ e. cc) c.loop.invariant.held;
   vertices = c.feed.ensures.vertices ∙ c.loop.invariant.vertices;
   same = record { graph = c.feed.ensures.same.graph ∙ c.loop.invariant.same.graph; kind = c.feed.ensures.same.kind ∙ c.loop.invariant.same.kind };
-  sound = c.in-Ok-ask.ensures.sound ∙ c.loop.invariant.sound;
+  sound = c.in-Ok-read_piece.ensures.sound ∙ c.loop.invariant.sound;
 }
 
 pub returns-in-Err-clause-write : goal.returns-in-Err-clause-write
-returns-in-Err-clause-write g c = λ is. flush_fell (MayAnswer (g.A.PathAlgebra.meaning c.args.answers.now.algebra) c.args.answers.now.run.now.settings.now (g.T.Gate.may_answer c.args.answers.now.run.now.gate.now) (graph_of c.args.solver.now)) (graph_of c.args.solver.now).vertices (g.I.RoadRead.seen c.args.input.now).left
+returns-in-Err-clause-write g c = λ is. flush_fell (MayGiveOver g.A.PathAlgebra.meaning g.T.Gate.may_answer c.args.answers.now (graph_of c.args.solver.now)) (graph_of c.args.solver.now).vertices (g.I.RoadRead.seen c.args.input.now).left
     (g.W.RoadWrite.seen c.args.out.now) (g.W.RoadWrite.seen c.flush.new.self) c.flush.ensures.bytes c.in-Err.ensures.failed
 
-pub returns-in-Err-ask-clause-read : goal.returns-in-Err-ask-clause-read
-returns-in-Err-ask-clause-read g c = λ is. (
-  read_failed (MayAnswer (g.A.PathAlgebra.meaning c.args.answers.now.algebra) c.args.answers.now.run.now.settings.now (g.T.Gate.may_answer c.args.answers.now.run.now.gate.now) (graph_of c.args.solver.now)) c.loop.service (graph_of c.args.solver.now).vertices (g.I.RoadRead.seen c.args.input.now).left
-      (g.I.RoadRead.seen c.loop.input).left (g.I.RoadRead.seen c.ask.new.input).left
+pub returns-in-Err-read_piece-clause-read : goal.returns-in-Err-read_piece-clause-read
+returns-in-Err-read_piece-clause-read g c = λ is. (
+  read_failed (MayGiveOver g.A.PathAlgebra.meaning g.T.Gate.may_answer c.args.answers.now (graph_of c.args.solver.now)) c.loop.service (graph_of c.args.solver.now).vertices (g.I.RoadRead.seen c.args.input.now).left
+      (g.I.RoadRead.seen c.loop.input).left (g.I.RoadRead.seen c.read_piece.new.input).left
       (g.W.RoadWrite.seen c.args.out.now) (g.W.RoadWrite.seen c.flush.new.self) (g.W.RoadWrite.seen c.loop.out) (g.W.RoadWrite.seen c.loop.out)
-      c.loop.invariant.vertices c.loop.invariant.served c.flush.ensures.bytes c.in-Ok.ensures.sound c.in-Err-ask.ensures.bytes,
-  c.in-Err-ask.ensures.failed ∙ ap (λ k. k + 1) c.loop.invariant.sound,
+      c.loop.invariant.vertices c.loop.invariant.served c.flush.ensures.bytes c.in-Ok.ensures.sound c.in-Err-read_piece.ensures.bytes,
+  c.in-Err-read_piece.ensures.failed ∙ ap (λ k. k + 1) c.loop.invariant.sound,
 )
 
 pub returns-in-Err-finish-clause-write : goal.returns-in-Err-finish-clause-write
-returns-in-Err-finish-clause-write g c = λ is. end_fell (MayAnswer (g.A.PathAlgebra.meaning c.args.answers.now.algebra) c.args.answers.now.run.now.settings.now (g.T.Gate.may_answer c.args.answers.now.run.now.gate.now) (graph_of c.args.solver.now)) c.loop.service (graph_of c.args.solver.now).vertices (g.I.RoadRead.seen c.args.input.now).left
+returns-in-Err-finish-clause-write g c = λ is. end_fell (MayGiveOver g.A.PathAlgebra.meaning g.T.Gate.may_answer c.args.answers.now (graph_of c.args.solver.now)) c.loop.service (graph_of c.args.solver.now).vertices (g.I.RoadRead.seen c.args.input.now).left
     (g.I.RoadRead.seen c.loop.input).left (g.I.RoadRead.seen c.loop.input).left
     (g.W.RoadWrite.seen c.args.out.now) (g.W.RoadWrite.seen c.flush.new.self) (g.W.RoadWrite.seen c.loop.out) (g.W.RoadWrite.seen c.finish.new.out)
     c.loop.invariant.vertices c.loop.invariant.served c.flush.ensures.bytes c.in-Ok.ensures.sound (stays_own (g.A.PathAlgebra.meaning c.args.answers.now.algebra) c.args.answers.now.run.now.settings.now (g.T.Gate.may_answer c.args.answers.now.run.now.gate.now) c.args.solver.now c.loop.solver c.loop.invariant.same c.requires.kind
@@ -58,20 +58,20 @@ returns-in-Err-finish-clause-write g c = λ is. end_fell (MayAnswer (g.A.PathAlg
 
 pub returns-in-Err-Write-clause-write : goal.returns-in-Err-Write-clause-write
 returns-in-Err-Write-clause-write g c = λ is.
-    feed_fell (MayAnswer (g.A.PathAlgebra.meaning c.args.answers.now.algebra) c.args.answers.now.run.now.settings.now (g.T.Gate.may_answer c.args.answers.now.run.now.gate.now) (graph_of c.args.solver.now)) c.loop.service (graph_of c.args.solver.now).vertices (g.I.RoadRead.seen c.args.input.now).left
-    (g.I.RoadRead.seen c.loop.input).left (g.I.RoadRead.seen c.ask.new.input).left
+    feed_fell (MayGiveOver g.A.PathAlgebra.meaning g.T.Gate.may_answer c.args.answers.now (graph_of c.args.solver.now)) c.loop.service (graph_of c.args.solver.now).vertices (g.I.RoadRead.seen c.args.input.now).left
+    (g.I.RoadRead.seen c.loop.input).left (g.I.RoadRead.seen c.read_piece.new.input).left
     (g.W.RoadWrite.seen c.args.out.now) (g.W.RoadWrite.seen c.flush.new.self) (g.W.RoadWrite.seen c.loop.out) (g.W.RoadWrite.seen c.feed.new.out)
     c.loop.invariant.vertices c.loop.invariant.served c.flush.ensures.bytes c.in-Ok.ensures.sound
-    c.feed.new.self (take c.in-Ok-ask.n c.ask.new.buffer) (c.feed.ensures.vertices ∙ c.loop.invariant.vertices) c.in-Ok-ask.ensures.bytes.0
+    c.feed.new.self (take c.in-Ok-read_piece.n c.read_piece.new.buffer) (c.feed.ensures.vertices ∙ c.loop.invariant.vertices) c.in-Ok-read_piece.ensures.bytes.0
     (stays_own (g.A.PathAlgebra.meaning c.args.answers.now.algebra) c.args.answers.now.run.now.settings.now (g.T.Gate.may_answer c.args.answers.now.run.now.gate.now) c.args.solver.now c.loop.solver c.loop.invariant.same c.requires.kind
-    (λ (may : Asked → List ℕ → Type 0). FedPart may c.loop.service c.feed.new.self (take c.in-Ok-ask.n c.ask.new.buffer) (g.W.RoadWrite.seen c.loop.out) (g.W.RoadWrite.seen c.feed.new.out)) (c.feed.ensures.fell (c.in-Err-Write.is ∙ ap (λ (e : Unfed). Err e) c.in-Err-Write.field-0-is)))
+    (λ (may : Asked → List ℕ → Type 0). FedPart may c.loop.service c.feed.new.self (take c.in-Ok-read_piece.n c.read_piece.new.buffer) (g.W.RoadWrite.seen c.loop.out) (g.W.RoadWrite.seen c.feed.new.out)) (c.feed.ensures.fell (c.in-Err-Write.is ∙ ap (λ (e : Unfed). Err e) c.in-Err-Write.field-0-is)))
 
 pub returns-in-Err-TooLong-clause-long : goal.returns-in-Err-TooLong-clause-long
 returns-in-Err-TooLong-clause-long g c = λ is.
-    feed_long (MayAnswer (g.A.PathAlgebra.meaning c.args.answers.now.algebra) c.args.answers.now.run.now.settings.now (g.T.Gate.may_answer c.args.answers.now.run.now.gate.now) (graph_of c.args.solver.now)) c.loop.service (graph_of c.args.solver.now).vertices (g.I.RoadRead.seen c.args.input.now).left
-    (g.I.RoadRead.seen c.loop.input).left (g.I.RoadRead.seen c.ask.new.input).left
+    feed_long (MayGiveOver g.A.PathAlgebra.meaning g.T.Gate.may_answer c.args.answers.now (graph_of c.args.solver.now)) c.loop.service (graph_of c.args.solver.now).vertices (g.I.RoadRead.seen c.args.input.now).left
+    (g.I.RoadRead.seen c.loop.input).left (g.I.RoadRead.seen c.read_piece.new.input).left
     (g.W.RoadWrite.seen c.args.out.now) (g.W.RoadWrite.seen c.flush.new.self) (g.W.RoadWrite.seen c.loop.out) (g.W.RoadWrite.seen c.feed.new.out)
     c.loop.invariant.vertices c.loop.invariant.served c.flush.ensures.bytes c.in-Ok.ensures.sound
-    c.feed.new.self (take c.in-Ok-ask.n c.ask.new.buffer) (c.feed.ensures.vertices ∙ c.loop.invariant.vertices) c.in-Ok-ask.ensures.bytes.0
+    c.feed.new.self (take c.in-Ok-read_piece.n c.read_piece.new.buffer) (c.feed.ensures.vertices ∙ c.loop.invariant.vertices) c.in-Ok-read_piece.ensures.bytes.0
     (stays_own (g.A.PathAlgebra.meaning c.args.answers.now.algebra) c.args.answers.now.run.now.settings.now (g.T.Gate.may_answer c.args.answers.now.run.now.gate.now) c.args.solver.now c.loop.solver c.loop.invariant.same c.requires.kind
-    (λ (may : Asked → List ℕ → Type 0). FedLong may c.loop.service c.feed.new.self (take c.in-Ok-ask.n c.ask.new.buffer) (g.W.RoadWrite.seen c.loop.out) (g.W.RoadWrite.seen c.feed.new.out)) (c.feed.ensures.long (c.in-Err-TooLong.is ∙ ap (λ (e : Unfed). Err e) c.in-Err-TooLong.field-0-is)))
+    (λ (may : Asked → List ℕ → Type 0). FedLong may c.loop.service c.feed.new.self (take c.in-Ok-read_piece.n c.read_piece.new.buffer) (g.W.RoadWrite.seen c.loop.out) (g.W.RoadWrite.seen c.feed.new.out)) (c.feed.ensures.long (c.in-Err-TooLong.is ∙ ap (λ (e : Unfed). Err e) c.in-Err-TooLong.field-0-is)))

@@ -2,7 +2,8 @@ use Rattle.std.proofs.Common.{rules, ◌≡◌, ℕ, ◌∙◌, sym, get_or, len
 use Rattle.std.proofs.lemmas.List.{get_or_default}
 use Rattle.post_floor.specs.Data.{FloorData}
 use Rattle.station.specs.Station.{StationData}
-use Rattle.station.specs.Opened.{AreOpened, setup_of}
+use Rattle.station.specs.Opened.{AreOpened}
+use Rattle.shard_store.specs.Setup.{setup_of}
 use Rattle.batch_run.proofs.Together.{one_more}
 use Rattle.batch_run.proofs.solve.group.open_all.Goals as goal
 

@@ -1,5 +1,6 @@
 use Rattle.std.proofs.Common.{◌≡◌, ℕ, ◌<◌, get_or, vec_len}
-use Rattle.station.specs.Opened.{AreOpened, setup_of}
+use Rattle.station.specs.Opened.{AreOpened}
+use Rattle.shard_store.specs.Setup.{setup_of}
 use Rattle.batch_run.proofs.solve.group.open_all.Given as goal
 
 abbrev pub invariant-loop-source : goal.invariant-loop-source

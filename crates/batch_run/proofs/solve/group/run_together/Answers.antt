@@ -2,9 +2,9 @@ use Rattle.std.proofs.Common.{inl, inr, rules, arith, ◌≡◌, ◌∙◌, ◌-
 use Rattle.std.proofs.lemmas.List.{drop_all}
 use Rattle.std.proofs.lemmas.List.Elements.{All-nil, All-push}
 use Rattle.std.proofs.lemmas.Result.{err_from_is_err_and}
-use Rattle.station.specs.Opened.{setup_of}
 use Rattle.batch_run.specs.Cut.{order_of}
 use Rattle.batch_run.specs.Diffusions.{IsGatheredOver, sources_in_order}
+use Rattle.shard_store.specs.Setup.{setup_of}
 use Rattle.batch_run.proofs.Together.{opened_placed, run_ended, longer, others_ended, last_ended}
 use Rattle.batch_run.proofs.NextDiffusions.{one_before, place_before}
 use Rattle.batch_run.proofs.solve.group.run_together.Goals as goal

@@ -1,8 +1,8 @@
 use Rattle.std.proofs.Common.{◌≡◌, ℕ, ◌<◌, ◌+◌, ◌-◌, drop, get_or, length}
 use Rattle.std.specs.List.{All}
-use Rattle.station.specs.Opened.{setup_of}
 use Rattle.batch_run.specs.Cut.{order_of}
 use Rattle.batch_run.specs.Diffusions.{AreEnded, IsGatheredOver, sources_in_order}
+use Rattle.shard_store.specs.Setup.{setup_of}
 use Rattle.batch_run.proofs.solve.group.run_together.Given as goal
 
 abbrev pub invariant-loop-k : goal.invariant-loop-k

@@ -1,4 +1,4 @@
-use Rattle.std.proofs.Common.{◌∙◌, ◌≤◌, length, take, arith, length-take}
+use Rattle.std.proofs.Common.{◌∙◌, arith, length-take}
 use Rattle.std.proofs.lemmas.List.Elements.{All-take}
 use Rattle.road_files.specs.Asked.{FromSource, IsVertexOf, asked_of}
 use Rattle.batch_run.specs.Diffusions.{sources_to_come}

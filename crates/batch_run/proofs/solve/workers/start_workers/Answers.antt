@@ -1,4 +1,4 @@
-use Rattle.std.proofs.Common.{◌∙◌, refl}
+use Rattle.std.proofs.Common.{refl}
 use Rattle.road_files.specs.Asked.{asked_of}
 use Rattle.batch_run.specs.Diffusions.{sources_to_come}
 use Rattle.batch_run.proofs.NextDiffusions.{none_waits}

@@ -1,7 +1,7 @@
 use Rattle.std.proofs.Common.{◌+◌, ◌<◌, length, None, rules, subst, sym, ap, arith}
-use Rattle.road_text.specs.Texts.{spelled}
-use Rattle.road_text.specs.Written.{WrotePrefix}
-use Rattle.road_text.proofs.WriteLaws.{left_start, left_end, fell_out}
+use Rattle.text_lines.specs.Texts.{spelled}
+use Rattle.text_lines.specs.Written.{WrotePrefix}
+use Rattle.text_lines.proofs.WriteLaws.{left_start, left_end, fell_out}
 use Rattle.answer_text.specs.AnswerText.{vertex_words}
 use Rattle.answer_text.proofs.VertexLines.{vertices_start, vertices_end, vertex_left, vertex_fell}
 use Rattle.batch_run.specs.WrittenLines.{written_lines}

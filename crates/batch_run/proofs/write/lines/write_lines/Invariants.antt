@@ -1,5 +1,5 @@
-use Rattle.road_text.specs.Written.{WrotePrefix}
-use Rattle.road_text.specs.Texts.{text_of}
+use Rattle.text_lines.specs.Written.{WrotePrefix}
+use Rattle.text_lines.specs.Texts.{text_of}
 use Rattle.answer_text.specs.AnswerText.{vertex_lines}
 use Rattle.answer_text.proofs.VertexLines.{vertices_from}
 use Rattle.batch_run.specs.WrittenLines.{written_lines}

@@ -1,6 +1,6 @@
 use Rattle.std.proofs.Common.{◌≡◌, IfSome, Err, subst}
 use Rattle.std.proofs.Math.Path.{subst⁻¹}
-use Rattle.road_text.specs.Rules.{text_read}
+use Rattle.text_lines.specs.Rules.{text_read}
 use Rattle.road_files.specs.Asked.{asked_of}
 use Rattle.answer_text.specs.AnswerFiles.{answer_rules}
 use Rattle.answer_text.specs.AnswerData.{answer_list}

@@ -1,5 +1,5 @@
 use Rattle.std.proofs.Common.{◌∙◌}
-use Rattle.road_text.proofs.WriteLaws.{fell_out}
+use Rattle.text_lines.proofs.WriteLaws.{fell_out}
 use Rattle.program.proofs.AccountLines.{account_fell, account_then}
 use Rattle.program.proofs.watch.accounts.write_account.Goals as goal
 

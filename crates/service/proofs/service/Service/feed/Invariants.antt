@@ -1,13 +1,13 @@
 use Rattle.std.proofs.Common.{◌≡◌, ◌-◌, ◌≤◌, [], take, length}
 use Rattle.batch_run.specs.Solvers.{IsSameSolver}
 use Rattle.service.specs.Fed.{Fed}
-use Rattle.service.specs.Answering.{MayAnswerBy}
+use Rattle.service.specs.Giving.{MayGive}
 use Rattle.service.proofs.service.Service.feed.Given as goal
 
 -- the bytes so far were taken, and just the requests that they make whole replied to
 abbrev pub invariant-loop-at : goal.invariant-loop-at
 invariant-loop-at g l = record {
-  fed : Fed (MayAnswerBy (g.A.PathAlgebra.meaning l.answers.algebra) l.answers.run.now.settings.now (g.T.Gate.may_answer l.answers.run.now.gate.now) l.fn.solver) l.initial.self l.self
+  fed : Fed (MayGive g.A.PathAlgebra.meaning g.T.Gate.may_answer l.answers l.fn.solver) l.initial.self l.self
       (take l.at l.bytes) (g.W.RoadWrite.seen l.initial.out) (g.W.RoadWrite.seen l.out);
   same : IsSameSolver l.fn.solver l.solver;
   held : (g.W.RoadWrite.seen l.initial.out).held ≡ [] → (g.W.RoadWrite.seen l.out).held ≡ [];

@@ -1,11 +1,11 @@
 -- A batch on its way: the first questions were answered, and their answers written.
-use Rattle.std.proofs.Common.{◌≡◌, ◌≢◌, ℕ, ◌+◌, ◌<◌, ◌≤◌, List, [], ◌∷◌, ◌++◌, length, take, get_or, Option, Result, Ok, Err, Bool, true, false, inl, inr, refl, sym, ap, ◌∙◌, subst, append_assoc, append-nil, arith}
+use Rattle.std.proofs.Common.{◌≡◌, ◌≢◌, ℕ, ◌+◌, ◌<◌, ◌≤◌, List, [], ◌∷◌, ◌++◌, length, take, get_or, Result, Ok, Err, Bool, true, false, inl, inr, refl, sym, ap, ◌∙◌, subst, append_assoc, append-nil, arith}
 use Rattle.std.proofs.lemmas.List.{take_all, take_more}
 use Rattle.std.specs.Io.KnownBytes.{Appends}
 use Rattle.road_graph.specs.GraphData.{GraphData}
-use Rattle.road_text.specs.Streams.{Output}
-use Rattle.road_text.specs.Written.{WrotePrefix, FailedAfterPrefix}
-use Rattle.road_text.proofs.WriteLaws.{left_more, left_fell, left_appends}
+use Rattle.text_lines.specs.Streams.{Output}
+use Rattle.text_lines.specs.Written.{WrotePrefix, FailedAfterPrefix}
+use Rattle.text_lines.proofs.WriteLaws.{left_more, left_fell, left_appends}
 use Rattle.road_files.specs.Asked.{Question, Asked}
 use Rattle.road_files.specs.declared.questions.Kind.{Kind}
 use Rattle.path_algebra.specs.declared.name.AlgebraName.{AlgebraName}
@@ -23,7 +23,7 @@ use Rattle.batch_run.specs.Causes.{MayStop}
 use Rattle.batch_run.proofs.CauseCases.{write_or_other}
 
 -- the first i questions were answered, and the answers written
-pub record Progress {V X : Type 0} (A : Algebra V) (g : GraphData) (asked : Asked) (i : ℕ) (old new : Output X) : Type 0 where
+pub record AnsweredFirst {V X : Type 0} (A : Algebra V) (g : GraphData) (asked : Asked) (i : ℕ) (old new : Output X) : Type 0 where
   pub answers : List AnswerData
   pub right : AreAnswers A g (take i asked.questions) answers
   pub left : WrotePrefix old new (begun_text A asked answers) []
@@ -59,14 +59,14 @@ module _ {V : Type 0} (A : Algebra V) (asked : Asked) where
 
 module _ {V : Type 0} (A : Algebra V) (g : GraphData) (asked : Asked) where
   -- no question is answered yet
-  pub start : {X : Type 0} (old new : Output X) → WrotePrefix old new (begun_text A asked []) [] → Progress A g asked 0 old new
+  pub start : {X : Type 0} (old new : Output X) → WrotePrefix old new (begun_text A asked []) [] → AnsweredFirst A g asked 0 old new
   start old new h = record { answers = []; right = tt; left = h }
 
-  stop : (i : ℕ) {X : Type 0} (old new : Output X) → Progress A g asked i old new → WroteFirst A g asked old new
+  stop : (i : ℕ) {X : Type 0} (old new : Output X) → AnsweredFirst A g asked i old new → WroteFirst A g asked old new
   stop i old new p = record { count = i; answers = p.answers; right = p.right; prefix = p.left.prefix; rest = []; text_is = p.left.text_is; bytes = p.left.bytes }
 
   -- what was written between two answers is whole
-  stop_whole : (i : ℕ) {X : Type 0} (old new : Output X) → Progress A g asked i old new → WroteWhole A g asked old new
+  stop_whole : (i : ℕ) {X : Type 0} (old new : Output X) → AnsweredFirst A g asked i old new → WroteWhole A g asked old new
   stop_whole i old new p = record {
     count = i;
     answers = p.answers;
@@ -75,7 +75,7 @@ module _ {V : Type 0} (A : Algebra V) (g : GraphData) (asked : Asked) where
   }
 
   module _ (i : ℕ) {X : Type 0} (old mid new : Output X) (t : AnswerData) (lt : i < length asked.questions) (q : Question)
-      (is : IsAnswer A g (get_or asked.questions i q) t) (p : Progress A g asked i old mid) where
+      (is : IsAnswer A g (get_or asked.questions i q) t) (p : AnsweredFirst A g asked i old mid) where
     now_right : AreAnswers A g (take (i + 1) asked.questions) (p.answers ++ t ∷ [])
     now_right = subst (λ x. AreAnswers A g x (p.answers ++ t ∷ [])) (sym (take_more asked.questions i q lt))
         (answers-push A g (take i asked.questions) p.answers (get_or asked.questions i q) t p.right is)
@@ -88,16 +88,16 @@ module _ {V : Type 0} (A : Algebra V) (g : GraphData) (asked : Asked) where
       sound = p.left.sound;
     }
 
-    pub step : WrotePrefix mid new (answer_text t) [] → Progress A g asked (i + 1) old new
+    pub step : WrotePrefix mid new (answer_text t) [] → AnsweredFirst A g asked (i + 1) old new
     step h = record { answers = p.answers ++ t ∷ []; right = now_right; left = left_more begun h }
 
     pub fell : FailedAfterPrefix mid new (answer_text t) → WroteFirst A g asked old new
     fell h = let f = left_fell [] begun h in
         record { count = i + 1; answers = p.answers ++ t ∷ []; right = now_right; prefix = f.prefix; rest = f.rest; text_is = f.text_is; bytes = f.bytes }
 
-  module _ (i : ℕ) {X : Type 0} (old mid new : Output X) (lt : i < length asked.questions) (q : Question) (p : Progress A g asked i old mid) where
+  module _ (i : ℕ) {X : Type 0} (old mid new : Output X) (lt : i < length asked.questions) (q : Question) (p : AnsweredFirst A g asked i old mid) where
     -- one question more was answered
-    pub answered : WroteNext A g (get_or asked.questions i q) mid new (Ok tt) → Progress A g asked (i + 1) old new
+    pub answered : WroteNext A g (get_or asked.questions i q) mid new (Ok tt) → AnsweredFirst A g asked (i + 1) old new
     answered h = step i old mid new h.0 lt q h.1 p h.2
 
     -- it stopped at the question
@@ -128,7 +128,7 @@ module _ {V : Type 0} (A : Algebra V) (g : GraphData) (asked : Asked) where
     }
 
     -- want of memory stopped it before the first question
-    pub stopped_for_memory : (cause : Cause) → cause ≡ causes.Unsolved group.Memory → MayStop cause → Progress A g asked 0 old new → AnsweredAll A g asked MayStop old new (Err cause)
+    pub stopped_for_memory : (cause : Cause) → cause ≡ causes.Unsolved group.Memory → MayStop cause → AnsweredFirst A g asked 0 old new → AnsweredAll A g asked MayStop old new (Err cause)
     stopped_for_memory cause memory kind p = record {
       text = stop 0 old new p;
       sound = tt;
@@ -147,7 +147,7 @@ module _ {V : Type 0} (A : Algebra V) (g : GraphData) (asked : Asked) where
     ]
 
 module _ {V : Type 0} (A : Algebra V) (g : GraphData) (asked : Asked) where
-  whole_text : (i : ℕ) {X : Type 0} (old new : Output X) → length asked.questions ≤ i → Progress A g asked i old new → WroteAnswers A g asked old new
+  whole_text : (i : ℕ) {X : Type 0} (old new : Output X) → length asked.questions ≤ i → AnsweredFirst A g asked i old new → WroteAnswers A g asked old new
   whole_text i old new le p =
       let right : AreAnswers A g asked.questions p.answers = subst (λ x. AreAnswers A g x p.answers) (take_all i asked.questions le) p.right in
       record {
@@ -158,7 +158,7 @@ module _ {V : Type 0} (A : Algebra V) (g : GraphData) (asked : Asked) where
       }
 
   -- all questions are answered
-  pub all_answered : (MayStop : Cause → Type 0) (i : ℕ) {X : Type 0} (old new : Output X) → length asked.questions ≤ i → Progress A g asked i old new →
+  pub all_answered : (MayStop : Cause → Type 0) (i : ℕ) {X : Type 0} (old new : Output X) → length asked.questions ≤ i → AnsweredFirst A g asked i old new →
       AnsweredAll A g asked MayStop old new (Ok tt)
   all_answered MayStop i old new le p = record { text = whole_text i old new le p; sound = p.left.sound; kind = tt; failed = tt; unfailed = tt; whole = tt }
 

@@ -11,7 +11,7 @@ use Rattle.road_graph.specs.GraphData.{GraphData, IsGraph, HasVertex}
 use Rattle.path_algebra.specs.Algebra.{Algebra, IsOrder, IsLawful}
 use Rattle.path_algebra.specs.Walks.{AreBest, label_of}
 use Rattle.path_plain.proofs.Rounds.{Between, unsettled, round, ending}
-use Rattle.path_plain.specs.Order.{open_cmp}
+use Rattle.ranked_queue.specs.Order.{ranked_cmp}
 use Rattle.path_plain.specs.Noting.{IsNoted, noted_if, noted_list}
 use Rattle.path_plain.specs.Searching.{SearchState, IsSearch, IsSameSearch, Relaxes, Advances}
 use Rattle.path_plain.proofs.Noting.{IsOn, noted_blank, noted_more, noted_label, noted_mark, on_labelled}
@@ -91,7 +91,7 @@ module _ {K V : Type 0} (value : K → V) (place : K → ℕ) (order : V → V �
     }
 
     -- the top entry of an open vertex: this one is settled
-    pub settles_one : {C : Type 0} (algebra : C) (A : Algebra V) (now : SearchState C V) → get_or settled (place top) false ≡ false → IsUpperBound (open_cmp value place order) top items →
+    pub settles_one : {C : Type 0} (algebra : C) (A : Algebra V) (now : SearchState C V) → get_or settled (place top) false ≡ false → IsUpperBound (ranked_cmp value place order) top items →
         IsSameSearch (record { algebra = algebra; roads = g; labels = labels; settled = set settled (place top) true; waiting = length rest; notes = is_some touched }) now →
         Relaxes A g (place top + 1) (value top) labels now.labels → now.waiting ≤ length rest + length g.arcs → length rest + 1 ≡ length items →
         Advances order A true (record { algebra = algebra; roads = g; labels = labels; settled = settled; waiting = length items; notes = is_some touched }) now

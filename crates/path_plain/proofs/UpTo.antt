@@ -10,11 +10,11 @@ use Rattle.path_algebra.specs.Walks.{IsWalk, Extends, IsWalkValue, IsBest, IsBes
 use Rattle.path_algebra.proofs.Walks.{walk_value_is_value, all_inside}
 use Rattle.path_algebra.proofs.Tight.{never_better_along, best_is_one, best_at, best_is_label, labelled}
 use Rattle.path_algebra.proofs.Least.{other_no_worse}
-use Rattle.path_plain.specs.Order.{open_cmp}
+use Rattle.ranked_queue.specs.Order.{ranked_cmp}
 use Rattle.path_plain.specs.Queue.{IsQueue}
 use Rattle.path_plain.specs.UpTo.{AreBestUpTo, IsPast}
 use Rattle.path_plain.proofs.Known.{Search, IsSettled}
-use Rattle.path_plain.proofs.Waiting.{queue_ahead}
+use Rattle.ranked_queue.proofs.Bounds.{bound_is_ahead}
 
 -- labels that are best are best up to any target
 pub best_up_to : {V : Type 0} (A : Algebra V) → IsLawful A → (g : GraphData) → IsGraph g → (sources : List ℕ) (target : ℕ) → HasVertex g target → (labels : List (Option V)) →
@@ -33,14 +33,14 @@ not_true false e = refl
 
 -- if the first entry is worse than the label of the target, the search is past the target
 pub queue_past : {K V : Type 0} (value : K → V) (place : K → ℕ) (no_worse : V → V → Bool) → IsOrder no_worse → (labels : List (Option V)) (settled : List Bool) (items : List K) →
-    IsQueue value place no_worse labels settled items → (top : K) → IsUpperBound (open_cmp value place no_worse) top items →
+    IsQueue value place no_worse labels settled items → (top : K) → IsUpperBound (ranked_cmp value place no_worse) top items →
     (target : ℕ) (t : V) → label_of labels target ≡ Some t → no_worse (value top) t ≡ false → IsPast no_worse labels settled target
 queue_past {K} {V} value place no_worse ordered labels settled items known top upper target t at_target worse = record {
   value = t;
   label = at_target;
   worse = λ j y lt o e.
       let c = known.covers j y lt o e in
-      let first : IsTrue (no_worse (value top) y) = subst (λ (v : V). IsTrue (no_worse (value top) v)) c.2 (queue_ahead value place no_worse items top upper c.0 c.1).0 in
+      let first : IsTrue (no_worse (value top) y) = subst (λ (v : V). IsTrue (no_worse (value top) v)) c.2 (bound_is_ahead value place no_worse items top upper c.0 c.1).0 in
       elim (cases_Bool (no_worse y t)) [
         | inr is ↦ is
         | inl le ↦ let bad : true ≡ false = sym (ordered.transitive (value top) y t first le) ∙ worse in cc

@@ -1,33 +1,18 @@
 -- The queue of open vertices.
-use Rattle.std.proofs.Common.{◌≡◌, ℕ, ◌+◌, ◌<◌, ◌≤◌, inl, inr, Bool, true, false, cond, List, [], ◌∷◌, length, get_or, set, refl, ap, sym, ◌∙◌, subst, arith, Option, Some, None, get_or-set_same, get_or-set_other, length-set, not}
+use Rattle.std.proofs.Common.{◌≡◌, ℕ, ◌+◌, ◌<◌, ◌≤◌, inl, inr, Bool, true, false, List, [], ◌∷◌, length, get_or, set, ap, sym, ◌∙◌, subst, arith, Option, Some, None, get_or-set_same, get_or-set_other, length-set, not}
 use Rattle.std.proofs.lemmas.Bool.{cases_eq}
-use Rattle.std.proofs.lemmas.List.Elements.{All-contains, All-from_recursion}
 use Rattle.std.proofs.lemmas.List.Sorted.{Contains-permutation, IsPermutation-sym}
 use Rattle.std.specs.Prelude.{IsTrue, Contains}
 use Rattle.std.specs.List.Sorted.{IsPermutation}
 use Rattle.std.specs.BinaryHeap.{IsUpperBound}
-use Rattle.std.specs.Ordering.{is_lt}
-use Rattle.std.specs.declared.cmp.Ordering.TheVariants.{Less, Equal, Greater}
 use Rattle.road_graph.specs.GraphData.{GraphData, IsAscendingFrom, ListsArcsFrom}
 use Rattle.road_graph.proofs.Lists.{head_or_tail, here, later}
 use Rattle.path_algebra.specs.Algebra.{IsOrder}
 use Rattle.path_algebra.specs.Open.{IsBestOpen}
-use Rattle.path_plain.specs.Order.{by_number, told, open_cmp}
+use Rattle.ranked_queue.specs.Order.{ranked_cmp}
+use Rattle.ranked_queue.proofs.Bounds.{bound_is_ahead}
 use Rattle.path_plain.specs.Queue.{IsQueue}
 use Rattle.path_plain.specs.Ties.{IsFirstOfEquals}
-
-not_less : (p q : Bool) → is_lt (cond p (cond q Equal Greater) Less) ≡ false → IsTrue p
-not_less true q h = refl
-not_less false q h = cc
-
--- no entry is better than one that bounds them all, and none that is as good has a lesser place
-pub queue_ahead : {K V : Type 0} (value : K → V) (place : K → ℕ) (no_worse : V → V → Bool) (items : List K) (top : K) → IsUpperBound (open_cmp value place no_worse) top items →
-    (e : K) → Contains items e → IsTrue (no_worse (value top) (value e)) × (IsTrue (no_worse (value e) (value top)) → place top ≤ place e)
-queue_ahead {K} value place no_worse items top upper e h =
-    let passed : K → Type 0 = λ x. is_lt (open_cmp value place no_worse top x) ≡ false in
-    let p : passed e = All-contains passed items e (All-from_recursion passed items upper) h in
-    told no_worse (value top, place top) (value e, place e)
-    (not_less (by_number no_worse (value top, place top) (value e, place e)) (by_number no_worse (value e, place e) (value top, place top)) p)
 
 module _ {K V : Type 0} (value : K → V) (place : K → ℕ) (no_worse : V → V → Bool) (ordered : IsOrder no_worse) (labels : List (Option V)) (settled : List Bool) (items : List K)
     (known : IsQueue value place no_worse labels settled items) where
@@ -93,9 +78,9 @@ module _ {K V : Type 0} (value : K → V) (place : K → ℕ) (no_worse : V → 
       ];
     }
 
-    module _ (upper : IsUpperBound (open_cmp value place no_worse) top items) where
+    module _ (upper : IsUpperBound (ranked_cmp value place no_worse) top items) where
       ahead : (e : K) → Contains items e → IsTrue (no_worse (value top) (value e)) × (IsTrue (no_worse (value e) (value top)) → place top ≤ place e)
-      ahead e h = queue_ahead value place no_worse items top upper e h
+      ahead e h = bound_is_ahead value place no_worse items top upper e h
 
       -- the top entry is the best open vertex
       pub queue_best : get_or settled (place top) false ≡ false → IsBestOpen no_worse labels settled (length labels) (place top) (value top)

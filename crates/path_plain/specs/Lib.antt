@@ -1,5 +1,4 @@
 pub mod Opening
-pub mod Order
 pub mod Queue
 pub mod Searching
 pub mod Ties

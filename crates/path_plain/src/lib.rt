@@ -4,7 +4,6 @@
 #![tactic(auto)]
 
 mod laws;
-mod queue;
 mod search;
 mod searcher;
 mod solve;

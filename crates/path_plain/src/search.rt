@@ -8,9 +8,9 @@ ghost use Rattle.path_plain.specs.Rounds.{Between, Runs};
 ghost use Rattle.path_plain.specs.Searching.{IsBlank, IsOfSame, IsSameSearch, Relaxes, Advances};
 ghost use Rattle.path_plain.specs.UpTo.{IsPast};
 
-use crate::queue::Queue;
 use crate::touched::{Touched, put_back};
 use path_algebra::{Labels, PathAlgebra, laws_hold};
+use ranked_queue::RankedQueue;
 use road_graph::{Memory, OutGraph, Vertex};
 use std::alloc::Global;
 use std::marker::Model;
@@ -23,7 +23,7 @@ pub(crate) struct Search<A: PathAlgebra> {
     graph: Snapshot<OutGraph>,
     labels: Labels<A::Value>,
     settled: Vec<bool>,
-    queue: Queue<A>,
+    queue: RankedQueue<A, usize>,
     /// The vertices that have had a label since the search was blank.
     touched: Touched,
 }
@@ -36,7 +36,7 @@ impl<A: PathAlgebra> Model for Search<A> {
 
     ghost view = { λ s. record { algebra = s.algebra; roads = s.graph.value; labels = s.labels; settled = s.settled.items; waiting = length s.queue; notes = is_some s.touched } };
 
-    ghost invariant = { λ s. IsSearch (λ o. o.value) (λ o. o.place) A.order s.graph.value s.labels s.settled.items s.queue s.touched };
+    ghost invariant = { λ s. IsSearch (λ o. o.value) (λ o. o.rank) A.order s.graph.value s.labels s.settled.items s.queue s.touched };
 }
 
 impl<A: PathAlgebra> Search<A> {
@@ -62,7 +62,7 @@ impl<A: PathAlgebra> Search<A> {
             graph: Snapshot::of(graph),
             labels: Labels::from_vec(labels),
             settled,
-            queue: Queue::new(alloc),
+            queue: RankedQueue::new(alloc),
             touched,
         })
     }
@@ -153,12 +153,13 @@ impl<A: PathAlgebra> Search<A> {
             self.old self.new) }
         ensures of_same { IsOfSame self.old self.new }
     {
-        let Some((x, i)) = self.queue.pop() else {
+        let Some(top) = self.queue.pop() else {
             return Ok(false);
         };
+        let i = top.rank;
         if !self.settled[i] {
             self.settled[i] = true;
-            self.relax(graph, Vertex(i as u32 + 1), x)?;
+            self.relax(graph, Vertex(i as u32 + 1), top.value)?;
         }
         Ok(true)
     }
@@ -172,7 +173,7 @@ impl<A: PathAlgebra> Search<A> {
             return false;
         };
         match self.queue.first() {
-            Some((x, _)) => !A::no_worse(x, t),
+            Some(top) => !A::no_worse(top.value, t),
             None => false,
         }
     }

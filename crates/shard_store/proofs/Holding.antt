@@ -6,7 +6,7 @@ use Rattle.scholten_core.specs.declared.item.Item.{Item}
 use Rattle.scholten_core.specs.declared.item.Item.TheVariants.{Message as MessageOn, Signal as SignalOn}
 use Rattle.std.specs.Prelude.{All, slice_index_or}
 use Rattle.std.proofs.lemmas.List.Elements.{All-nil, All-cons, All-head, All-tail}
-use Rattle.shard_store.specs.declared.ranked.RankedMessage.{RankedMessage}
+use Rattle.ranked_queue.specs.declared.ranked.Ranked.{Ranked}
 use Rattle.shard_store.specs.Queue.{ranked_item, IsNoWorseOn, IsWorseMessage, IsHeldBy}
 
 module _ {V : Type 0} (no_worse : V → V → Bool) (order : IsOrder no_worse) (a : ℕ) (x limit : V) (worse : no_worse x limit ≡ false) where
@@ -21,10 +21,10 @@ module _ {V : Type 0} (no_worse : V → V → Bool) (order : IsOrder no_worse) (
   all_worse is h = λ k d l. one_worse (slice_index_or is k d) (h k d l)
 
 -- if all ranked messages are worse than a limit, the one on top is
-pub top_worse : {S V : Type 0} (no_worse : V → V → Bool) (limit : V) (top : RankedMessage S V) (ms : List (RankedMessage S V)) → 0 < length ms
+pub top_worse : {S V : Type 0} (no_worse : V → V → Bool) (limit : V) (top : Ranked S ℕ V) (ms : List (Ranked S ℕ V)) → 0 < length ms
     → top ≡ slice_index_or ms 0 top → IsHeldBy no_worse limit (map ranked_item ms) → no_worse top.value limit ≡ false
 top_worse no_worse limit top [] l e h = absurd (omega (arith, l))
-top_worse {S} {V} no_worse limit top (m ∷ ms) l e h = subst (λ (z : RankedMessage S V). no_worse z.value limit ≡ false) (sym e)
+top_worse {S} {V} no_worse limit top (m ∷ ms) l e h = subst (λ (z : Ranked S ℕ V). no_worse z.value limit ≡ false) (sym e)
     (All-head (IsWorseMessage no_worse limit) (ranked_item m) (map ranked_item ms) h)
 
 -- what holds of all of two lists holds of all of each

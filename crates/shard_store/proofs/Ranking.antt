@@ -1,23 +1,20 @@
 -- The lists of a queue as one: the newest item leaves or is ranked, and the best message leaves.
-use Rattle.std.proofs.Common.{◌≡◌, ◌++◌, ◌∷◌, [], List, Bool, true, false, cond, Option, Some, None, refl, sym, subst, ap, ◌∙◌, ℕ, zero, suc, ◌+◌, ◌-◌, ◌<◌, ◌≤◌, length, length-append, append_assoc, arith, map, drop, leb, inl, inr}
-use Rattle.std.specs.Prelude.{IfSome, IsSome, IsOk, OnOk, IsTrue, All, slice_get, Vec, vec_capacity}
+use Rattle.std.proofs.Common.{◌≡◌, ◌++◌, ◌∷◌, [], List, Bool, true, false, Option, Some, None, refl, sym, subst, ap, ◌∙◌, ℕ, zero, suc, ◌+◌, ◌-◌, ◌<◌, ◌≤◌, length, length-append, append_assoc, arith, map, drop, leb}
+use Rattle.std.specs.Prelude.{IfSome, IsSome, IsOk, OnOk, All, slice_get, Vec, vec_capacity}
 use Rattle.std.specs.Option.{option_to_list}
-use Rattle.std.specs.Ordering.{is_lt, nat_cmp, ordering_then}
 use Rattle.std.specs.declared.cmp.Ordering.{Ordering}
-use Rattle.std.specs.declared.cmp.Ordering.TheVariants.{Less, Equal, Greater}
 use Rattle.std.specs.BinaryHeap.{IsUpperBound, KeepsHeap}
 use Rattle.std.specs.declared.result.Result.{Result}
 use Rattle.std.specs.declared.result.Result.TheVariants.{Ok, Err}
-use Rattle.std.specs.Cmp.{nat_cmp_is}
-use Rattle.std.proofs.lemmas.Bool.Decides.{leb_tells}
 use Rattle.std.proofs.lemmas.List.{length-map, append-nil}
 use Rattle.std.proofs.lemmas.List.Elements.{All-nil, All-cons}
 use Rattle.std.specs.List.Sorted.{IsPermutation}
 use Rattle.std.proofs.lemmas.List.Sorted.{IsPermutation-append, IsPermutation-map, IsPermutation-refl, IsPermutation-to_front, IsPermutation-trans}
 use Rattle.scholten_core.specs.declared.item.Item.{Item}
-use Rattle.shard_store.specs.declared.ranked.RankedMessage.{RankedMessage}
+use Rattle.ranked_queue.specs.declared.ranked.Ranked.{Ranked}
 use Rattle.shard_store.specs.Queue.{Line, line, Room, IsItemQueue, ranked_item, IsNewest, IsNoWorseOn, IsBestMessage}
-use Rattle.shard_store.specs.Rank.{rank_cmp}
+use Rattle.ranked_queue.specs.Order.{ranked_cmp, by_number, told}
+use Rattle.ranked_queue.proofs.Bounds.{not_less}
 use Rattle.shard_store.specs.Totals.{counted}
 use Rattle.shard_store.proofs.Totals.{in_one, in_other, length_permutation}
 use Rattle.shard_store.specs.declared.queue_order.QueueOrder.{QueueOrder}
@@ -101,27 +98,16 @@ joined P (Ok x) h p = p
 joined P (Err x) h p = absurd (cc)
 
 module _ {V : Type 0} (no_worse : V → V → Bool) where
-  least_of_ties : (a b : ℕ) → is_lt (nat_cmp b a) ≡ false → a ≤ b
-  least_of_ties a b h = elim (leb_tells a b) [
-    | inl l ↦ l.1
-    | inr g ↦ absurd (let n = g.1 in let less = nat_cmp_is b a Less (omega (arith, n)) in cc)
-  ]
-
-  no_less : (p q : Bool) (o : Ordering) → is_lt (ordering_then (cond p (cond q Equal Greater) Less) o) ≡ false → IsTrue p × (IsTrue q → is_lt o ≡ false)
-  no_less true true o h = (refl, λ _. h)
-  no_less true false o h = (refl, λ t. absurd (cc))
-  no_less false q o h = absurd (cc)
-
   -- the top of a heap is the best of its messages
-  pub top_is_best : {S : Type 0} (m : RankedMessage S V) (ms : List (RankedMessage S V)) → IsUpperBound (rank_cmp (λ n. n.value) (λ n. n.arc) no_worse) m ms → All (IsNoWorseOn no_worse m.arc m.value) (map ranked_item ms)
-  top_is_best m [] h = All-nil (IsNoWorseOn no_worse m.arc m.value)
+  pub top_is_best : {S : Type 0} (m : Ranked S ℕ V) (ms : List (Ranked S ℕ V)) → IsUpperBound (ranked_cmp (λ n. n.value) (λ n. n.rank) no_worse) m ms → All (IsNoWorseOn no_worse m.rank m.value) (map ranked_item ms)
+  top_is_best m [] h = All-nil (IsNoWorseOn no_worse m.rank m.value)
   top_is_best m (n ∷ ms) h =
-      let s = no_less (no_worse m.value n.value) (no_worse n.value m.value) (nat_cmp n.arc m.arc) h.0 in
-      All-cons (IsNoWorseOn no_worse m.arc m.value) (ranked_item n) (map ranked_item ms) (s.0, λ t. least_of_ties m.arc n.arc (s.1 t)) (top_is_best m ms h.1)
+      let a : V × ℕ = (m.value, m.rank) in let b : V × ℕ = (n.value, n.rank) in
+      All-cons (IsNoWorseOn no_worse m.rank m.value) (ranked_item n) (map ranked_item ms) (told no_worse a b (not_less (by_number no_worse a b) (by_number no_worse b a) h.0)) (top_is_best m ms h.1)
 
-  pub best_alone : {S : Type 0} (m : RankedMessage S V) (ms : List (RankedMessage S V)) (rest : List (Item V)) → IsUpperBound (rank_cmp (λ n. n.value) (λ n. n.arc) no_worse) m ms → rest ≡ [] →
+  pub best_alone : {S : Type 0} (m : Ranked S ℕ V) (ms : List (Ranked S ℕ V)) (rest : List (Item V)) → IsUpperBound (ranked_cmp (λ n. n.value) (λ n. n.rank) no_worse) m ms → rest ≡ [] →
       IsBestMessage no_worse (ranked_item m) (map ranked_item ms ++ rest)
-  best_alone m ms rest h e = subst (λ (is : List (Item V)). All (IsNoWorseOn no_worse m.arc m.value) is) (sym (ap (λ is. map ranked_item ms ++ is) e ∙ append-nil (map ranked_item ms))) (top_is_best m ms h)
+  best_alone m ms rest h e = subst (λ (is : List (Item V)). All (IsNoWorseOn no_worse m.rank m.value) is) (sym (ap (λ is. map ranked_item ms ++ is) e ∙ append-nil (map ranked_item ms))) (top_is_best m ms h)
 
 module _ {V : Type 0} where
   -- an item on the arc is in the second of three pieces, or in the third
@@ -136,7 +122,7 @@ dropped_none zero xs e = e
 dropped_none (suc n) xs e = ap (drop (suc n)) e
 
 -- best first, an item is newest that is not ranked
-module _ {S V Z : Type 0} (cmp : RankedMessage S V → RankedMessage S V → Ordering) (o : QueueOrder) (ms : List (RankedMessage S V)) (room : ℕ) (front : Vec (Item V) Z) (taken : ℕ) (back : Vec (Item V) Z) (capacity : ℕ)
+module _ {S V Z : Type 0} (cmp : Ranked S ℕ V → Ranked S ℕ V → Ordering) (o : QueueOrder) (ms : List (Ranked S ℕ V)) (room : ℕ) (front : Vec (Item V) Z) (taken : ℕ) (back : Vec (Item V) Z) (capacity : ℕ)
     (Q : IsItemQueue cmp o ms room front taken back capacity) (l : Line (Item V)) (i : Item V) (items : map ranked_item ms ++ (drop taken front.items ++ back.items) ≡ l.items) (ranked : length ms ≡ l.ranked)
     (order : o ≡ BestFirst) (w : IsNewest l i) where
   front_empty : drop taken front.items ≡ []
@@ -155,7 +141,7 @@ module _ {S V Z : Type 0} (cmp : RankedMessage S V → RankedMessage S V → Ord
       let a = newest_back in let b = Q.taken_stood in let c = Q.waiting in let d = Q.ranked_room order in let e = ap length (Q.none_front order) in
       omega (arith, a, b, c, d, e)
 
-  module _ (m : RankedMessage S V) (named : i ≡ ranked_item m) (ns : List (RankedMessage S V)) (back' : Vec (Item V) Z) (r : Option (Item V)) (joins_heap : IsPermutation (m ∷ ms) ns)
+  module _ (m : Ranked S ℕ V) (named : i ≡ ranked_item m) (ns : List (Ranked S ℕ V)) (back' : Vec (Item V) Z) (r : Option (Item V)) (joins_heap : IsPermutation (m ∷ ms) ns)
       (leaves : back.items ≡ back'.items ++ option_to_list r) (gives : 0 < length back.items → IsSome r) where
     -- then all are those that were
     pub newest_ranked : IsPermutation l.items (map ranked_item ns ++ (drop taken front.items ++ back'.items))

@@ -3,7 +3,6 @@ pub mod Plans
 pub mod Tallies
 pub mod Tables
 pub mod Queue
-pub mod Rank
 pub mod Totals
 pub mod Setup
 pub mod Outgoing

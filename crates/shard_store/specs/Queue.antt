@@ -4,7 +4,7 @@ use Rattle.std.specs.BinaryHeap.{IsHeap}
 use Rattle.std.specs.declared.cmp.Ordering.{Ordering}
 use Rattle.scholten_core.specs.declared.item.Item.{Item}
 use Rattle.scholten_core.specs.declared.item.Item.TheVariants.{Message as MessageOn, Signal as SignalOn}
-use Rattle.shard_store.specs.declared.ranked.RankedMessage.{RankedMessage}
+use Rattle.ranked_queue.specs.declared.ranked.Ranked.{Ranked}
 use Rattle.shard_store.specs.declared.queue_order.QueueOrder.{QueueOrder}
 use Rattle.shard_store.specs.declared.queue_order.QueueOrder.TheVariants.{Arrival, BestFirst}
 
@@ -26,8 +26,8 @@ abbrev pub line : {X : Type 0} → List X → ℕ → Room → Line X
 line xs n r = record { items = xs; ranked = n; room = r }
 
 -- a ranked message, as an item
-abbrev pub ranked_item : {S V : Type 0} → RankedMessage S V → Item V
-ranked_item m = MessageOn m.arc m.value
+abbrev pub ranked_item : {S V : Type 0} → Ranked S ℕ V → Item V
+ranked_item m = MessageOn m.rank m.value
 
 -- the item came last, and is not ranked
 abbrev pub IsNewest : {X : Type 0} → Line X → X → Type 0

@@ -11,13 +11,16 @@ mod holding;
 
 use crate::batch::{Batch, carried_in};
 use crate::queue_order::QueueOrder;
-use crate::ranked::RankedMessage;
 use path_algebra::PathAlgebra;
+use ranked_queue::Ranked;
 use road_graph::{ArcNo, Memory};
 use scholten_core::Item;
 use std::alloc::Global;
 use std::collections::BinaryHeap;
 use std::marker::Model;
+
+/// A message that waits for its turn by value; its rank is its arc.
+pub type RankedMessage<A> = Ranked<A, ArcNo>;
 
 /// The items that wait at a part: a queue of a fixed capacity.
 ///
@@ -39,14 +42,14 @@ impl<A: PathAlgebra> Model for Queue<A> {
     ghost use Rattle.std.specs.Prelude.{◌++◌, drop, map, length};
     ghost use Rattle.std.specs.BinaryHeap.{heap_items, heap_capacity};
     ghost use Rattle.scholten_core.specs.declared.item.Item.{Item};
-    ghost use Rattle.shard_store.specs.Rank.{rank_cmp};
+    ghost use Rattle.ranked_queue.specs.Order.{ranked_cmp};
     ghost use Rattle.shard_store.specs.Queue.{Line, line, room, ranked_item, IsItemQueue};
 
     ghost Value = { Line (Item A.Value) };
 
     ghost view = { λ q. line (map ranked_item (heap_items q.ranked) ++ (drop q.taken q.front.items ++ q.back.items)) (length (heap_items q.ranked)) (room q.capacity q.order) };
 
-    ghost invariant = { λ q. IsItemQueue (rank_cmp (λ m. m.value) (λ m. m.arc) A.order) q.order (heap_items q.ranked) (heap_capacity q.ranked) q.front q.taken q.back q.capacity };
+    ghost invariant = { λ q. IsItemQueue (ranked_cmp (λ m. m.value) (λ m. m.rank) A.order) q.order (heap_items q.ranked) (heap_capacity q.ranked) q.front q.taken q.back q.capacity };
 }
 
 impl<A: PathAlgebra> Queue<A> {
@@ -175,7 +178,7 @@ impl<A: PathAlgebra> Queue<A> {
     {
         let best = self.ranked.pop()?;
         Some(Item::Message {
-            arc: best.arc,
+            arc: best.rank,
             value: best.value,
         })
     }
@@ -186,7 +189,7 @@ fn is_ranked<A: PathAlgebra>(ranked: &[RankedMessage<A>], arc: ArcNo) -> bool
     ensures { result ≡ leb 1 (counted arc (map ranked_item ranked.now)) }
 {
     for i in 0..ranked.len() {
-        if ranked[i].arc == arc {
+        if ranked[i].rank == arc {
             return true;
         }
     }

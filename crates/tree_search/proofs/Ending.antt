@@ -19,7 +19,7 @@ use Rattle.route_tree.specs.Tree.{IsLinked, IsTree}
 use Rattle.route_tree.proofs.LevelsAreLeast.{IsWalkOf-snoc, IsWalkOf-nil, search_ends}
 use Rattle.route_tree.proofs.Trees.{linked, tree_is}
 use Rattle.tree_search.specs.Marks.{key_of, values_in, keys_in, hops_in, parents_in, parent_in, parent_or_none}
-use Rattle.path_plain.specs.Order.{by_number}
+use Rattle.ranked_queue.specs.Order.{by_number}
 use Rattle.tree_search.specs.declared.mark.Mark.{Mark}
 use Rattle.tree_search.proofs.Reading.{read, read_none, found, is_some}
 use Rattle.tree_search.proofs.Hopping.{Hopping}

@@ -13,7 +13,7 @@ use Rattle.path_algebra.proofs.Least.{same_no_worse}
 use Rattle.path_plain.proofs.Known.{IsSettled, Search}
 use Rattle.path_plain.proofs.Offering.{search_arc}
 use Rattle.tree_search.specs.Marks.{key_of, values_in, marked, marked_if, relaxed_marks}
-use Rattle.path_plain.specs.Order.{by_number, told, tells}
+use Rattle.ranked_queue.specs.Order.{by_number, told, tells}
 use Rattle.tree_search.specs.declared.mark.Mark.{Mark}
 use Rattle.tree_search.proofs.Reading.{read, found, IsKept, IsTaken, outcome, values_marked}
 

@@ -2,6 +2,7 @@ mod Reading
 mod Hopping
 mod Rounds
 mod Ending
+mod Ranking
 mod Steps
 mod Opening
 mod Relaxing

@@ -9,7 +9,7 @@ use Rattle.path_algebra.specs.Algebra.{IsOrder}
 use Rattle.path_algebra.specs.Walks.{label_of, improved, offered}
 use Rattle.path_algebra.proofs.Least.{other_no_worse}
 use Rattle.tree_search.specs.Marks.{key_of, values_in, is_better, is_lesser, marked}
-use Rattle.path_plain.specs.Order.{by_number, told, by_number_order}
+use Rattle.ranked_queue.specs.Order.{by_number, told, by_number_order}
 use Rattle.tree_search.specs.declared.mark.Mark.{Mark}
 
 -- an option is empty or holds something

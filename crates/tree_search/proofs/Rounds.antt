@@ -10,7 +10,7 @@ use Rattle.path_algebra.specs.Walks.{label_of}
 use Rattle.path_algebra.specs.Open.{IsBestOpen}
 use Rattle.path_plain.proofs.Known.{IsSettled, none_settled, search_start, search_pick, picked, not_picked}
 use Rattle.tree_search.specs.Marks.{key_of, values_in, keys_in}
-use Rattle.path_plain.specs.Order.{by_number, told}
+use Rattle.ranked_queue.specs.Order.{by_number, told}
 use Rattle.tree_search.specs.Opening.{AreOpening}
 use Rattle.tree_search.specs.Searching.{Relaxes}
 use Rattle.tree_search.specs.declared.mark.Mark.{Mark}

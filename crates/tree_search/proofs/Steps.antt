@@ -15,7 +15,7 @@ use Rattle.path_algebra.specs.Algebra.{Algebra, IsOrder, IsLawful}
 use Rattle.path_algebra.specs.Walks.{AreBest}
 use Rattle.path_algebra.specs.Open.{IsBestOpen}
 use Rattle.path_algebra.proofs.Least.{other_no_worse}
-use Rattle.path_plain.specs.Order.{open_cmp, by_number, by_number_order}
+use Rattle.ranked_queue.specs.Order.{ranked_cmp, by_number, by_number_order}
 use Rattle.path_plain.specs.Queue.{IsQueue}
 use Rattle.path_plain.proofs.Waiting.{queue_offer, queue_skip, queue_settle, queue_best}
 use Rattle.route_tree.specs.Tree.{IsLinked, IsTree}
@@ -23,6 +23,7 @@ use Rattle.tree_search.specs.Marks.{key_of, values_in, keys_in, hops_in, parents
 use Rattle.tree_search.specs.Searching.{SearchState, HaveFewHops, IsSearch, IsSameSearch, Relaxes, Advances, Proceeds}
 use Rattle.tree_search.specs.declared.mark.Mark.{Mark}
 use Rattle.tree_search.proofs.Reading.{found}
+use Rattle.tree_search.proofs.Ranking.{first_of_key}
 use Rattle.tree_search.proofs.Rounds.{Between, round, keys_count}
 use Rattle.tree_search.proofs.Ending.{values_are_best, tree_is_found, linked_found}
 
@@ -144,7 +145,14 @@ module _ {K V : Type 0} (key : K → V × ℕ) (place : K → ℕ) (order : V �
       queue = queue_settle key place (by_number order) (by_number_order order ordered) (keys_in marks) settled items known.queue top rest moved in_settled;
     }
 
-    module _ (o : get_or settled (place top) false ≡ false) (upper : IsUpperBound (open_cmp key place (by_number order)) top items) where
+    module _ (o : get_or settled (place top) false ≡ false)
+        (first : IsUpperBound (ranked_cmp (λ e. (key e).0) (λ e. (key e).1 * 4294967296 + place e) order) top items) where
+      upper : IsUpperBound (ranked_cmp key place (by_number order)) top items
+      upper = first_of_key key place order items top first (λ e h.
+          let l = (known.queue.entries e h).0 in
+          let n = length-map marks (option_map key_of) in
+          omega (arith, l, n, known.marks_count, known.roads.few_vertices))
+
       best : IsBestOpen (by_number order) (keys_in marks) settled (length (keys_in marks)) (place top) (key top)
       best = queue_best key place (by_number order) (by_number_order order ordered) (keys_in marks) settled items known.queue top rest moved upper o
 

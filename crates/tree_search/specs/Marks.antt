@@ -3,7 +3,7 @@ use Rattle.std.specs.Prelude.{ℕ, ◌+◌, ◌-◌, List, [], ◌∷◌, map, B
 use Rattle.road_graph.specs.GraphData.{GraphData, arc_of}
 use Rattle.path_algebra.specs.Algebra.{Algebra}
 use Rattle.path_algebra.specs.Walks.{label_of}
-use Rattle.path_plain.specs.Order.{by_number}
+use Rattle.ranked_queue.specs.Order.{by_number}
 use Rattle.tree_search.specs.declared.mark.Mark.{Mark}
 
 -- what a search settles by: the value, then the hops

@@ -5,7 +5,7 @@ use Rattle.path_algebra.specs.Algebra.{Algebra}
 use Rattle.path_algebra.specs.Open.{IsBestOpen, AnswersBestOpen}
 use Rattle.path_plain.specs.Queue.{IsQueue}
 use Rattle.tree_search.specs.Marks.{keys_in, relaxed_marks, unsettled}
-use Rattle.path_plain.specs.Order.{by_number}
+use Rattle.ranked_queue.specs.Order.{by_number}
 use Rattle.tree_search.specs.declared.mark.Mark.{Mark}
 
 -- the mark of each vertex, which are settled, and how many entries wait in the queue

@@ -5,8 +5,8 @@
 //! For algebras whose values mostly tie, the two passes of `path_plain` and `route_tree` take less time, and are used.
 #![tactic(auto)]
 
+mod hops_and_place;
 mod mark;
-mod queue;
 mod search;
 mod solve;
 mod table;

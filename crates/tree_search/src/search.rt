@@ -7,10 +7,11 @@ ghost use Rattle.route_tree.specs.Tree.{IsLinked};
 ghost use Rattle.tree_search.specs.Opening.{AreOpening};
 ghost use Rattle.tree_search.specs.Searching.{IsSameSearch, Relaxes, Proceeds};
 
+use crate::hops_and_place::HopsAndPlace;
 use crate::mark::Mark;
-use crate::queue::Queue;
 use crate::table::MarkTable;
 use path_algebra::{Labels, PathAlgebra, laws_hold};
+use ranked_queue::RankedQueue;
 use road_graph::{Memory, OutGraph, Vertex};
 use route_tree::Tree;
 use std::alloc::Global;
@@ -23,7 +24,7 @@ pub(crate) struct Search<'g, A: PathAlgebra> {
     graph: &'g OutGraph,
     marks: MarkTable<A>,
     settled: Vec<bool>,
-    queue: Queue<A>,
+    queue: RankedQueue<A, HopsAndPlace>,
 }
 
 impl<'g, A: PathAlgebra> Model for Search<'g, A> {
@@ -34,7 +35,7 @@ impl<'g, A: PathAlgebra> Model for Search<'g, A> {
 
     ghost view = { λ s. record { algebra = s.algebra; roads = s.graph.now; marks = s.marks; settled = s.settled.items; waiting = length s.queue } };
 
-    ghost invariant = { λ s. IsSearch (λ o. (o.value, o.hops)) (λ o. o.place) A.order s.graph.now s.marks s.settled.items s.queue };
+    ghost invariant = { λ s. IsSearch (λ o. (o.value, o.rank.hops)) (λ o. o.rank.place) A.order s.graph.now s.marks s.settled.items s.queue };
 }
 
 impl<'g, A: PathAlgebra> Search<'g, A> {
@@ -55,7 +56,7 @@ impl<'g, A: PathAlgebra> Search<'g, A> {
         let n = graph.vertices() as usize;
         let marks = MarkTable::new(alloc, n)?;
         let settled: Vec<bool> = vec![in alloc; false; n]?;
-        let queue = Queue::new(alloc);
+        let queue = RankedQueue::new(alloc);
         let mut search = Search {
             algebra,
             graph,
@@ -86,7 +87,8 @@ impl<'g, A: PathAlgebra> Search<'g, A> {
             parent,
         };
         if self.marks.is_better(i, new) {
-            self.queue.push(value, hops, v.0 - 1)?;
+            let place = v.0 - 1;
+            self.queue.push(value, HopsAndPlace { hops, place })?;
             self.marks.set(i, new);
         } else if self.marks.is_lesser(i, new) {
             self.marks.set(i, new);
@@ -144,10 +146,10 @@ impl<'g, A: PathAlgebra> Search<'g, A> {
         let Some(top) = self.queue.pop() else {
             return Ok(false);
         };
-        let i = top.place as usize;
+        let i = top.rank.place as usize;
         if !self.settled[i] {
             self.settled[i] = true;
-            self.relax(Vertex(top.place + 1), top.value, top.hops)?;
+            self.relax(Vertex(top.rank.place + 1), top.value, top.rank.hops)?;
         }
         Ok(true)
     }

@@ -77,7 +77,7 @@ fn improving<A: PathAlgebra>(
         Item::Message { arc, value } => {
             let at = tables.own.find(head_of(graph, source, arc));
             let improved = improves(algebra, value, tables.vertices.label(at));
-            improved.then_some(RankedMessage { value, arc })
+            improved.then_some(RankedMessage { value, rank: arc })
         }
         Item::Signal { .. } => None,
     }

@@ -1,13 +1,12 @@
 //! Whether what waits in a queue is held back.
 ghost use Rattle.std.specs.Prelude.{◌≡◌, IsTrue, map};
 ghost use Rattle.std.specs.BinaryHeap.{heap_items, IsHeap};
+ghost use Rattle.ranked_queue.specs.Order.{ranked_cmp};
 ghost use Rattle.shard_store.specs.Queue.{ranked_item, IsWorseMessage, IsHeldBy};
-ghost use Rattle.shard_store.specs.Rank.{rank_cmp};
 ghost use Rattle.shard_store.specs.declared.queue_order.QueueOrder.TheVariants.{BestFirst};
 
-use crate::queue::Queue;
+use crate::queue::{Queue, RankedMessage};
 use crate::queue_order::QueueOrder;
-use crate::ranked::RankedMessage;
 use path_algebra::PathAlgebra;
 use scholten_core::Item;
 use std::collections::BinaryHeap;
@@ -52,7 +51,7 @@ fn better<A: PathAlgebra>(best: Option<A::Value>, value: A::Value) -> Option<A::
 
 /// Whether all ranked messages are worse than a limit.
 fn is_top_worse<A: PathAlgebra>(ranked: &BinaryHeap<RankedMessage<A>>, limit: A::Value) -> bool
-    requires { IsHeap (rank_cmp (λ m. m.value) (λ m. m.arc) A.order) (heap_items ranked.now) }
+    requires { IsHeap (ranked_cmp (λ m. m.value) (λ m. m.rank) A.order) (heap_items ranked.now) }
     ensures held { IsTrue result → IsHeldBy A.order limit
         (map ranked_item (heap_items ranked.now)) }
     ensures all { IsHeldBy A.order limit (map ranked_item (heap_items ranked.now)) →

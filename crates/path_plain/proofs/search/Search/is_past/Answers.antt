@@ -14,5 +14,5 @@ returns-in-Some-first g c =
     let at_target : label_of labels c.args.target ≡ Some c.in-Some.t = sym c.of.ensures ∙ c.in-Some.is in
     λ t.
     subst (λ (s : SearchState g.row.A.Denot g.row.A-Value.Denot). IsPast order s.labels s.settled c.args.target) c.self.view_is
-    (queue_past (λ o. o.value) (λ o. o.place) order laws.ordered labels settled c.self.inside.queue c.self.invariant.queue _ c.in-Some-first.ensures c.args.target c.in-Some.t at_target
+    (queue_past (λ o. o.value) (λ o. o.rank) order laws.ordered labels settled c.self.inside.queue c.self.invariant.queue _ c.in-Some-first.ensures.best c.args.target c.in-Some.t at_target
     (sym c.no_worse.ensures ∙ not_true c.no_worse.result t))

@@ -9,4 +9,4 @@ invariant_of-result g c =
     let settled : c.in_ok-settled.settled.items ≡ replicate c.args.graph.now.vertices false =
     c.in_ok-settled.ensures.items_if_clones_equal (λ y e. search rules) ∙ ap (λ n. replicate n false) c.vertices-n.ensures.count in
     rw (c.of.ensures, c.from_vec.ensures, labels, settled, c.new.ensures)
-    (search_blank (λ o. o.value) (λ o. o.place) g.A.PathAlgebra.order c.args.graph.now c.holds.ensures c.args.touched c.requires)
+    (search_blank (λ o. o.value) (λ o. o.rank) g.A.PathAlgebra.order c.args.graph.now c.holds.ensures c.args.touched c.requires)

@@ -10,7 +10,7 @@ pub returns-in-Some-clause-held : goal.returns-in-Some-clause-held
 returns-in-Some-clause-held g c = λ h.
     let laws = g.met.A.PathAlgebra g.world.𝓛 g.world.𝓜 g.world.𝓡 ((λ s x. x), (λ x. x), (λ x. x), λ x. x) in
     let m = c.in-Some.top.now in let ms = heap_items c.args.ranked.now in
-    all_worse g.A.PathAlgebra.order laws.ordered m.arc m.value c.args.limit (sym c.no_worse.ensures ∙ not-true c.no_worse.result h) (map ranked_item ms)
+    all_worse g.A.PathAlgebra.order laws.ordered m.rank m.value c.args.limit (sym c.no_worse.ensures ∙ not-true c.no_worse.result h) (map ranked_item ms)
     (top_is_best g.A.PathAlgebra.order m ms (c.in-Some.ensures.greatest c.requires))
 
 pub returns-in-Some-clause-all : goal.returns-in-Some-clause-all

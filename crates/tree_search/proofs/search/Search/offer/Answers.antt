@@ -13,7 +13,7 @@ invariant_of-self-then-is_better g c =
     let s : unsettled settled ≡ unsettled c.args.self.now.settled = λ i. unsettled (c.self.view_is i).settled in
     let lt : k < length marks = omega (arith, c.requires.vertex.0, c.requires.vertex.1, n, c.v.view_is, c.self.invariant.marks_count) in
     let few = c.requires.hops in
-    rw c.set.ensures (search_offers (λ o. (o.value, o.hops)) (λ o. o.place) g.A.PathAlgebra.order laws.ordered c.self.inside.graph.now marks settled c.self.inside.queue c.self.invariant k
+    rw c.set.ensures (search_offers (λ o. (o.value, o.rank.hops)) (λ o. o.rank.place) g.A.PathAlgebra.order laws.ordered c.self.inside.graph.now marks settled c.self.inside.queue c.self.invariant k
     (record { value = c.args.value; hops = c.args.hops; parent = c.args.parent }) _ _ lt
     (sym c.is_better.ensures ∙ c.if-is_better.true)
     (omega (arith, few, n, s)) c.in_ok-push.ensures.items refl refl)
@@ -28,7 +28,7 @@ invariant_of-self-then-is_lesser g c =
     let s : unsettled settled ≡ unsettled c.args.self.now.settled = λ i. unsettled (c.self.view_is i).settled in
     let lt : k < length marks = omega (arith, c.requires.vertex.0, c.requires.vertex.1, n, c.v.view_is, c.self.invariant.marks_count) in
     let few = c.requires.hops in
-    rw c.set-then-is_lesser.ensures (search_lessens (λ o. (o.value, o.hops)) (λ o. o.place) g.A.PathAlgebra.order laws.ordered c.self.inside.graph.now marks settled
+    rw c.set-then-is_lesser.ensures (search_lessens (λ o. (o.value, o.rank.hops)) (λ o. o.rank.place) g.A.PathAlgebra.order laws.ordered c.self.inside.graph.now marks settled
     c.self.inside.queue c.self.invariant k
     (record { value = c.args.value; hops = c.args.hops; parent = c.args.parent }) lt
     (sym c.is_better.ensures ∙ c.if-is_better.false)

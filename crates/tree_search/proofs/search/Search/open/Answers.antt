@@ -11,7 +11,7 @@ invariant_of-search g c =
     let laws = g.met.A.PathAlgebra g.world.𝓛 g.world.𝓜 g.world.𝓡 ((λ s x. x), (λ x. x), (λ x. x), λ x. x) in
     let marks : c.in_ok-marks.marks ≡ replicate n None = c.in_ok-marks.ensures ∙ ap (λ (k : ℕ). replicate k None) count in
     let settled : c.in_ok-settled.settled.items ≡ replicate n false = c.in_ok-settled.ensures.items_if_clones_equal (λ y h. search rules) ∙ ap (λ (k : ℕ). replicate k false) count in
-    rw (marks, settled, c.new-queue.ensures) (search_opens (λ o. (o.value, o.hops)) (λ o. o.place) g.A.PathAlgebra.order laws.ordered c.args.graph.now c.vertices-n.ensures.roads)
+    rw (marks, settled, c.new-queue.ensures) (search_opens (λ o. (o.value, o.rank.hops)) (λ o. o.rank.place) g.A.PathAlgebra.order laws.ordered c.args.graph.now c.vertices-n.ensures.roads)
 
 pub loop-source-init : goal.loop-source-init
 loop-source-init g c =

@@ -1,4 +1,4 @@
--- The order of the open vertices in a heap.
+-- Entries by value, and if values tie by a number.
 use Rattle.std.specs.Prelude.{◌≡◌, ℕ, ◌≤◌, ◌⊎◌, Bool, true, false, cond, leb, IsTrue}
 use Rattle.std.specs.Ordering.{ordering_reverse, on}
 use Rattle.std.specs.Cmp.{IsTotalOrder}
@@ -11,7 +11,7 @@ use Rattle.std.proofs.lemmas.Bool.Decides.{leb_tells}
 use Rattle.path_algebra.specs.Algebra.{IsOrder}
 use Rattle.path_algebra.proofs.Least.{other_no_worse}
 
--- the order of a heap: a value is greater if it is better
+-- a value is greater if it is better
 abbrev pub value_cmp : {V : Type 0} → (V → V → Bool) → V → V → Ordering
 value_cmp no_worse a b = cond (no_worse a b) (cond (no_worse b a) Equal Greater) Less
 
@@ -112,9 +112,9 @@ module _ {V : Type 0} (no_worse : V → V → Bool) where
           λ i. (first i, second i);
     }
 
--- entries by value, and if values tie the lesser place is greater: equal only if both are equal
-abbrev pub open_cmp : {K V : Type 0} → (K → V) → (K → ℕ) → (V → V → Bool) → K → K → Ordering
-open_cmp value place no_worse = on (λ o. (value o, place o)) (value_cmp (by_number no_worse))
+-- entries by value, and if values tie the lesser rank is greater: equal only if both are equal
+abbrev pub ranked_cmp : {K V : Type 0} → (K → V) → (K → ℕ) → (V → V → Bool) → K → K → Ordering
+ranked_cmp value rank no_worse = on (λ o. (value o, rank o)) (value_cmp (by_number no_worse))
 
-pub open_total : {K V : Type 0} (value : K → V) (place : K → ℕ) (no_worse : V → V → Bool) → IsOrder no_worse → IsTotalOrder (open_cmp value place no_worse)
-open_total value place no_worse ordered = on_total (λ o. (value o, place o)) (value_total (by_number no_worse) (by_number_order no_worse ordered))
+pub ranked_total : {K V : Type 0} (value : K → V) (rank : K → ℕ) (no_worse : V → V → Bool) → IsOrder no_worse → IsTotalOrder (ranked_cmp value rank no_worse)
+ranked_total value rank no_worse ordered = on_total (λ o. (value o, rank o)) (value_total (by_number no_worse) (by_number_order no_worse ordered))

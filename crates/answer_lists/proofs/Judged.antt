@@ -1,6 +1,6 @@
 -- A verdict on lists is one on the lines that they spell.
 use Rattle.std.proofs.Common.{ℕ, List, refl, Option, Some, None}
-use Rattle.std.specs.Prelude.{All, MatchOption}
+use Rattle.std.specs.Prelude.{All}
 use Rattle.road_graph.specs.GraphData.{GraphData, IsGraph, HasVertex}
 use Rattle.path_algebra.specs.Algebra.{Algebra, IsLawful}
 use Rattle.path_algebra.proofs.Walks.{all_inside}
@@ -8,10 +8,10 @@ use Rattle.answer_text.specs.IsAnswer.{AreVertexLines}
 use Rattle.answer_check.specs.declared.place.Place.{Place}
 use Rattle.answer_check.specs.declared.verdict.Reason.{Reason}
 use Rattle.answer_check.specs.Places.{IsJudgedAt}
-use Rattle.answer_check.specs.Reasons.{IsLineRefused, reason_number}
+use Rattle.answer_check.specs.Reasons.{IsLineRefused}
 use Rattle.answer_check.proofs.Certified.{lines_are_certified}
 use Rattle.answer_check.proofs.FirstPlaces.{certified_not_refused}
-use Rattle.answer_lists.specs.Tree.{lines_of, AreTreeLists, IsFirstRefuted}
+use Rattle.answer_lists.specs.Tree.{lines_of, AreJudged, AreTreeLists}
 use Rattle.answer_lists.specs.Answers.{HavePlaces}
 
 module _ {V : Type 0} (A : Algebra V) (lawful : IsLawful A) (g : GraphData) (roads : IsGraph g) (sources : List ℕ) (inside : All (HasVertex g) sources)
@@ -24,7 +24,7 @@ module _ {V : Type 0} (A : Algebra V) (lawful : IsLawful A) (g : GraphData) (roa
 
   pub tree_judged : (o : Option Place) →
       IsJudgedAt (AreVertexLines A g sources (lines_of codes hops parents)) (λ v r. HasVertex g v × IsLineRefused A g sources (lines_of codes hops parents) v r) o →
-      MatchOption o (AreTreeLists A g sources codes hops parents) (λ p. IsFirstRefuted A g sources codes hops parents p.vertex (reason_number p.reason))
+      AreJudged A g sources codes hops parents o
   tree_judged None right = record { places = places; lines = right }
   tree_judged (Some p) h = record {
     wrong = not_the_tree p.vertex p.reason h.0.0 h.0.1;

@@ -1,10 +1,11 @@
 -- A tree in three lists, each with a number for each vertex, and the first vertex at which such lists are wrong.
-use Rattle.std.specs.Prelude.{◌≡◌, ◌⊎◌, ◌↔◌, ℕ, ◌==◌, ◌&&◌, if◌then◌else◌, ℤ, pos, true, List, [], ◌∷◌, All, Option, Some, None, length}
+use Rattle.std.specs.Prelude.{◌≡◌, ◌⊎◌, ◌↔◌, ℕ, ◌==◌, ◌&&◌, if◌then◌else◌, ℤ, pos, true, List, [], ◌∷◌, All, Option, Some, None, MatchOption, length}
 use Rattle.road_graph.specs.GraphData.{GraphData, HasVertex}
 use Rattle.path_algebra.specs.Algebra.{Algebra}
 use Rattle.path_algebra.specs.Choices.{IsAlgebra}
 use Rattle.answer_text.specs.declared.answers.Reached.{Reached}
 use Rattle.answer_text.specs.IsAnswer.{AreVertexLines}
+use Rattle.answer_check.specs.declared.place.Place.{Place}
 use Rattle.answer_check.specs.declared.verdict.Reason.{Reason}
 use Rattle.answer_check.specs.Reasons.{IsLineRefused, reason_number}
 use Rattle.answer_check.specs.Verdicts.{IsEarlier}
@@ -58,6 +59,11 @@ pub record IsFirstRefuted {V : Type 0} (A : Algebra V) (g : GraphData) (sources 
   pub number_is : number ≡ reason_number reason
   pub refused : IsLineRefused A g sources (lines_of codes hops parents) v reason
   pub first : (u : ℕ) (r : Reason) → IsEarlier u r v reason → HasVertex g u → IsLineRefused A g sources (lines_of codes hops parents) u r → ⊥
+
+-- what a check found: the lists are the tree, or this is the first place where they are wrong
+abbrev pub AreJudged : {V : Type 0} → Algebra V → GraphData → List ℕ → List ℕ → List ℕ → List ℕ → Option Place → Type 0
+AreJudged A g sources codes hops parents found = MatchOption found (AreTreeLists A g sources codes hops parents)
+    (λ p. IsFirstRefuted A g sources codes hops parents p.vertex (reason_number p.reason))
 
 -- which checks of a tree are refused, in this order: a source is no vertex, a list does not have n places, there is no such algebra
 pub record ReportsRefusals (g : GraphData) (number limit : ℕ) (sources codes hops parents : List ℕ) (status : ℤ) : Type 0 where

@@ -1,11 +1,10 @@
 //! The check of a tree in three lists.
 
-ghost use Rattle.std.specs.Prelude.{◌≡◌, ◌∷◌, [], pos, All, IfOk, MatchOption};
+ghost use Rattle.std.specs.Prelude.{◌≡◌, ◌∷◌, [], pos, All, IfOk};
 ghost use Rattle.road_graph.specs.GraphData.{HasVertex};
 ghost use Rattle.path_algebra.specs.Choices.{OfAlgebra, Under};
-ghost use Rattle.answer_check.specs.Reasons.{reason_number};
 ghost use Rattle.answer_lists.specs.Answers.{HavePlaces, IsOneOf};
-ghost use Rattle.answer_lists.specs.Tree.{AreTreeLists, IsFirstRefuted, ReportsRefusals};
+ghost use Rattle.answer_lists.specs.Tree.{AreJudged, AreTreeLists, IsFirstRefuted, ReportsRefusals};
 
 use crate::lines::ListedLines;
 use crate::shared_graph::SharedGraph;
@@ -22,84 +21,37 @@ fn judge<A: PathAlgebra>(
     algebra: A,
     graph: &InGraph,
     sources: &[u32],
-    codes: &[u64],
-    hops: &[u32],
-    parents: &[u32],
+    lines: &ListedLines<'_>,
 ) -> Result<Option<Place>, Memory>
     requires sources { All (HasVertex graph.now) sources.now }
-    requires places { HavePlaces graph.now.vertices codes.now hops.now parents.now }
-    ensures { IfOk result (λ o. MatchOption o (AreTreeLists (A.meaning algebra) graph.now sources.now codes.now hops.now parents.now)
-        (λ p. IsFirstRefuted (A.meaning algebra) graph.now sources.now codes.now hops.now parents.now p.vertex (reason_number p.reason))) }
+    requires places { HavePlaces graph.now.vertices lines.now.codes.now lines.now.hops.now
+        lines.now.parents.now }
+    ensures { IfOk result (AreJudged (A.meaning algebra) graph.now sources.now
+        lines.now.codes.now lines.now.hops.now lines.now.parents.now) }
 {
     laws_hold(algebra);
     graph.holds();
     let list = vertices_of(alloc, sources)?;
-    let lines = ListedLines {
-        codes,
-        hops,
-        parents,
-    };
-    first_wrong_line(alloc, algebra, graph, &list, &lines)
+    first_wrong_line(alloc, algebra, graph, &list, lines)
 }
 
-/// Judges a tree and reports the first wrong vertex.
-fn answer<A: PathAlgebra>(
-    alloc: Global,
-    algebra: A,
-    graph: &InGraph,
-    sources: &[u32],
-    codes: &[u64],
-    hops: &[u32],
-    parents: &[u32],
-    vertex: &mut u32,
-    reason: &mut u32,
-) -> i32
-    requires sources { All (HasVertex graph.now) sources.now }
-    requires places { HavePlaces graph.now.vertices codes.now hops.now parents.now }
-    ensures right { result ≡ pos 0 → AreTreeLists (A.meaning algebra) graph.now sources.now codes.now
-        hops.now parents.now }
-    ensures wrong { result ≡ pos 6 → IsFirstRefuted (A.meaning algebra) graph.now sources.now
-        codes.now hops.now parents.now vertex.new reason.new }
-    ensures kept { (result ≡ pos 6 → ⊥) → (vertex.new ≡ vertex.old) × (reason.new ≡ reason.old) }
-    ensures status { IsOneOf (0 ∷ 3 ∷ 6 ∷ []) result }
-{
-    match judge(alloc, algebra, graph, sources, codes, hops, parents) {
-        Ok(None) => DONE,
-        Ok(Some(place)) => {
-            *vertex = place.vertex;
-            *reason = place.reason.number();
-            WRONG
-        }
-        Err(Memory) => MEMORY,
-    }
-}
-
-/// Judges a tree by the chosen algebra and reports the first wrong vertex.
-fn answer_chosen(
+/// The same, by the chosen algebra.
+fn judge_chosen(
     alloc: Global,
     chosen: AlgebraChoice,
     graph: &InGraph,
     sources: &[u32],
-    codes: &[u64],
-    hops: &[u32],
-    parents: &[u32],
-    vertex: &mut u32,
-    reason: &mut u32,
-) -> i32
+    lines: &ListedLines<'_>,
+) -> Result<Option<Place>, Memory>
     requires sources { All (HasVertex graph.now) sources.now }
-    requires places { HavePlaces graph.now.vertices codes.now hops.now parents.now }
-    ensures right { result ≡ pos 0 → Under chosen (λ V A. AreTreeLists A graph.now sources.now
-        codes.now hops.now parents.now) }
-    ensures wrong { result ≡ pos 6 → Under chosen (λ V A. IsFirstRefuted A graph.now sources.now
-        codes.now hops.now parents.now vertex.new reason.new) }
-    ensures kept { (result ≡ pos 6 → ⊥) → (vertex.new ≡ vertex.old) × (reason.new ≡ reason.old) }
-    ensures status { IsOneOf (0 ∷ 3 ∷ 6 ∷ []) result }
+    requires places { HavePlaces graph.now.vertices lines.now.codes.now lines.now.hops.now
+        lines.now.parents.now }
+    ensures { Under chosen (λ V A. IfOk result (AreJudged A graph.now sources.now
+        lines.now.codes.now lines.now.hops.now lines.now.parents.now)) }
 {
     with_algebra!(
         chosen,
-        |algebra| answer(
-            alloc, algebra, graph, sources, codes, hops, parents, vertex, reason
-        )
+        |algebra| judge(alloc, algebra, graph, sources, lines)
     )
 }
 
@@ -141,7 +93,18 @@ pub fn check_tree(
     let Ok(rows) = shared.rows(alloc) else {
         return MEMORY;
     };
-    answer_chosen(
-        alloc, chosen, &rows, sources, codes, hops, parents, vertex, reason,
-    )
+    let lines = ListedLines {
+        codes,
+        hops,
+        parents,
+    };
+    match judge_chosen(alloc, chosen, &rows, sources, &lines) {
+        Ok(None) => DONE,
+        Ok(Some(place)) => {
+            *vertex = place.vertex;
+            *reason = place.reason.number();
+            WRONG
+        }
+        Err(Memory) => MEMORY,
+    }
 }

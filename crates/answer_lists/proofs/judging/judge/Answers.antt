@@ -6,7 +6,7 @@ use Rattle.answer_lists.proofs.judging.judge.Goals as goal
 
 pub first_wrong_line-requires-clause-count : goal.first_wrong_line-requires-clause-count
 first_wrong_line-requires-clause-count g c κs within =
-    let a = c.args in let (n, m, l) = c.requires.places in lines_count a.codes.now a.hops.now a.parents.now (m ∙ sym n) (l ∙ sym n) ∙ n
+    let l = c.args.lines.now in let (n, m, k) = c.requires.places in lines_count l.codes.now l.hops.now l.parents.now (m ∙ sym n) (k ∙ sym n) ∙ n
 
 pub returns : goal.returns
 returns g c =
@@ -14,4 +14,4 @@ returns g c =
     let listed = c.deref.ensures.value ∙ c.in_ok-list.ensures in
     let judged = rw listed at c.first_wrong_line.ensures in
     IfOk-weaker c.first_wrong_line.result _ _ (tree_judged (g.A.PathAlgebra.meaning a.algebra) c.laws_hold.ensures.lawful a.graph.now c.holds.ensures a.sources.now c.requires.sources
-    a.codes.now a.hops.now a.parents.now c.requires.places) judged
+    a.lines.now.codes.now a.lines.now.hops.now a.lines.now.parents.now c.requires.places) judged

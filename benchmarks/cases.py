@@ -9,7 +9,7 @@ import subprocess
 from answers import OTHER, compare_bytes, compared
 from inputs import ONE_SOURCE, PEER, READING, stop
 
-BASELINE, DIFFUSING = "baseline", "diffusing"
+BASELINE, DIFFUSING, THREADS = "baseline", "diffusing", "baseline on threads"
 TIME, WALL, PEAK, MESSAGES = "processor time", "wall time", "peak memory", "messages"
 
 # The parts of the wall time, if a program was run with --times.
@@ -119,7 +119,7 @@ class Own:
     def __init__(self, text):
         self.name, found, words = text.partition("=")
         self.words = shlex.split(words)
-        if not found or not self.words or not re.fullmatch(r"[\w.-]+", self.name) or self.name in ("diffuse", BASELINE, DIFFUSING, PEER):
+        if not found or not self.words or not re.fullmatch(r"[\w.-]+", self.name) or self.name in ("diffuse", BASELINE, DIFFUSING, THREADS, PEER):
             stop("--program takes NAME=COMMAND, with a name of your own: %r" % text)
         program = shutil.which(self.words[0])
         if program is None:
@@ -206,6 +206,22 @@ class Engine(Case):
     def counts_agree(self):
         """Whether both programs handled the same number of messages, as they do with one worker."""
         return self.settings["workers"] > 1 or not self.same_rule or self.handled() == self.handled(DIFFUSING)
+
+
+class Dealt(Engine):
+    """Workers that each have questions of their own, beside the baseline and the plain C++ program with as many threads."""
+
+    def __init__(self, files, kind, settings):
+        super().__init__(files, kind, settings, best_first=True, same_rule=False)
+
+    def title(self):
+        return super().title() + ", dealt by questions"
+
+    def commands(self, programs, folder):
+        commands, workers = super().commands(programs, folder), str(self.settings["workers"])
+        commands["diffuse"] += ["--deal", "questions"]
+        commands[THREADS] = [programs["threads_dijkstra"], self.files.graph, self.files.questions[self.kind], workers]
+        return commands
 
 
 def accounts_in(folder):

@@ -8,6 +8,7 @@ import sys
 HERE = os.path.dirname(os.path.abspath(__file__))
 SOURCES = ["roads", "roads_rivers", "families", "near_pairs", "heap_dijkstra", "pairs_dijkstra", "threads_dijkstra", "diffusing", "measure"]
 SEED = 1
+LIECHTENSTEIN = "liechtenstein"
 PEER = "dimacs-solver"
 
 # The kinds of question files: the kind that roads.cpp knows and how many questions there are; pairs of neighbours, which
@@ -141,7 +142,7 @@ class Made(Files):
 
 
 class Roads(Made):
-    """A road-like graph; its kind is `shuffled` or `motorways`, as roads.cpp has it, or none."""
+    """A road-like graph; its kind is `shuffled`, `ways` or `motorways`, as roads.cpp has it, or none."""
 
     def __init__(self, name, size, kind=""):
         words = ["graph", *size, SEED] + ([kind] if kind else [])
@@ -150,10 +151,28 @@ class Roads(Made):
 
 
 class Rivers(Made):
-    """A road-like graph that rivers cut."""
+    """A road-like graph that rivers cut; its kind is `shuffled` or `ways`, as roads_rivers.cpp has it, or none."""
 
-    def __init__(self, name, size):
-        super().__init__(name + " with rivers", size, "roads_rivers", [*size, SEED], "%d_%d_rivers" % size)
+    def __init__(self, name, size, kind=""):
+        words, end = [*size, SEED] + ([kind] if kind else []), "_" + kind if kind else ""
+        super().__init__(name + " with rivers", size, "roads_rivers", words, "%d_%d_rivers%s" % (*size, end))
+
+
+class Real(Made):
+    """A real graph, as `fetch` has left it in the folder of graphs."""
+
+    def __init__(self, name, path):
+        _, _, *size = problem_of(path)
+        super().__init__(name + " (real)", map(int, size), "cat", [path], "real_" + name.lower())
+
+    def make(self, folder, programs, kind):
+        super().make(folder, {**programs, "cat": shutil.which("cat")}, kind)
+
+
+def real_graphs(folder):
+    """The real graphs that the standard plan measures, if `fetch` has been there."""
+    path = os.path.join(folder, "real", LIECHTENSTEIN + ".gr")
+    return [Real(LIECHTENSTEIN.capitalize(), path)] if os.path.exists(path) else []
 
 
 class Family(Made):

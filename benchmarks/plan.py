@@ -4,7 +4,7 @@ from cases import BASELINE, DIFFUSING, PEAK, TIME, WALL, Batch, Engine, Plain, T
 from chosen import Chosen
 from factored import Bundled, Factored
 from inputs import (EIGHT_SOURCES, FIVE_PAIRS, FIVE_SOURCES, FOUR_SOURCES, HUNDRED_PAIRS, ONE_LIST, ONE_PAIR, ONE_SOURCE, READING,
-                    TEN_PAIRS, THOUSAND_PAIRS, Family, Given, Rivers, Roads)
+                    TEN_PAIRS, THOUSAND_PAIRS, Family, Given, Rivers, Roads, real_graphs)
 from picture import FIVE_IN_TURN
 from reach import ALONE, AS_THEY_COME, CUT, ORDERS, SIXTEEN, TOGETHER, Reach, in_both_orders
 from report import (batches_of, engine_growth_of, factored_of, growth_of, locks_of, parts_of, seconds, served_of, settings_of,
@@ -16,6 +16,9 @@ from shapes import Shape
 NEW_YORK, FLORIDA, USA = (264346, 733846), (1070376, 2712798), (23947347, 58333344)
 GROWTH = [(vertices, vertices * 5 // 2) for vertices in (50000, 200000, 800000, 3200000)]
 ENGINE_GROWTH = [("motorways", GROWTH[:3]), ("", [(12500, 31250)] + GROWTH[:1])]
+
+# How vertices are numbered, beside the curve.
+NUMBERINGS = [("ways", "numbered by ways"), ("shuffled", "shuffled")]
 
 # Families of the challenge: the logarithm of the vertices, and for Random4-C that of the lengths to base 4.
 FAMILIES = [("Random4-n", 18), ("Random4-C", 18, 0), ("Random4-C", 18, 15), ("Long-n", 18), ("Square-n", 18)]
@@ -65,19 +68,22 @@ def sized(size, small):
     return (size[0] // 100, size[1] // 200 * 2) if small else size
 
 
-def reach_of(small, usa, only, same_rule=False):
-    """What is to be reached, over its graphs."""
+def reach_of(small, usa, only, folder, same_rule=False):
+    """What is to be reached, over its graphs; `folder` is where real ones are."""
     sizes = [maker(name, sized(size, small)) for maker in (Roads, Rivers) for name, size in (("New York's size", NEW_YORK), ("Florida's size", FLORIDA))]
     motorways = Roads("New York's size with motorways", sized(NEW_YORK, small), "motorways")
-    return Reach(only, sizes, motorways, Rivers("USA's size", sized(USA, small)) if usa else None, same_rule)
+    numbered = [maker("New York's size, %s" % words, sized(NEW_YORK, small), kind)
+                for maker, kinds in ((Roads, NUMBERINGS), (Rivers, NUMBERINGS[:1])) for kind, words in kinds]
+    largest = Rivers("USA's size", sized(USA, small)) if usa else None
+    return Reach(only, sizes + real_graphs(folder), motorways, numbered, largest, same_rule)
 
 
 class Plan(Chosen):
     """What is to be reached; several sources, growth, families, batches and services; and workers, their growth, shapes and locks."""
 
-    def __init__(self, small, usa, only):
+    def __init__(self, small, usa, only, folder):
         super().__init__(only)
-        self.reach = reach_of(small, usa, only, True)
+        self.reach = reach_of(small, usa, only, folder, True)
         new_york, florida, *rivers = sizes = [case.files for case in self.reach.whole]
         shuffled = Roads("New York's size, shuffled", sized(NEW_YORK, small), "shuffled")
         motorways = self.reach.engine[ALONE, AS_THEY_COME].files
@@ -125,7 +131,7 @@ class Plan(Chosen):
             table_of("Families of the challenge with --plain: one source", TIME, seconds, self.families),
             batches_of(list(self.batches.values()), self.plain[0]), served_of(self.reach.served + self.served), factors,
             factored_of(self.factored + [self.bundled] + self.reach.largest[:1]), settings_of(in_both_orders(self.engine)),
-            engine_growth_of(self.engine_growth), shapes_of(self.shapes), locks_of(self.locks)]
+            engine_growth_of(self.engine_growth), self.reach.numberings(), shapes_of(self.shapes), locks_of(self.locks)]
 
     def aims(self):
         """What is aimed at: of what, the most, and the ratios that were measured."""

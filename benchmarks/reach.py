@@ -1,16 +1,19 @@
 """What pairs, factors and the best message first are to reach: these cases, and the aims of each."""
 import statistics
 
-from cases import BASELINE, PEAK, SOLVE, TIME, WALL, Engine, Plain, ratios
+from cases import BASELINE, PEAK, SOLVE, THREADS, TIME, WALL, Dealt, Engine, Plain, ratios
 from chosen import Chosen
 from factored import FACTORS, Factored, FactoredAlone
-from inputs import FIVE_SOURCES, NEAR_PAIRS, ONE_SOURCE, READING, TEN_PAIRS, THOUSAND_PAIRS, TWENTY_PAIRS
+from inputs import EIGHT_SOURCES, FIVE_SOURCES, NEAR_PAIRS, ONE_SOURCE, READING, TEN_PAIRS, THOUSAND_PAIRS, TWENTY_PAIRS, Real
 from report import Table, factored_of, pairs_of, ran, seconds, served_of, settings_of, size, spread
 from services import BY_FACTORS, BY_SEARCH, Served, Way, ways_of
 
 # Workers, shards, width and budget of the engine, over five sources. The best message first is tried with each.
 ALONE, SIXTEEN, CUT, TOGETHER = (1, 1, 1, 1024), (1, 16, 1, 1024), (1, 64, 1, 1024), (4, 16, 5, 1024)
 ORDERS = AS_THEY_COME, BEST_FIRST = False, True
+
+# Settings over graphs whose vertices are numbered in several ways, and at most how many messages an arc; the last is four workers'.
+NUMBERED = {(1, 1, 1, 1024): 1, (1, 4, 1, 1024): 1.02, (1, 16, 1, 1024): 1.02, (1, 64, 1, 1024): 1.02, (4, 4, 1, 1024): 1.1}
 
 # Best first, by settings: messages an arc, and to messages as they come the processor time; to the baseline, of what, and at most how much.
 ORDER_AIMS = {ALONE: (1, 0.2, TIME, 3.5), SIXTEEN: (1.05, 0.12, TIME, None), CUT: (1.05, 0.12, TIME, None), TOGETHER: (1.3, None, WALL, 2)}
@@ -23,8 +26,9 @@ FACTOR_AIMS = {"New York's size": (1 / 25, 60), "New York's size with rivers": (
 class Reach(Chosen):
     """Pairs and factors over graphs of two sizes; services; workers in both orders of messages."""
 
-    def __init__(self, only, sizes, motorways, largest=None, same_rule=False):
-        """`largest` is a graph that takes long, `same_rule` whether plain C++ runs the engine's rule with messages as they come too."""
+    def __init__(self, only, sizes, motorways, numbered, largest=None, same_rule=False):
+        """`numbered` are graphs whose vertices are numbered in several ways, `largest` is one that takes long, and `same_rule` says
+        whether plain C++ runs the engine's rule with messages as they come too."""
         super().__init__(only)
         new_york, far = sizes[0], [graph for graph in sizes if graph.name.startswith("Florida")]
         self.whole = [Plain(graph, ONE_SOURCE) for graph in sizes]
@@ -36,10 +40,13 @@ class Reach(Chosen):
                        for order in ORDERS for settings in ORDER_AIMS}
         self.by_order = [Engine(new_york, ONE_SOURCE, ALONE, order, same_rule or order) for order in ORDERS]
         self.by_order[0].is_once = True
+        graphs = [new_york, *numbered, *(graph for graph in sizes if isinstance(graph, Real))]
+        self.numbered = {(graph, settings): Engine(graph, FIVE_SOURCES, settings, True) for graph in graphs for settings in NUMBERED}
+        self.dealt = Dealt(new_york, EIGHT_SOURCES, (4, 1, 8, 1024))
         self.largest = [Factored(largest, TEN_PAIRS, True), FactoredAlone(largest, THOUSAND_PAIRS, True)] if largest else []
 
     def workers(self):
-        return [*self.engine.values(), *self.by_order]
+        return [*self.engine.values(), *self.by_order, *self.numbered.values(), self.dealt]
 
     def cases(self):
         return self.whole + self.pairs + self.built + self.many + self.served + self.workers() + self.largest
@@ -47,8 +54,12 @@ class Reach(Chosen):
     def tables(self):
         workers = in_both_orders(self.engine) + [(self.by_order[0], None), self.by_order[::-1]]
         with_own = [case for case in self.pairs if case.found]
-        return [pairs_of(self.pairs), self.factors_of(), factored_of(self.largest[:1]), served_of(self.served), settings_of(workers),
+        return [pairs_of(self.pairs), self.factors_of(), factored_of(self.largest[:1]), served_of(self.served), settings_of(workers), self.numberings(),
                 *self.plain_tables(with_own, {})]
+
+    def numberings(self):
+        """Workers best first over graphs whose vertices are numbered in several ways, and with questions of their own."""
+        return settings_of([(case, None) for case in [*self.numbered.values(), self.dealt]], "Numberings")
 
     def of(self, cases, graph, kind=None):
         """The case of a graph, of a kind if there are several."""
@@ -79,7 +90,7 @@ class Reach(Chosen):
 
     def aims(self):
         """What is aimed at: of what, the most, and the ratios that were measured."""
-        return [aim for aim in self.pair_aims() + self.factor_aims() + self.service_aims() + self.order_aims() + self.largest_aims() if aim[3]]
+        return [aim for aim in self.pair_aims() + self.factor_aims() + self.service_aims() + self.order_aims() + self.number_aims() + self.largest_aims() if aim[3]]
 
     def pair_aims(self):
         """Pairs to the baseline, and to a search for all vertices, which is what a pair takes that does not stop at its target."""
@@ -95,7 +106,7 @@ class Reach(Chosen):
 
     def factor_aims(self):
         aims = []
-        for case in self.built:
+        for case in (case for case in self.built if case.files.name in FACTOR_AIMS):
             pair, once = FACTOR_AIMS[case.files.name]
             order, each = self.ratios_of(case.files)
             aims += [(case.files.name, "a pair by factors, to the baseline", pair, each),
@@ -121,6 +132,15 @@ class Reach(Chosen):
         other, best = self.by_order
         return aims + [(best.title(), "messages an arc", 1, best.each_arc()),
                        (best.title(), "processor time, to messages as they come", 0.02, best.ratios_to(other, TIME))]
+
+    def number_aims(self):
+        """Messages an arc however vertices are numbered, four workers to one, and questions dealt to workers."""
+        aims = [(case.title(), "messages an arc", NUMBERED[settings], case.each_arc()) for (_, settings), case in self.numbered.items()]
+        alone, *_, four = NUMBERED
+        aims += [(self.numbered[graph, four].title(), "processor time, to one worker and shard", 2,
+                  self.numbered[graph, four].ratios_to(self.numbered[graph, alone], TIME)) for graph, settings in self.numbered if settings == alone]
+        return aims + [(self.dealt.title(), "wall time, to the baseline", 0.9, self.dealt.ratios(BASELINE, WALL)),
+                       (self.dealt.title(), "wall time, to the baseline on four threads", 2.5, self.dealt.ratios(THREADS, WALL))]
 
     def largest_aims(self):
         """The largest graph, factored in 8 GB; and a pair to one of the baseline."""

@@ -145,9 +145,9 @@ def arc_of(case):
     return "%.2f" % statistics.median(case.each_arc())
 
 
-def settings_of(pairs):
+def settings_of(pairs, title="Workers"):
     """What workers, shards, width and budget do; each setting best first, with the same as messages come."""
-    table = Table("Workers", ["Graph and questions", "Workers", "Shards", "Width", "Budget", "Order", "Messages an arc", "Processor time", "Wall time", "Peak memory",
+    table = Table(title, ["Graph and questions", "Workers", "Shards", "Width", "Budget", "Order", "Messages an arc", "Processor time", "Wall time", "Peak memory",
                          "Time to plain C++", "Wall to plain C++", "Memory to plain C++", "Time to the baseline", "Wall to the baseline",
                          "Time to the other order"])
     for case, other in ((case, other) for case, other in pairs if case.taken):

@@ -1,6 +1,6 @@
 // Writes road-like graphs and questions, in the formats of the 9th DIMACS Implementation Challenge, to standard output:
 //
-//     roads graph VERTICES ARCS SEED [shuffled | motorways]     a .gr
+//     roads graph VERTICES ARCS SEED [shuffled | ways | motorways]     a .gr
 //     roads ss VERTICES QUESTIONS SEED              a .ss: sources
 //     roads p2p VERTICES QUESTIONS SEED             a .p2p: pairs
 //     roads ms VERTICES QUESTIONS SEED              a .ms: one to five sources a question
@@ -10,11 +10,12 @@
 // A graph is made from places on a grid, one a cell, each moved a little from the middle of its cell. Streets join
 // neighbouring places: a random tree that reaches all of them, and random further streets until there are enough.
 // A street is an arc each way of one weight, its length with bends. Places are numbered along a Z-curve, so that
-// neighbours mostly have near numbers, as in the challenge's graphs; with `shuffled` the numbers have no order. With
-// `motorways` some of the further streets go straight over eight cells, along every 32nd row and column, at less than half
+// neighbours mostly have near numbers, as in the challenge's graphs; with `shuffled` the numbers have no order, and with `ways`
+// they follow random walks along streets, as in OpenStreetMap's (`ways.hpp`). With `motorways` some of the further streets go straight over eight cells, along every 32nd row and column, at less than half
 // their length: then a route by few arcs is seldom much longer than the shortest.
 #include "graphs.hpp"
 #include "random.hpp"
+#include "ways.hpp"
 
 #include <cmath>
 
@@ -124,7 +125,7 @@ public:
 };
 
 // How the vertices are numbered, and whether there are motorways.
-enum class Kind { ORDERED, SHUFFLED, MOTORWAYS };
+enum class Kind { ORDERED, SHUFFLED, WAYS, MOTORWAYS };
 
 static uint64_t count_motorways(const Plane& plane) {
     uint64_t count = 0;
@@ -134,13 +135,22 @@ static uint64_t count_motorways(const Plane& plane) {
     return count;
 }
 
-// The number of the vertex at each place, and the places in the order of the numbers.
-static std::pair<vector<uint32_t>, vector<uint32_t>> numbering(uint32_t vertices, uint64_t seed, bool shuffled) {
-    vector<uint32_t> place_of(vertices), number_of(vertices);
+static vector<Ends> all_ends(const Plane& plane, const vector<bool>& chosen) {
+    vector<Ends> ends;
+    for (size_t street = 0; street < chosen.size(); street++) {
+        if (chosen[street]) ends.push_back(ends_of(plane, static_cast<Street>(street)));
+    }
+    return ends;
+}
+
+// The places in the order of their numbers.
+static vector<uint32_t> places_in_order(const Plane& plane, const vector<bool>& chosen, uint64_t seed, Kind kind) {
+    Random random(seed, NUMBERS);
+    if (kind == Kind::WAYS) return Ways(plane.count(), all_ends(plane, chosen), random).in_order();
+    vector<uint32_t> place_of(plane.count());
     std::iota(place_of.begin(), place_of.end(), 0u);
-    if (shuffled) Random(seed, NUMBERS).shuffle(place_of);
-    for (uint32_t i = 0; i < vertices; i++) number_of[place_of[i]] = i + 1;
-    return {number_of, place_of};
+    if (kind == Kind::SHUFFLED) random.shuffle(place_of);
+    return place_of;
 }
 
 static void write_graph(uint32_t vertices, uint64_t arcs, uint64_t seed, Kind kind) {
@@ -150,18 +160,20 @@ static void write_graph(uint32_t vertices, uint64_t arcs, uint64_t seed, Kind ki
     uint64_t fast = motorways ? count_motorways(plane) : 0;
     if (fast > arcs / 2) stop("too few arcs for the motorways");
     vector<bool> chosen = chosen_streets(plane, arcs / 2 - fast, seed);
-    auto [number_of, place_of] = numbering(vertices, seed, kind == Kind::SHUFFLED);
+    vector<uint32_t> place_of = places_in_order(plane, chosen, seed, kind), number_of(vertices);
+    for (uint32_t i = 0; i < vertices; i++) number_of[place_of[i]] = i + 1;
 
     Output out;
     string size = std::to_string(vertices), length = std::to_string(arcs);
     out.text("c road-like graph in the form of the 9th DIMACS Implementation Challenge: Shortest Paths\n");
     out.text("c made by benchmarks/roads.cpp: graph " + size + " " + length + " " + std::to_string(seed));
-    out.text(kind == Kind::SHUFFLED ? " shuffled\nc\n" : motorways ? " motorways\nc\n" : "\nc\n");
+    constexpr const char* WORDS[] = {"", " shuffled", " ways", " motorways"};
+    out.text(string(WORDS[static_cast<int>(kind)]) + "\nc\n");
     out.text("p sp " + size + " " + length + "\n");
     out.text("c graph contains " + size + " nodes and " + length + " arcs\nc\n");
     Lengths lengths(plane, seed);
     Random directions(seed, DIRECTIONS);
-    auto write_both = [&, &number_of = number_of](uint32_t a, uint32_t b, uint64_t weight) {
+    auto write_both = [&](uint32_t a, uint32_t b, uint64_t weight) {
         uint64_t u = number_of[a], v = number_of[b];
         if (directions.below(2) == 1) std::swap(u, v);
         write_street(out, u, v, weight);
@@ -212,12 +224,15 @@ static void write_questions(const string& kind, uint32_t vertices, uint64_t ques
 int main(int count, char** words) {
     string kind = count > 1 ? words[1] : "";
     string order = count == 6 ? words[5] : "";
-    bool graph = kind == "graph" && (count == 5 || order == "shuffled" || order == "motorways");
+    bool graph = kind == "graph" && (count == 5 || order == "shuffled" || order == "ways" || order == "motorways");
     bool questions = (kind == "ss" || kind == "p2p" || kind == "ms") && count == 5;
-    if (!graph && !questions) stop("usage: roads graph VERTICES ARCS SEED [shuffled | motorways] | roads ss|p2p|ms VERTICES QUESTIONS SEED");
+    if (!graph && !questions) stop("usage: roads graph VERTICES ARCS SEED [shuffled | ways | motorways] | roads ss|p2p|ms VERTICES QUESTIONS SEED");
     auto vertices = static_cast<uint32_t>(number(words[2], 1 << 25));
     uint64_t length = number(words[3], graph ? 1 << 27 : 1 << 20), seed = number(words[4], 1 << 30);
-    Kind drawn = order == "shuffled" ? Kind::SHUFFLED : order == "motorways" ? Kind::MOTORWAYS : Kind::ORDERED;
+    Kind drawn = order == "shuffled"    ? Kind::SHUFFLED
+                 : order == "ways"      ? Kind::WAYS
+                 : order == "motorways" ? Kind::MOTORWAYS
+                                        : Kind::ORDERED;
     if (graph) write_graph(vertices, length, seed, drawn);
     else write_questions(kind, vertices, length, seed);
 }

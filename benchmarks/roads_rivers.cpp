@@ -1,6 +1,6 @@
 // Writes road-like graphs that rivers cut, in the form of the 9th DIMACS Implementation Challenge, to standard output:
 //
-//     roads_rivers VERTICES ARCS SEED
+//     roads_rivers VERTICES ARCS SEED [shuffled | ways]
 //
 // The same words give the same bytes on every machine.
 //
@@ -10,12 +10,14 @@
 // main road, and one in four of these a fast one: their streets are all there, and take 60 and 25 hundredths of the time of
 // others. The other streets are a random tree, and random further ones until there are enough. A tenth of the vertices lie on
 // streets, up to four on one, and a tenth are dead ends, or lead to one. A street is an arc each way of one weight. Vertices
-// are numbered along a Z-curve through the crossings that they lie at.
+// are numbered along a Z-curve through the crossings that they lie at; with `shuffled` the numbers have no order, and with `ways`
+// they follow random walks along streets, as in OpenStreetMap's (`ways.hpp`).
 #include "graphs.hpp"
 #include "random.hpp"
+#include "ways.hpp"
 
 // What a sequence is used for.
-enum Use { RIVERS = 1, STREETS, LENGTHS, DEAD_ENDS };
+enum Use { RIVERS = 1, STREETS, LENGTHS, DEAD_ENDS, NUMBERS };
 
 // A possible street: twice the number of its upper or left crossing, and one more where it leads down.
 using Street = uint32_t;
@@ -149,8 +151,8 @@ class Network {
         return static_cast<uint32_t>(crossing_of.size() - 1);
     }
 
-    // The numbers of the vertices, along a Z-curve.
-    vector<uint32_t> numbers() const {
+    // The vertices in the order of their numbers, along a Z-curve.
+    vector<uint32_t> along_a_curve() const {
         vector<std::pair<uint64_t, uint32_t>> places;
         for (uint32_t v = 0; v < crossing_of.size(); v++) {
             uint64_t x = grid.column(crossing_of[v]), y = grid.row(crossing_of[v]), place = 0;
@@ -158,9 +160,20 @@ class Network {
             places.push_back({place, v});
         }
         std::sort(places.begin(), places.end());
-        vector<uint32_t> numbers(places.size());
-        for (uint32_t i = 0; i < places.size(); i++) numbers[places[i].second] = i + 1;
-        return numbers;
+        vector<uint32_t> order;
+        for (const auto& place : places) order.push_back(place.second);
+        return order;
+    }
+
+    // The vertices in the order of their numbers.
+    vector<uint32_t> in_order(const string& kind, uint64_t seed) const {
+        Random random(seed, NUMBERS);
+        vector<Ends> streets;
+        for (const Edge& edge : edges) streets.push_back({edge.from, edge.to});
+        if (kind == "ways") return Ways(static_cast<uint32_t>(crossing_of.size()), streets, random).in_order();
+        vector<uint32_t> order = along_a_curve();
+        if (kind == "shuffled") random.shuffle(order);
+        return order;
     }
 
 public:
@@ -196,8 +209,9 @@ public:
     }
 
     // Writes the graph, its arcs by the lesser number of their ends.
-    void write(Output& out, const string& made) {
-        vector<uint32_t> number = numbers();
+    void write(Output& out, const string& made, const string& kind, uint64_t seed) {
+        vector<uint32_t> order = in_order(kind, seed), number(order.size());
+        for (uint32_t i = 0; i < order.size(); i++) number[order[i]] = i + 1;
         for (Edge& edge : edges) edge.from = number[edge.from], edge.to = number[edge.to];
         auto place = [](const Edge& edge) { return std::minmax({edge.from, edge.to}); };
         std::sort(edges.begin(), edges.end(), [&](const Edge& a, const Edge& b) { return place(a) < place(b); });
@@ -207,7 +221,8 @@ public:
 };
 
 int main(int count, char** words) {
-    if (count != 4) stop("usage: roads_rivers VERTICES ARCS SEED");
+    string kind = count == 5 ? words[4] : "";
+    if (count != 4 && kind != "shuffled" && kind != "ways") stop("usage: roads_rivers VERTICES ARCS SEED [shuffled | ways]");
     uint64_t vertices = number(words[1], 1 << 25), arcs = number(words[2], 1 << 27), seed = number(words[3], 1 << 30);
     if (vertices < 20 || arcs % 2 == 1) stop("a graph has at least 20 vertices, and an even number of arcs");
     Grid grid(vertices * 4 / 5);
@@ -217,6 +232,7 @@ int main(int count, char** words) {
     network.add_streets(chosen_streets(grid, arcs / 2 - on_streets - dead_ends, seed), on_streets, seed);
     network.add_dead_ends(dead_ends, seed);
     Output out;
-    network.write(out, string("made by benchmarks/roads_rivers.cpp: ") + words[1] + " " + words[2] + " " + words[3]);
+    string made = string("made by benchmarks/roads_rivers.cpp: ") + words[1] + " " + words[2] + " " + words[3];
+    network.write(out, made + (kind.empty() ? "" : " " + kind), kind, seed);
     out.write_out();
 }

@@ -5,7 +5,7 @@
    What a caller owes, since nothing checks it:
    - Each pointer is aligned for its type and valid for as many elements as the number after it says. What the pointers of one
      call point to does not overlap. NULL will do for a list of no elements, and for a single number that is not wanted: a line,
-     a count, code, hops, vertex or reason. A caller that finds a function by its symbol, past the macros at the end, gives each
+     a count, code, hops, vertex or reason. A caller that finds a function by its symbol, or calls it by its address, gives each
      single number a place.
    - A handle starts as DIFFUSE_CLOSED or diffuse_graph_closed(), which is all zero, and is changed only by these calls. It may
      be moved in memory by assignment, if its old place is no longer used. Two copies of an open handle must not both be used.
@@ -30,10 +30,10 @@
 #define DIFFUSE_VERSION (10000 * DIFFUSE_VERSION_MAJOR + 100 * DIFFUSE_VERSION_MINOR + DIFFUSE_VERSION_PATCH)
 
 /* The limits: vertices and arcs of a graph, bytes of a text, and the limit of DIFFUSE_ALGEBRA_WITHIN. */
-#define DIFFUSE_MAX_VERTICES ((uint32_t)1 << 25)
-#define DIFFUSE_MAX_ARCS ((size_t)1 << 27)
-#define DIFFUSE_MAX_TEXT ((size_t)1 << 32)
-#define DIFFUSE_MAX_LIMIT ((uint64_t)1 << 63)
+#define DIFFUSE_MAX_VERTICES (UINT32_C(1) << 25)
+#define DIFFUSE_MAX_ARCS (UINT64_C(1) << 27)
+#define DIFFUSE_MAX_TEXT (UINT64_C(1) << 32)
+#define DIFFUSE_MAX_LIMIT (UINT64_C(1) << 63)
 
 /* What a call takes of the stack at most; diffuse_graph_read needs more than half of it, for a buffer. */
 #define DIFFUSE_STACK 98304
@@ -50,6 +50,13 @@ struct diffuse_graph {
 };
 #define DIFFUSE_CLOSED { NULL, false }
 
+/* What makes an enumeration hold any number of 32 bits, where a language can say so. */
+#if defined(__cplusplus) && __cplusplus >= 201103L
+#define DIFFUSE_32_BITS : uint32_t
+#else
+#define DIFFUSE_32_BITS
+#endif
+
 /* The status that a call returns: the first that applies of those listed with it, in their order.
 
    After DIFFUSE_STATUS_DONE the answer is written. After a refusal the handle is as it was, and only what explains the refusal
@@ -65,7 +72,7 @@ enum diffuse_status {
     DIFFUSE_STATUS_CLOSED = 4,          /* the handle has no graph */
     DIFFUSE_STATUS_OPEN = 5,            /* the handle that was to be opened has a graph already */
     DIFFUSE_STATUS_WRONG = 6,           /* check: the lists are not the tree */
-    DIFFUSE_STATUS_DENSE = 7,           /* factor: so many arcs join the vertices that factors would not pay */
+    DIFFUSE_STATUS_DENSE = 7,           /* factor: factors would need too many links: a hub, or no small separators */
     DIFFUSE_STATUS_HEAVY = 8,           /* factor: the weights are so great that a sum with its arcs may not fit into 63 bits */
     DIFFUSE_STATUS_NO_FACTORS = 9,      /* factor: the algebra has no factors */
     DIFFUSE_STATUS_NO_PROBLEM = 10,     /* read: a line before the problem line, or no problem line */
@@ -75,14 +82,15 @@ enum diffuse_status {
     DIFFUSE_STATUS_FIELDS = 14,         /* read: an arc line with another number of fields than four */
     DIFFUSE_STATUS_NOT_A_NUMBER = 15,   /* read: a field that should be a number and is none */
     DIFFUSE_STATUS_LIMIT = 16,          /* open: too many vertices or arcs; read: a number above its limit */
-    DIFFUSE_STATUS_NO_VERTEX = 17,      /* a source, a target or an end of an arc is no vertex of the graph */
+    DIFFUSE_STATUS_NO_VERTEX = 17,      /* a source, a target, an end of an arc or the vertex of arcs_from is none of the graph */
     DIFFUSE_STATUS_TOO_MANY = 18,       /* read: more arc lines than announced */
     DIFFUSE_STATUS_TOO_FEW = 19,        /* read: fewer arc lines than announced */
     DIFFUSE_STATUS_NO_ALGEBRA = 43      /* there is no such algebra, or its limit is above 2^63 */
 };
 
-/* What is best, and what a code is. Only DIFFUSE_ALGEBRA_WITHIN reads the limit of a call. */
-enum diffuse_algebra {
+/* What is best, and what a code is. Only DIFFUSE_ALGEBRA_WITHIN reads the limit of a call. Any number of 32 bits may be given;
+   in C++ before C++11, one from 0 to 7. */
+enum diffuse_algebra DIFFUSE_32_BITS {
     DIFFUSE_ALGEBRA_SHORTEST = 0, /* the least sum of weights; the code is the sum, in the unit of the weights, at most 2^63 */
     DIFFUSE_ALGEBRA_WIDEST = 1,   /* the greatest least weight; the code is that weight, and 2^32 at a source */
     DIFFUSE_ALGEBRA_REACH = 2,    /* any walk; the code is 0 */
@@ -102,7 +110,7 @@ enum diffuse_reason {
 };
 
 /* The code of a vertex to which no walk has a value; its hops and its parent are 0. */
-#define DIFFUSE_UNREACHED ((uint64_t)-1)
+#define DIFFUSE_UNREACHED UINT64_MAX
 
 /* What compilers are told that know it: which pointers are not null, and that a status is not to be dropped. */
 #if defined(__GNUC__)
@@ -136,7 +144,7 @@ enum diffuse_status diffuse_graph_open(uint32_t vertices, const struct diffuse_a
 /* Opens a closed handle with the graph of a .gr text of the 9th DIMACS challenge, which may be changed or freed afterwards.
    OPEN, NO_ROOM, MEMORY, one of NO_PROBLEM to TOO_FEW, or DONE. A text of more than DIFFUSE_MAX_TEXT bytes is refused unread,
    with line 0. If the text has a fault, the status is the number of the first one, and *line its line, counted from 1. */
-DIFFUSE_CHECKED((3, 4))
+DIFFUSE_CHECKED((3))
 enum diffuse_status diffuse_graph_read(const uint8_t *bytes, size_t n_bytes, struct diffuse_graph *graph, uint64_t *line);
 
 /* Opens a second, closed handle with the graph of an open one, and with the factors that this one has. Both have one copy of
@@ -154,7 +162,7 @@ DIFFUSE_NONNULL((1)) size_t diffuse_graph_arcs(struct diffuse_graph *graph);
 
 /* Reads back the arcs that leave a vertex, in the order in which they were given, and counts them. The places after them are
    left as they are. If there are fewer places, the number is written all the same. CLOSED, NO_VERTEX, NO_ROOM or DONE. */
-DIFFUSE_CHECKED((1, 5))
+DIFFUSE_CHECKED((1))
 enum diffuse_status diffuse_graph_arcs_from(struct diffuse_graph *graph, uint32_t vertex,
     struct diffuse_arc *arcs, size_t n_arcs, size_t *count);
 
@@ -164,7 +172,7 @@ enum diffuse_status diffuse_graph_arcs_from(struct diffuse_graph *graph, uint32_
    the handle keeps for later routes by the same algebra, until it searches by another one or is closed; a later search
    puts back only what the one before touched, and goes on with it if the source is the same.
    CLOSED, NO_VERTEX, NO_ALGEBRA, MEMORY, NO_ROUTE, NO_ROOM or DONE. */
-DIFFUSE_CHECKED((1, 6, 7))
+DIFFUSE_CHECKED((1))
 enum diffuse_status diffuse_graph_route(struct diffuse_graph *graph, enum diffuse_algebra algebra, uint64_t limit,
     uint32_t source, uint32_t target, uint64_t *code, uint32_t *hops, uint32_t *room, size_t n_room);
 
@@ -180,7 +188,7 @@ enum diffuse_status diffuse_graph_tree(struct diffuse_graph *graph, enum diffuse
    is judged by itself and those of the vertices with an arc to it. If the lists are not the tree, the status is WRONG; then
    *vertex is the first vertex whose line the others refute, and *reason the first reason, an enum diffuse_reason.
    CLOSED, NO_VERTEX, NO_ROOM, NO_ALGEBRA, MEMORY, WRONG or DONE. */
-DIFFUSE_CHECKED((1, 12, 13))
+DIFFUSE_CHECKED((1))
 enum diffuse_status diffuse_graph_check(struct diffuse_graph *graph, enum diffuse_algebra algebra, uint64_t limit,
     const uint32_t *sources, size_t n_sources, const uint64_t *codes, size_t n_codes,
     const uint32_t *hops, size_t n_hops, const uint32_t *parents, size_t n_parents, uint32_t *vertex, uint32_t *reason);
@@ -195,54 +203,90 @@ enum diffuse_status diffuse_graph_table(struct diffuse_graph *graph, enum diffus
 
 /* Factors the graph for an algebra. Afterwards routes, trees and tables of this handle, and of those opened from it by
    diffuse_graph_share later, use the factors, and answer the same in a fraction of the time. SHORTEST and WITHIN at every limit
-   have one factoring, HOPS has its own, and the other algebras have none. It takes the time of some tens of routes; a second
-   call for it does nothing. After a refusal calls search, as before.
-   CLOSED, NO_ALGEBRA, NO_FACTORS, MEMORY, DENSE, HEAVY or DONE. */
+   have one factoring, HOPS has its own, and the other algebras have none. It takes the time of some tens of routes. Once it is
+   done, a second call for the same factoring does nothing. After a refusal calls search, as before, and a second call tries again.
+   CLOSED, NO_ALGEBRA, NO_FACTORS, MEMORY, HEAVY, DENSE or DONE. */
 DIFFUSE_CHECKED((1))
 enum diffuse_status diffuse_graph_factor(struct diffuse_graph *graph, enum diffuse_algebra algebra);
 
 /* The library's version, as DIFFUSE_VERSION is made: 1.1.0 is 10100. */
 uint32_t diffuse_version(void);
 
-#ifdef __cplusplus
-}
+/* The library writes each single number. What a caller sees gives it a place for each that is not wanted, inline in the caller.
+   For GCC that has no symbol of its own. Other compilers see it by macros; with one of these a caller that defines such a
+   function itself, as a test double, undefines its macro first. */
+#if defined(__GNUC__) && !defined(__clang__)
+#define DIFFUSE_INLINE extern inline __attribute__((gnu_inline, always_inline))
+#define DIFFUSE_NULLABLE(name) name
+DIFFUSE_CHECKED((3, 4))
+enum diffuse_status diffuse_graph_read_of_library(const uint8_t *bytes, size_t n_bytes, struct diffuse_graph *graph, uint64_t *line)
+    __asm__("diffuse_graph_read");
+DIFFUSE_CHECKED((1, 5))
+enum diffuse_status diffuse_graph_arcs_from_of_library(struct diffuse_graph *graph, uint32_t vertex, struct diffuse_arc *arcs,
+    size_t n_arcs, size_t *count) __asm__("diffuse_graph_arcs_from");
+DIFFUSE_CHECKED((1, 6, 7))
+enum diffuse_status diffuse_graph_route_of_library(struct diffuse_graph *graph, enum diffuse_algebra algebra, uint64_t limit, uint32_t source, uint32_t target,
+    uint64_t *code, uint32_t *hops, uint32_t *room, size_t n_room) __asm__("diffuse_graph_route");
+DIFFUSE_CHECKED((1, 12, 13))
+enum diffuse_status diffuse_graph_check_of_library(struct diffuse_graph *graph, enum diffuse_algebra algebra, uint64_t limit, const uint32_t *sources, size_t n_sources,
+    const uint64_t *codes, size_t n_codes, const uint32_t *hops, size_t n_hops, const uint32_t *parents, size_t n_parents,
+    uint32_t *vertex, uint32_t *reason) __asm__("diffuse_graph_check");
+#else
+#if defined(__cplusplus)
+#define DIFFUSE_INLINE inline
+#elif defined(__clang__)
+#define DIFFUSE_INLINE __attribute__((weak))
+#else
+#define DIFFUSE_INLINE static inline
+#endif
+#define DIFFUSE_NULLABLE(name) name##_nullable
+#define diffuse_graph_read_of_library diffuse_graph_read
+#define diffuse_graph_arcs_from_of_library diffuse_graph_arcs_from
+#define diffuse_graph_route_of_library diffuse_graph_route
+#define diffuse_graph_check_of_library diffuse_graph_check
 #endif
 
-/* The calls that write a single number, with a place for each that is not wanted. */
-static inline DIFFUSE_CHECKED((3)) enum diffuse_status diffuse_graph_read_nullable(const uint8_t *bytes, size_t n_bytes,
-    struct diffuse_graph *graph, uint64_t *line) {
+DIFFUSE_INLINE DIFFUSE_CHECKED((3))
+enum diffuse_status DIFFUSE_NULLABLE(diffuse_graph_read)(const uint8_t *bytes, size_t n_bytes, struct diffuse_graph *graph, uint64_t *line) {
     uint64_t unwanted = 0;
-    return diffuse_graph_read(bytes, n_bytes, graph, line ? line : &unwanted);
+    return diffuse_graph_read_of_library(bytes, n_bytes, graph, line ? line : &unwanted);
 }
 
-static inline DIFFUSE_CHECKED((1)) enum diffuse_status diffuse_graph_arcs_from_nullable(struct diffuse_graph *graph,
-    uint32_t vertex, struct diffuse_arc *arcs, size_t n_arcs, size_t *count) {
+DIFFUSE_INLINE DIFFUSE_CHECKED((1))
+enum diffuse_status DIFFUSE_NULLABLE(diffuse_graph_arcs_from)(struct diffuse_graph *graph, uint32_t vertex,
+    struct diffuse_arc *arcs, size_t n_arcs, size_t *count) {
     size_t unwanted = 0;
-    return diffuse_graph_arcs_from(graph, vertex, arcs, n_arcs, count ? count : &unwanted);
+    return diffuse_graph_arcs_from_of_library(graph, vertex, arcs, n_arcs, count ? count : &unwanted);
 }
 
-static inline DIFFUSE_CHECKED((1)) enum diffuse_status diffuse_graph_route_nullable(struct diffuse_graph *graph,
-    enum diffuse_algebra algebra, uint64_t limit, uint32_t source, uint32_t target, uint64_t *code, uint32_t *hops,
-    uint32_t *room, size_t n_room) {
+DIFFUSE_INLINE DIFFUSE_CHECKED((1))
+enum diffuse_status DIFFUSE_NULLABLE(diffuse_graph_route)(struct diffuse_graph *graph, enum diffuse_algebra algebra,
+    uint64_t limit, uint32_t source, uint32_t target, uint64_t *code, uint32_t *hops, uint32_t *room, size_t n_room) {
     uint64_t unwanted_code = 0;
     uint32_t unwanted_hops = 0;
-    return diffuse_graph_route(graph, algebra, limit, source, target, code ? code : &unwanted_code,
+    return diffuse_graph_route_of_library(graph, algebra, limit, source, target, code ? code : &unwanted_code,
         hops ? hops : &unwanted_hops, room, n_room);
 }
 
-static inline DIFFUSE_CHECKED((1)) enum diffuse_status diffuse_graph_check_nullable(struct diffuse_graph *graph,
-    enum diffuse_algebra algebra, uint64_t limit, const uint32_t *sources, size_t n_sources, const uint64_t *codes,
-    size_t n_codes, const uint32_t *hops, size_t n_hops, const uint32_t *parents, size_t n_parents, uint32_t *vertex,
-    uint32_t *reason) {
+DIFFUSE_INLINE DIFFUSE_CHECKED((1))
+enum diffuse_status DIFFUSE_NULLABLE(diffuse_graph_check)(struct diffuse_graph *graph, enum diffuse_algebra algebra,
+    uint64_t limit, const uint32_t *sources, size_t n_sources, const uint64_t *codes, size_t n_codes, const uint32_t *hops,
+    size_t n_hops, const uint32_t *parents, size_t n_parents, uint32_t *vertex, uint32_t *reason) {
     uint32_t unwanted_vertex = 0, unwanted_reason = 0;
-    return diffuse_graph_check(graph, algebra, limit, sources, n_sources, codes, n_codes, hops, n_hops, parents, n_parents,
-        vertex ? vertex : &unwanted_vertex, reason ? reason : &unwanted_reason);
+    return diffuse_graph_check_of_library(graph, algebra, limit, sources, n_sources, codes, n_codes, hops, n_hops, parents,
+        n_parents, vertex ? vertex : &unwanted_vertex, reason ? reason : &unwanted_reason);
 }
 
+#if !defined(__GNUC__) || defined(__clang__)
 #define diffuse_graph_read diffuse_graph_read_nullable
 #define diffuse_graph_arcs_from diffuse_graph_arcs_from_nullable
 #define diffuse_graph_route diffuse_graph_route_nullable
 #define diffuse_graph_check diffuse_graph_check_nullable
+#endif
+
+#ifdef __cplusplus
+}
+#endif
 
 /* A closed handle, to be assigned. */
 static inline struct diffuse_graph diffuse_graph_closed(void) {
@@ -260,7 +304,7 @@ static inline const char *diffuse_status_text(int32_t status) {
     case DIFFUSE_STATUS_CLOSED: return "the handle is closed";
     case DIFFUSE_STATUS_OPEN: return "the handle is open already";
     case DIFFUSE_STATUS_WRONG: return "not the tree";
-    case DIFFUSE_STATUS_DENSE: return "so many arcs that factors would not pay";
+    case DIFFUSE_STATUS_DENSE: return "factors would need too many links: a hub, or no small separators";
     case DIFFUSE_STATUS_HEAVY: return "weights that are too great for factors";
     case DIFFUSE_STATUS_NO_FACTORS: return "an algebra without factors";
     case DIFFUSE_STATUS_NO_PROBLEM: return "no problem line before this line, or none at all";

@@ -119,6 +119,17 @@ static void open_shape(int is_star, uint32_t n, uint32_t weight) {
     open(arcs, n, n - 1);
 }
 
+/* Opens a graph with an arc from each vertex to each, itself included. */
+static void open_complete(uint32_t n) {
+    static struct diffuse_arc arcs[65536];
+    for (uint32_t k = 0; k < n * n; k++) {
+        arcs[k].tail = 1 + k / n;
+        arcs[k].head = 1 + k % n;
+        arcs[k].weight = 1;
+    }
+    open(arcs, n, n * n);
+}
+
 /* Which algebras have factors, and which graphs are refused; answers are the same with them. */
 static void factors(void) {
     static const int NONE[] = {DIFFUSE_ALGEBRA_WIDEST, DIFFUSE_ALGEBRA_REACH, DIFFUSE_ALGEBRA_RELIABLE};
@@ -143,8 +154,11 @@ static void factors(void) {
     IS(DIFFUSE_STATUS_DONE, tree(&ONE, &t, 5));
     IS(0, memcmp(&t, &RIGHT, sizeof t));
     open_shape(1, 1000, 1);
+    IS(DIFFUSE_STATUS_DONE, diffuse_graph_factor(&graph, DIFFUSE_ALGEBRA_SHORTEST));
+    open_complete(256);
     IS(DIFFUSE_STATUS_DENSE, diffuse_graph_factor(&graph, DIFFUSE_ALGEBRA_SHORTEST));
-    IS(DIFFUSE_STATUS_DONE, route(DIFFUSE_ALGEBRA_SHORTEST, 0, 1, 1000, 8));
+    IS(DIFFUSE_STATUS_DENSE, diffuse_graph_factor(&graph, DIFFUSE_ALGEBRA_SHORTEST));
+    IS(DIFFUSE_STATUS_DONE, route(DIFFUSE_ALGEBRA_SHORTEST, 0, 1, 256, 8));
     open_shape(0, 65536, 4294967295u);
     IS(DIFFUSE_STATUS_HEAVY, diffuse_graph_factor(&graph, DIFFUSE_ALGEBRA_SHORTEST));
     IS(DIFFUSE_STATUS_DONE, diffuse_graph_factor(&graph, DIFFUSE_ALGEBRA_HOPS));

@@ -1,0 +1,66 @@
+// Each member of diffuse.hpp, held against an answer about the five vertices that was worked out by hand. Each wrong one is printed.
+#include <diffuse.hpp>
+
+#include <cstdio>
+#include <thread>
+
+static int wrong;
+
+static void expect(bool right, const char* what) {
+    if (right) return;
+    std::printf("wrong: %s\n", what);
+    wrong = 1;
+}
+
+template <class Call>
+static bool refused(diffuse_status status, Call call) {
+    try {
+        call();
+    } catch (const diffuse::error& error) {
+        return error.status() == status && std::string(error.what()) == diffuse_status_text(status);
+    }
+    return false;
+}
+
+int main() {
+    using numbers = std::vector<std::uint32_t>;
+    using codes = std::vector<std::uint64_t>;
+    const std::vector<diffuse::arc> arcs = {{1, 2, 4}, {1, 3, 1}, {3, 2, 2}, {2, 4, 5}, {3, 4, 8}, {4, 4, 0}, {5, 1, 3}};
+    diffuse::graph graph(5, arcs);
+    expect(graph.vertices() == 5 && graph.arcs() == 7, "sizes");
+    auto leaving = graph.arcs_from(3);
+    expect(leaving.size() == 2 && leaving[0].head == 2 && leaving[1].head == 4 && leaving[1].weight == 8, "arcs_from");
+    expect(graph.arcs_from(4).size() == 1, "arcs_from a loop");
+    auto route = graph.route(1, 4);
+    expect(route.found() && route.code == 8 && route.hops() == 3 && route.vertices == numbers({1, 3, 2, 4}), "route");
+    expect(!graph.route(1, 5).found() && !graph.route(1, 4, DIFFUSE_ALGEBRA_WITHIN, 7).found(), "no route");
+    expect(graph.route(1, 4, DIFFUSE_ALGEBRA_HOPS).code == 2, "route by hops");
+    auto tree = graph.tree({1});
+    expect(tree.codes == codes({0, 3, 1, 8, DIFFUSE_UNREACHED}) && tree.parents == numbers({0, 3, 1, 2, 0}), "tree");
+    expect(graph.check(tree, {1}).right(), "check of the tree");
+    tree.codes[3] = 9;
+    auto verdict = graph.check(tree, {1});
+    expect(verdict.vertex == 4 && verdict.reason == DIFFUSE_REASON_NOT_BEST, "check of another tree");
+    expect(graph.table({1, 5}, {4, 1}) == codes({8, 0, 11, 3}) && graph.table({1}, {}).empty(), "table");
+    expect(graph.factor() == DIFFUSE_STATUS_DONE && graph.route(1, 4).vertices == numbers({1, 3, 2, 4}), "factor");
+    diffuse::graph second = graph.share();
+    std::thread([&] { expect(second.route(1, 4).code == 8, "share"); }).join();
+    diffuse::graph moved = std::move(graph);
+    expect(moved.route(1, 4).code == 8, "move");
+    graph = std::move(moved);
+    expect(graph.route(5, 4).vertices == numbers({5, 1, 3, 2, 4}), "move back");
+    expect(refused(DIFFUSE_STATUS_CLOSED, [&] { diffuse::graph().route(1, 4); }), "closed");
+    expect(refused(DIFFUSE_STATUS_NO_VERTEX, [&] { graph.route(1, 6); }), "no vertex");
+    expect(refused(DIFFUSE_STATUS_NO_FACTORS, [&] { graph.factor(DIFFUSE_ALGEBRA_WIDEST); }), "no factors");
+    expect(diffuse::graph::read("p sp 2 1\na 1 2 3\n").route(1, 2).code == 3, "read");
+    try {
+        diffuse::graph::read("p sp 2 1\na 1 2\n");
+        expect(false, "a text with a fault");
+    } catch (const diffuse::text_error& error) {
+        expect(error.line() == 2 && error.status() == DIFFUSE_STATUS_FIELDS, "line of a fault");
+    }
+    std::string text = "p sp 100 99\n";
+    for (int v = 1; v < 100; v++) text += "a " + std::to_string(v) + " " + std::to_string(v + 1) + " 1\n";
+    expect(diffuse::graph::read(text).route(1, 100).hops() == 99, "a long route");
+    return wrong;
+}

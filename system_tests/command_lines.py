@@ -1,0 +1,175 @@
+"""Command lines over small files, each with what it must write and report and its exit status, worked out by hand."""
+
+# Five vertices, of which the last is reached from nowhere; questions; and what they are answered.
+FIVE = "p sp 5 7\na 1 2 4\na 1 3 1\na 3 2 2\na 2 4 5\na 3 4 8\na 4 4 0\na 5 1 3\n"
+FROM_ONE = "p aux sp ss 1\ns 1\n"
+FROM_THREE = "p aux sp ss 3\ns 1\ns 4\ns 5\n"
+SHORTEST = "p ans ss 1 shortest\ns 1\nd 1 0 0 0\nd 2 3 2 3\nd 3 1 1 1\nd 4 8 3 2\nu 5\n"
+WIDEST = "p ans ss 1 widest\ns 1\nd 1 4294967296 0 0\nd 2 4 1 1\nd 3 1 1 1\nd 4 4 2 2\nu 5\n"
+HOPS = "p ans ss 1 hops\ns 1\nd 1 0 0 0\nd 2 1 1 1\nd 3 1 1 1\nd 4 2 2 2\nu 5\n"
+WITHIN = "p ans ss 1 within\ns 1\nd 1 0 0 0\nu 2\nu 3\nu 4\nu 5\n"
+
+# Files by their names; `-` must never be opened by this name.
+FILES = {
+    "g": FIVE, "q": FROM_ONE, "q3": FROM_THREE, "right": SHORTEST, "wide": WIDEST, "within": WITHIN,
+    "wrong": "p ans ss 1 shortest\ns 1\nd 1 0 0 0\nd 2 3 2 3\nd 3 1 1 1\nd 4 9 2 3\nu 5\n",
+    "own": SHORTEST.replace("shortest", "own"), "30": "s 1\n", "31": "p ans ss 1 fastest\n", "32": "p ans ss 1 shortest\nq 1 2\n",
+    "33": "p ans ss 1 shortest\ns\n", "34": "p ans ss 1 shortest\ns x\n", "35": "p ans ss 1048577 shortest\n", "36": "p ans ss 1 shortest\n",
+    "-": FROM_ONE, "pairs": "p aux sp p2p 2\nq 4 1\nq 1 4\n", "lists": "p aux sp ms 2\nm 5 4\nm 1\n", "none.ss": "p aux sp ss 0\n",
+}
+
+STDIN_TWICE = "error: only one of the files can be `-`, standard input\n"
+TWO_SOLVERS = "error: `--plain` and `--factors` cannot be used together\n"
+NO_FILE = "error: `--accounts` needs a file; one that is named `-` is `./-`\n"
+FILE_TAKEN = "error: `--accounts` would overwrite an input, or the output or error output\n"
+UNCOUNTED = "error: `--plain` and `--factors` count nothing: leave out `--accounts`\n"
+NO_SUCH_FAULT = "error: no fault has this number; `diffuse faults` lists them\n"
+GRAPH_TAKEN = "error: the graph cannot be `-`: standard input has the requests\n"
+VERSION = "diffuse 1.1.0 (rattle-kit-13f)\n"
+THIRTEEN = """fault 13: a line that this file does not have
+  example: `x 1 2 3` in a graph, `q 1 2` in a .ss file
+  cause: in line 1 of a graph, a compressed file: give `<(zcat FILE)`
+"""
+FORTY_TWO = """fault 42: the output could not be written
+  example: `diffuse solve roads.gr roads.ss > /dev/full`
+  cause: a full disk, or a reader that has gone, such as `head` in `| head`
+"""
+
+
+def fault(text):
+    return f"diffuse: fault {text}\n"
+
+
+# What a command line writes and reports, and its status.
+COMMANDS = [
+    ("solve g q", SHORTEST, "", 0),
+    ("solve --algebra widest g q", WIDEST, "", 0),
+    ("solve g q --algebra within --limit 0", WITHIN, "", 0),
+    ("solve q g", "", fault("12 graph line 1"), 3),
+    ("solve g g", "", fault("12 questions line 1"), 3),
+    ("solve none q", "", fault("1 graph"), 3),
+    ("solve q none", "", fault("1 questions"), 3),
+    ("solve none none", "", fault("1 graph"), 3),
+    ("solve none q --limit 0", "", fault("43"), 2),
+    ("solve none q --algebra within", "", fault("43"), 2),
+    ("solve g q --limit 0", "", fault("43"), 2),
+    ("solve g q --algebra within", "", fault("43"), 2),
+    ("solve g q --algebra widest --factors", "", fault("43"), 2),
+    ("solve g q --plain", SHORTEST, "", 0),
+    ("solve g q --workers 64 --shards 64 --width 64 --budget 1", SHORTEST, "", 0),
+    ("solve g q --turns 0", "p ans ss 1 shortest\n", fault("40"), 6),
+    ("solve g q --turns 0 --plain", SHORTEST, "", 0),
+    ("check g q right", "valid\n", "", 0),
+    ("check g q wide", "valid\n", "", 0),
+    ("check g q within --limit 0", "valid\n", "", 0),
+    ("check g q within --limit 1", "invalid 1 3 6\n", "", 1),
+    ("check g q wrong", "invalid 1 4 2\n", "", 1),
+    ("check g q own", "", fault("31 answers"), 3),
+    ("check g q own --limit 5", "", fault("31 answers"), 3),
+    ("check g q right --limit 5", "", fault("43"), 2),
+    ("check g q within", "", fault("43"), 2),
+    ("check none q right", "", fault("1 graph"), 3),
+    ("check q none right", "", fault("1 questions"), 3),
+    ("check none none none", "", fault("1 graph"), 3),
+    ("check q none none", "", fault("1 questions"), 3),
+    ("check q g none", "", fault("1 answers"), 3),
+    ("check q g 30", "", fault("12 graph line 1"), 3),
+    ("check q q 30", "", fault("12 graph line 1"), 3),
+    ("check g g 30", "", fault("12 questions line 1"), 3),
+    ("check g q 30", "", fault("30 answers line 1"), 3),
+    ("check g q 31", "", fault("31 answers line 1"), 3),
+    ("check g q 32", "", fault("32 answers line 2"), 3),
+    ("check g q 33", "", fault("33 answers line 2"), 3),
+    ("check g q 34", "", fault("34 answers line 2"), 3),
+    ("check g q 35", "", fault("35 answers line 1"), 3),
+    ("check g q 36", "", fault("36 answers line 2"), 3),
+    ("solve g -", "", fault("10 questions line 1"), 3),
+    ("solve ./- q", "", fault("12 graph line 1"), 3),
+    ("solve - none", "", fault("1 questions"), 3),
+    ("solve none -", "", fault("1 graph"), 3),
+    ("solve - -", "", STDIN_TWICE, 2),
+    ("check g - -", "", STDIN_TWICE, 2),
+    ("check - q -", "", STDIN_TWICE, 2),
+    ("check - - none", "", STDIN_TWICE, 2),
+    ("check - - -", "", STDIN_TWICE, 2),
+    ("solve - - --limit 5", "", fault("43"), 2),
+    ("solve g q --plain --factors", "", TWO_SOLVERS, 2),
+    ("serve g --plain --factors --limit 5", "", TWO_SOLVERS, 2),
+    ("bundle --factors --plain --accounts a", "", TWO_SOLVERS, 2),
+    ("solve g q --accounts g", "", FILE_TAKEN, 2),
+    ("solve g q --accounts q", "", FILE_TAKEN, 2),
+    ("solve g none --accounts g", "", fault("1 questions"), 3),
+    ("solve g q --accounts -", "", NO_FILE, 2),
+    ("solve g - --accounts -", "", NO_FILE, 2),
+    ("bundle --accounts -", "", NO_FILE, 2),
+    ("solve g q --accounts a --plain", "", UNCOUNTED, 2),
+    ("bundle --plain --accounts a", "", UNCOUNTED, 2),
+    ("faults 13", THIRTEEN, "", 0),
+    ("faults 42 13", FORTY_TWO + THIRTEEN, "", 0),
+    ("faults 13 14 4", "", NO_SUCH_FAULT, 2),
+    ("faults 0", "", NO_SUCH_FAULT, 2),
+    ("faults 18446744073709551615", "", NO_SUCH_FAULT, 2),
+    ("--version", VERSION, "", 0),
+]
+
+# The same with something on standard input.
+GIVEN = [
+    ("serve g", FROM_ONE * 2, SHORTEST * 2, "", 0),
+    ("serve --plain g", "s 1\n" + FROM_ONE + "p aux sp p2p 2\nq 1 4\n", "f 10 1\n" + SHORTEST + "f 19 6\n", "", 0),
+    ("serve g --algebra hops", FROM_ONE, HOPS, "", 0),
+    ("serve g --turns 0", FROM_ONE, "p ans ss 1 shortest\nf 40 0\n", "", 0),
+    ("serve ./-", FROM_ONE, "", fault("12 graph line 1"), 3),
+    ("serve none", FROM_ONE, "", fault("1 graph"), 3),
+    ("serve none --limit 5", FROM_ONE, "", fault("43"), 2),
+    ("serve -", FIVE, "", GRAPH_TAKEN, 2),
+    ("solve - q", FIVE, SHORTEST, "", 0),
+    ("solve g -", FROM_ONE, SHORTEST, "", 0),
+    ("solve g ./-", FIVE, SHORTEST, "", 0),
+    ("solve --plain - ./-", FIVE, SHORTEST, "", 0),
+    ("check - q right", FIVE, "valid\n", "", 0),
+    ("check g - right", FROM_ONE, "valid\n", "", 0),
+    ("check g q -", SHORTEST, "valid\n", "", 0),
+    ("bundle", FIVE + FROM_ONE, SHORTEST, "", 0),
+    ("bundle --algebra hops", FIVE + FROM_ONE, HOPS, "", 0),
+    ("bundle --limit 5", FIVE + FROM_ONE, "", fault("43"), 2),
+    ("bundle --turns 0", FIVE + FROM_ONE, "p ans ss 1 shortest\n", fault("40"), 6),
+    *(("bundle", text, "", fault(f"{place}"), 3) for text, place in (
+        ("p sp 1 0\n", "10 bundle line 2"), ("p sp 1 0\np sp 1 0\n", "11 bundle line 2"), ("p sp 1\n", "12 bundle line 1"),
+        ("p sp 1 0\nx\n", "13 bundle line 2"), ("p sp 1 1\na 1 1\n", "14 bundle line 2"), ("p sp 1 x\n", "15 bundle line 1"),
+        ("p sp 1 1\na 1 1 4294967296\n", "16 bundle line 2"), ("p sp 1 1\na 1 2 0\n", "17 bundle line 2"),
+        ("p sp 1 0\na 1 1 0\n", "18 bundle line 2"), ("p sp 1 1\n", "19 bundle line 2"))),
+]
+
+# What is reported while a command runs, if it is asked to show it.
+SHOWN = "diffuse: 1 of 1 questions answered\n"
+PROGRESS = [
+    ("solve g q --progress", SHORTEST, SHOWN, 0),
+    ("solve g q --plain --progress", SHORTEST, SHOWN, 0),
+    ("solve g q --factors --progress", SHORTEST, "diffuse: the graph is factored\n" + SHOWN, 0),
+    ("solve g q --accounts a", SHORTEST, "", 0),
+    ("solve g q --accounts a --progress", SHORTEST, SHOWN, 0),
+    ("solve g q --accounts none/a", "", fault("42"), 5),
+    ("solve q g --accounts none/a", "", fault("42"), 5),
+    ("solve none q --accounts none/a", "", fault("1 graph"), 3),
+    ("solve q g --accounts a --progress", "", fault("12 graph line 1"), 3),
+    ("solve g q --limit 5 --accounts none/a", "", fault("43"), 2),
+    ("bundle --accounts none/a", "", fault("42"), 5),
+    ("solve g q --turns 0 --accounts a --progress", "p ans ss 1 shortest\n", fault("40"), 6),
+]
+
+# What is counted: under `reach` each arc that leads on once, and the message that opens.
+ACCOUNTS = [
+    ("solve g q3 --algebra reach", "p tally 3 reach\nt 1 1 7 7 7 7\nt 2 4 2 2 2 2\nt 3 5 8 8 8 8\n"),
+    ("solve g pairs --algebra reach", "p tally 2 reach\nt 1 4 2 2 2 2\nt 2 1 7 7 7 7\n"),
+    ("solve g lists --algebra reach --width 3", "p tally 3 reach\nt 1 5 8 8 8 8\nt 1 4 2 2 2 2\nt 2 1 7 7 7 7\n"),
+    ("solve g none.ss --algebra reach", "p tally 0 reach\n"),
+    ("solve g q --workers 1 --shards 1 --budget 1", "p tally 1 shortest\nt 1 1 9 9 9 9\n"),
+]
+
+# Help and wrong usage, with the status: narrow lines to one output alone.
+HELP = [
+    ("--help", 0), ("-h", 0), ("help check", 0), ("solve --help", 0), ("solve -h", 0), ("bundle --help", 0), ("serve --help", 0), ("serve -h", 0),
+    ("help serve", 0), ("check --help", 0), ("faults --help", 0), ("faults", 0), ("faults 4", 2), ("solve - -", 2), ("serve -", 2),
+    ("solve g q --plain --accounts a", 2), ("", 2), ("solve g", 2), ("bundle --algebra own", 2),
+]
+FAULTS = [1, 2, 3, *range(10, 20), *range(30, 37), *range(40, 44)]

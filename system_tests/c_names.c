@@ -12,10 +12,17 @@
 extern "C" {
 #endif
 static int is_short_of_memory, wrong;
+static size_t grown; /* by how many bytes memory has grown */
 void *__real_malloc(size_t);
 void *__real_realloc(void *, size_t);
-void *__wrap_malloc(size_t n) { return is_short_of_memory ? NULL : __real_malloc(n); }
-void *__wrap_realloc(void *p, size_t n) { return is_short_of_memory ? NULL : __real_realloc(p, n); }
+void *__wrap_malloc(size_t n) {
+    grown += n;
+    return is_short_of_memory ? NULL : __real_malloc(n);
+}
+void *__wrap_realloc(void *p, size_t n) {
+    grown += n;
+    return is_short_of_memory ? NULL : __real_realloc(p, n);
+}
 #ifdef __cplusplus
 }
 #endif
@@ -164,6 +171,29 @@ static void factors(void) {
     IS(DIFFUSE_STATUS_DONE, diffuse_graph_factor(&graph, DIFFUSE_ALGEBRA_HOPS));
     IS(DIFFUSE_STATUS_DONE, route(DIFFUSE_ALGEBRA_HOPS, 0, 1, 3, 8));
     IS(2, code);
+}
+
+/* What a share of a factored handle and each call of factor take: a share makes neither rows nor factors, and a call only
+   the factors that are not there. */
+static void factors_once(void) {
+    static const int CALLS[] = {DIFFUSE_ALGEBRA_SHORTEST, DIFFUSE_ALGEBRA_SHORTEST, DIFFUSE_ALGEBRA_WITHIN, DIFFUSE_ALGEBRA_HOPS, DIFFUSE_ALGEBRA_HOPS,
+                                DIFFUSE_ALGEBRA_SHORTEST};
+    static const int GROWS[] = {1, 0, 0, 1, 0, 0};
+    uint32_t n = 50000;
+    open_shape(0, n, 1);
+    for (size_t i = 0; i < 6; i++) {
+        grown = 0;
+        IS(DIFFUSE_STATUS_DONE, diffuse_graph_factor(&graph, (enum diffuse_algebra)CALLS[i]));
+        IS(GROWS[i], grown > n);
+    }
+    grown = 0;
+    IS(DIFFUSE_STATUS_DONE, diffuse_graph_share(&graph, &second));
+    IS(0, grown > n);
+    grown = 0;
+    IS(DIFFUSE_STATUS_DONE, diffuse_graph_factor(&second, DIFFUSE_ALGEBRA_HOPS));
+    IS(DIFFUSE_STATUS_DONE, diffuse_graph_factor(&second, DIFFUSE_ALGEBRA_SHORTEST));
+    IS(0, grown > n);
+    diffuse_graph_close(&second);
 }
 
 static void faults(void) {
@@ -384,6 +414,7 @@ static void *all(void *nothing) {
     empty_lists();
     unwanted_lists();
     factors();
+    factors_once();
     texts();
     IS(DIFFUSE_VERSION, diffuse_version());
     diffuse_graph_close(&graph);

@@ -1,16 +1,29 @@
 //! An order in which the vertices of a graph are eliminated, so that few links come about.
 //!
-//! Any order gives right answers, so nothing is claimed of this one: who uses it checks that it has each vertex. It is
-//! by least degree, and of several by the one that changed last, brought into postorder of the tree that elimination
-//! makes. A graph that gets too dense on the way is found out in the time of a few searches.
+//! It is by approximate minimum degree (Amestoy, Davis and Duff, SIAM J. Matrix Anal. Appl. 17, 1996), over a quotient
+//! graph: an eliminated vertex becomes an element, whose members are neighbours of each other with no list of that;
+//! degrees are upper bounds; an element that another one contains is absorbed; indistinguishable vertices are merged
+//! into one, a supervariable; and dense rows, vertices with very many neighbours, go last. The order is a postorder of
+//! the assembly tree.
+//!
+//! Any order gives right answers, so nothing is claimed of this one: who uses it checks that it has each vertex once.
+//! The links and triangles that it makes are counted as it comes about, and a graph with too many is given up.
 #![tactic(auto)]
 
-mod buckets;
-mod guard;
-mod index;
-mod least_degree;
-mod merge;
+mod assembly_tree;
+mod counts;
+mod degree_lists;
+mod degree_update;
+mod elimination;
+mod hash_buckets;
+mod lists;
+mod minimum_degree;
 mod neighbours;
+mod node;
+mod pivot;
 mod postorder;
+mod quotient_graph;
+mod supervariables;
 
-pub use least_degree::least_degree_order;
+pub use counts::Counts;
+pub use minimum_degree::{Ordered, approximate_minimum_degree};

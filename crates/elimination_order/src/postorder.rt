@@ -1,106 +1,162 @@
-//! Postorder of the tree of an elimination: each vertex after the subtrees below it. It needs the same links, and
-//! those that are looked at together lie together.
+//! A postorder of the assembly tree: each element after those below it. It makes the same links, and those that are
+//! looked at together lie together.
 
-use crate::index::stored;
+use crate::assembly_tree::TreeNode;
+use crate::elimination::Elimination;
+use crate::lists::{NONE, at, put, stored};
 use road_graph::{Memory, Vertex};
-use std::alloc::{AllocError, Global};
+use std::alloc::Global;
 
-/// No place, and no parent.
-const NONE: u32 = u32::MAX;
-
-/// The number at an index, and `NONE` beyond the end.
-fn at(list: &[u32], i: u32) -> u32 {
-    match list.get(i as usize) {
-        Some(x) => *x,
-        None => NONE,
-    }
+/// The places of a vertex, of those that are eliminated with it, and of the elements below.
+#[derive(Clone, Copy)]
+struct Places {
+    /// How many are eliminated with it.
+    own: u32,
+    /// How many there are in all.
+    all: u32,
+    /// The end of the places that are left for those that are eliminated with it.
+    own_end: u32,
+    /// The end of the places that are left for elements below.
+    below_end: u32,
 }
 
-/// Writes a number at an index, if there is one.
-fn put(list: &mut [u32], i: u32, x: u32) {
-    if let Some(place) = list.get_mut(i as usize) {
-        *place = x;
-    }
+/// The tree as its postorder needs it.
+#[derive(Drop)]
+struct Postorder {
+    /// The vertex of the element with which each vertex is eliminated.
+    pivots: Vec<u32>,
+    places: Vec<Places>,
 }
 
-/// When each vertex goes.
-fn places_of(alloc: Global, order: &[u32]) -> Result<Vec<u32>, Memory> {
-    let mut places = vec![in alloc; NONE; order.len()]?;
-    for (k, v) in order.iter().enumerate() {
-        put(&mut places, *v, stored(k));
-    }
-    Ok(places)
-}
-
-/// The neighbour that goes first, and `NONE` if there is no neighbour.
-fn first_to_go(places: &[u32], row: &[u32]) -> u32 {
-    let mut first = NONE;
-    let mut least = NONE;
-    for x in row {
-        let place = at(places, *x);
-        if place < least {
-            least = place;
-            first = *x;
-        }
-    }
-    first
-}
-
-/// The parent of each vertex: of the neighbours that it had when it went, the one that went next.
-fn parents_of(alloc: Global, order: &[u32], rows: &[Vec<u32>]) -> Result<Vec<u32>, Memory> {
-    let places = places_of(alloc, order)?;
-    let mut parents = Vec::with_capacity(alloc, rows.len())?;
-    for row in rows {
-        parents
-            .push(first_to_go(&places, row))
-            .map_err(AllocError::from)?;
-    }
-    Ok(parents)
-}
-
-/// How many vertices the subtree of each has. A vertex goes before its parent.
-fn sizes_of(alloc: Global, order: &[u32], parents: &[u32]) -> Result<Vec<u32>, Memory> {
-    let mut sizes = vec![in alloc; 1u32; order.len()]?;
-    for v in order {
-        let parent = at(parents, *v);
-        if parent != NONE {
-            let sum = at(&sizes, parent).saturating_add(at(&sizes, *v));
-            put(&mut sizes, parent, sum);
-        }
-    }
-    Ok(sizes)
-}
-
-/// The vertices of an order by elimination, in postorder.
-pub(crate) fn postorder(
-    alloc: Global,
-    order: &[u32],
-    rows: &[Vec<u32>],
-) -> Result<Vec<Vertex>, Memory> {
-    let parents = parents_of(alloc, order, rows)?;
-    let sizes = sizes_of(alloc, order, &parents)?;
-    let mut list = vec![in alloc; Vertex(0); order.len()]?;
-    // What is left of the places of each vertex's subtree, and of all places for those without a parent.
-    let mut ends = vec![in alloc; 0u32; order.len()]?;
-    let mut end = stored(order.len());
-    for v in order.iter().rev() {
-        let parent = at(&parents, *v);
-        let last = if parent == NONE {
-            end
-        } else {
-            at(&ends, parent)
+/// The vertex that each is eliminated with.
+fn pivots_of(alloc: Global, eliminated: &[u32], tree: &[TreeNode]) -> Result<Vec<u32>, Memory> {
+    let mut pivots = vec![in alloc; NONE; tree.len()]?;
+    for v in eliminated.iter().rev() {
+        let pivot = match tree.get(*v as usize) {
+            Some(node) if node.principal != NONE => at(&pivots, node.principal as usize),
+            _ => *v,
         };
-        let left = last.saturating_sub(at(&sizes, *v));
-        if parent == NONE {
-            end = left;
-        } else {
-            put(&mut ends, parent, left);
-        }
-        let place = last.saturating_sub(1);
-        put(&mut ends, *v, place);
-        if let Some(vertex) = list.get_mut(place as usize) {
-            *vertex = Vertex((*v).saturating_add(1));
+        put(&mut pivots, *v as usize, pivot);
+    }
+    Ok(pivots)
+}
+
+impl Postorder {
+    /// No places yet.
+    fn open(alloc: Global, eliminated: &[u32], tree: &[TreeNode]) -> Result<Self, Memory> {
+        let none = Places {
+            own: 0,
+            all: 0,
+            own_end: 0,
+            below_end: 0,
+        };
+        Ok(Postorder {
+            pivots: pivots_of(alloc, eliminated, tree)?,
+            places: vec![in alloc; none; tree.len()]?,
+        })
+    }
+
+    /// The vertex that a vertex is eliminated with.
+    fn pivot(&self, v: u32) -> u32 {
+        at(&self.pivots, v as usize)
+    }
+
+    /// The element that absorbs that of a vertex; `NONE` at a root.
+    fn parent(&self, tree: &[TreeNode], v: u32) -> u32 {
+        match tree.get(v as usize) {
+            Some(node) => self.pivot(node.parent),
+            None => NONE,
         }
     }
-    Ok(list)
+
+    /// Counts a vertex at its element, and an element at its parent, once all below it are counted.
+    fn count(&mut self, tree: &[TreeNode], v: u32) {
+        let pivot = self.pivot(v);
+        let parent = self.parent(tree, v);
+        let Some(mine) = self.places.get_mut(pivot as usize) else {
+            return;
+        };
+        mine.own = mine.own.saturating_add(1);
+        mine.all = mine.all.saturating_add(1);
+        let all = mine.all;
+        if pivot == v {
+            if let Some(above) = self.places.get_mut(parent as usize) {
+                above.all = above.all.saturating_add(all);
+            }
+        }
+    }
+
+    /// Gives an element and those below it the last places before an end. Says how many are left.
+    fn give(&mut self, v: u32, end: u32) -> u32 {
+        match self.places.get_mut(v as usize) {
+            Some(mine) => {
+                mine.own_end = end;
+                mine.below_end = end.saturating_sub(mine.own);
+                end.saturating_sub(mine.all)
+            }
+            None => end,
+        }
+    }
+
+    /// Gives an element that another one absorbed places below that one.
+    fn give_below(&mut self, v: u32, parent: u32) {
+        let end = match self.places.get(parent as usize) {
+            Some(above) => above.below_end,
+            None => 0,
+        };
+        let left = self.give(v, end);
+        if let Some(above) = self.places.get_mut(parent as usize) {
+            above.below_end = left;
+        }
+    }
+
+    /// The next place of those for a vertex and what is eliminated with it, from the last one on.
+    fn next_place(&mut self, v: u32) -> usize {
+        let pivot = self.pivot(v);
+        match self.places.get_mut(pivot as usize) {
+            Some(mine) => {
+                mine.own_end = mine.own_end.saturating_sub(1);
+                mine.own_end as usize
+            }
+            None => NONE as usize,
+        }
+    }
+}
+
+/// Puts a vertex at a place of an order.
+fn place(order: &mut [Vertex], k: usize, v: u32) {
+    if let Some(vertex) = order.get_mut(k) {
+        *vertex = Vertex(v.saturating_add(1));
+    }
+}
+
+/// The vertices in postorder, with those last whose rows are dense.
+pub(crate) fn in_postorder(
+    alloc: Global,
+    elimination: &Elimination,
+) -> Result<Vec<Vertex>, Memory> {
+    let eliminated = &elimination.eliminated;
+    let tree = &elimination.tree;
+    let mut postorder = Postorder::open(alloc, eliminated, tree)?;
+    for v in eliminated {
+        postorder.count(tree, *v);
+    }
+    let mut order = vec![in alloc; Vertex(0); tree.len()]?;
+    let mut end = stored(eliminated.len());
+    for v in eliminated.iter().rev() {
+        if postorder.pivot(*v) == *v {
+            let parent = postorder.parent(tree, *v);
+            if parent == NONE {
+                end = postorder.give(*v, end);
+            } else {
+                postorder.give_below(*v, parent);
+            }
+        }
+        let k = postorder.next_place(*v);
+        place(&mut order, k, *v);
+    }
+    for (i, v) in elimination.graph.dense.iter().enumerate() {
+        place(&mut order, eliminated.len().saturating_add(i), *v);
+    }
+    Ok(order)
 }

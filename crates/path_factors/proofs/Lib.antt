@@ -2,12 +2,16 @@ pub mod Substitution
 pub mod Offers
 pub mod Sweeps
 pub mod Places
-pub mod Aligned
 pub mod Improving
 pub mod Connecting
 pub mod Eliminating
 pub mod Loading
 pub mod Packing
+pub mod HeadRows
+pub mod Setting
+pub mod Listing
+pub mod Joining
+pub mod Outlining
 pub mod Trees
 pub mod Climbing
 pub mod Backward

@@ -1,16 +1,14 @@
 -- A link for each arc.
-use Rattle.std.proofs.Common.{◌≡◌, ℕ, zero, suc, ◌+◌, ◌-◌, ◌<◌, ◌≤◌, inl, inr, List, [], length, replicate, get_or, refl, ap, sym, ◌∙◌, subst, arith}
+use Rattle.std.proofs.Common.{◌≡◌, ℕ, ◌+◌, ◌-◌, ◌<◌, ◌≤◌, inl, inr, List, length, get_or, ap, sym, ◌∙◌, subst, arith}
 use Rattle.std.specs.Prelude.{Contains}
 use Rattle.std.proofs.lemmas.Bool.{cases_lt}
-use Rattle.std.proofs.lemmas.List.{get_or-map, length-map, length-replicate, get_or_default}
+use Rattle.std.proofs.lemmas.List.{get_or-map, length-map, get_or_default}
 use Rattle.road_graph.specs.GraphData.{GraphData, IsGraph, HasArc, HasVertex, arc_of, road_of, ListsRoadsFrom}
 use Rattle.road_graph.specs.declared.OutRoad.{OutRoad}
-use Rattle.road_graph.proofs.Lists.{not_in_empty}
 use Rattle.path_algebra.specs.Algebra.{Algebra, IsOrder}
 use Rattle.path_algebra.specs.Composition.{Composition, IsComposition}
-use Rattle.path_factors.specs.declared.link.Link.{Link}
-use Rattle.path_factors.specs.Factors.{FactorData, LeadsNoWorse, IsWorthOfWalk, ArePlaces, CoversArcs, row_of, place_of}
-use Rattle.path_factors.specs.Eliminating.{IsBegun, Improves}
+use Rattle.path_factors.specs.Factors.{FactorData, LeadsNoWorse, IsWorthOfWalk, CoversArcs, place_of}
+use Rattle.path_factors.specs.Eliminating.{Improves}
 use Rattle.path_factors.proofs.Connecting.{still_leads, improves_more, worth_of_arc}
 
 -- the arc of a road
@@ -137,28 +135,3 @@ module _ {V W : Type 0} (C : Composition V W) (ordered : IsOrder C.no_worse) whe
       subst (λ (p : ℕ). LeadsNoWorse C G p (place_of G head) (C.of_arc (arc_of g a).weight)) (sym (same_place C 0 F G improves tail))
       (subst (λ (p : ℕ). LeadsNoWorse C G (place_of F tail) p (C.of_arc (arc_of g a).weight)) (sym (same_place C 0 F G improves head))
       (still_leads C ordered 0 F G improves (place_of F tail) (place_of F head) (C.of_arc (arc_of g a).weight) (covers a has other)))
-
--- no links yet
-row_none : {W : Type 0} (n i : ℕ) → row_of {W = W} (replicate n []) i ≡ []
-row_none zero i = refl
-row_none (suc n) zero = refl
-row_none (suc n) (suc i) = row_none n i
-
-pub begun_empty : {V W : Type 0} (A : Algebra V) (C : Composition V W) (g : GraphData) (order places : List ℕ) → ArePlaces g.vertices order places →
-    IsBegun A C g (record { order = order; places = places; leaving = replicate g.vertices []; entering = replicate g.vertices [] })
-begun_empty {W = W} A C g order places are = record {
-  ordering = are;
-  links = record {
-    leaving_count = length-replicate g.vertices [];
-    entering_count = length-replicate g.vertices [];
-    rising = λ x y a h. absurd (none x (record { place = y; walk = a }) h);
-    falling = λ x y a h. absurd (none y (record { place = x; walk = a }) h);
-    sound = λ x y a l. elim l [
-      | inl h ↦ absurd (none x (record { place = y; walk = a }) h)
-      | inr h ↦ absurd (none y (record { place = x; walk = a }) h)
-    ];
-  };
-}
-  where
-    none : (i : ℕ) (k : Link W) → Contains (row_of (replicate g.vertices []) i) k → ⊥
-    none i k h = not_in_empty k (subst (λ (r : List (Link W)). Contains r k) (row_none g.vertices i) h)

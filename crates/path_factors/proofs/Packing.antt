@@ -1,14 +1,14 @@
 -- Rows that are packed one after the other.
-use Rattle.std.proofs.Common.{◌≡◌, ℕ, zero, suc, ◌+◌, ◌-◌, ◌<◌, ◌≤◌, inl, inr, List, [], ◌∷◌, ◌++◌, length, take, drop, get_or, map, append-nil, append_assoc, refl, ap, sym, ◌∙◌, arith}
-use Rattle.std.specs.Prelude.{slice_range}
+use Rattle.std.proofs.Common.{◌≡◌, ℕ, zero, suc, ◌+◌, ◌-◌, ◌<◌, ◌≤◌, inl, inr, List, [], ◌∷◌, ◌++◌, length, take, drop, get_or, refl, ap, sym, ◌∙◌, subst, arith}
+use Rattle.std.specs.Prelude.{All, Contains, slice_range}
 use Rattle.std.proofs.lemmas.Bool.{cases_lt}
-use Rattle.std.proofs.lemmas.List.{length-append, length-drop, length-take-le, get_or-take, get_or-drop, map-append, take-append-le, drop-append-le, take_all}
+use Rattle.std.proofs.lemmas.List.{length-drop, length-take-le, get_or-take, get_or-drop, take-append-le, drop-append-le, take_all, get_or_past}
+use Rattle.std.proofs.lemmas.List.Elements.{All-nil, All-take, All-drop}
 use Rattle.std.proofs.Math.ListN.{drop_of_length-le}
+use Rattle.road_graph.proofs.Lists.{not_in_empty}
 use Rattle.path_factors.specs.declared.link.Link.{Link}
 use Rattle.path_factors.specs.Factors.{row_of}
-use Rattle.path_factors.specs.declared.edge.Edge.{Edge}
-use Rattle.path_factors.specs.Edges.{rising, falling}
-use Rattle.path_factors.specs.Packing.{links_of, rows_between, ArePacked, ArePackedBothWays, AreFields, AreAppended}
+use Rattle.path_factors.specs.Packing.{links_of, rows_between, ArePacked, ArePackedBothWays}
 
 module _ {W : Type 0} where
   pub links_count : (places : List ℕ) (walks : List W) → length walks ≡ length places → length (links_of places walks) ≡ length places
@@ -18,14 +18,6 @@ module _ {W : Type 0} where
       let rest = links_count places walks (omega (arith, n)) in
       omega (arith, rest)
 
-  pub links-append : (places : List ℕ) (walks : List W) (more : List ℕ) (on : List W) → length walks ≡ length places →
-      links_of (places ++ more) (walks ++ on) ≡ links_of places walks ++ links_of more on
-  links-append [] [] more on n = refl
-  links-append [] (a ∷ walks) more on n = absurd (omega (arith, n))
-  links-append (p ∷ places) [] more on n = absurd (omega (arith, n))
-  links-append (p ∷ places) (a ∷ walks) more on n =
-      ap (λ (l : List (Link W)). record { place = p; walk = a } ∷ l) (links-append places walks more on (omega (arith, n)))
-
   -- the link at an index
   pub link_at : (places : List ℕ) (walks : List W) (k : ℕ) (p : ℕ) (a : W) (d : Link W) → length walks ≡ length places → k < length places →
       p ≡ get_or places k p → a ≡ get_or walks k a → get_or (links_of places walks) k d ≡ record { place = p; walk = a }
@@ -34,51 +26,70 @@ module _ {W : Type 0} where
   link_at (q ∷ places) (b ∷ walks) zero p a d n lt is at = λ i. record { place = (sym is) i; walk = (sym at) i }
   link_at (q ∷ places) (b ∷ walks) (suc k) p a d n lt is at = link_at places walks k p a d (omega (arith, n)) (omega (arith, lt)) is at
 
-  pub rows_count : (starts : List ℕ) (links : List (Link W)) → length (rows_between starts links) ≡ length starts - 1
-  rows_count [] links = refl
-  rows_count (s ∷ []) links = refl
-  rows_count (s ∷ e ∷ starts) links =
-      let rest = rows_count (e ∷ starts) links in
+module _ {X : Type 0} where
+  pub rows_count : (starts : List ℕ) (items : List X) → length (rows_between starts items) ≡ length starts - 1
+  rows_count [] items = refl
+  rows_count (s ∷ []) items = refl
+  rows_count (s ∷ e ∷ starts) items =
+      let rest = rows_count (e ∷ starts) items in
       omega (arith, rest)
 
+  -- no row past the last
+  pub row_past : (rows : List (List X)) (i : ℕ) → length rows ≤ i → row_of rows i ≡ []
+  row_past rows i le = get_or_past rows i [] le
+
+  -- what is in a row has a row
+  pub inside_rows : (rows : List (List X)) (i : ℕ) (x : X) → Contains (row_of rows i) x → i < length rows
+  inside_rows rows i x c = elim (cases_lt i (length rows)) [
+    | inl low ↦ low
+    | inr high ↦ absurd (not_in_empty x (subst (λ (r : List X). Contains r x) (row_past rows i high) c))
+  ]
+
+  -- what is true of each item is true in each row
+  pub row_all : (P : X → Type 0) (starts : List ℕ) (items : List X) → All P items → (i : ℕ) → All P (row_of (rows_between starts items) i)
+  row_all P [] items all i = All-nil P
+  row_all P (s ∷ []) items all i = All-nil P
+  row_all P (s ∷ e ∷ starts) items all zero = All-take P (e - s) (drop s items) (All-drop P s items all)
+  row_all P (s ∷ e ∷ starts) items all (suc i) = row_all P (e ∷ starts) items all i
+
   -- a row lies between its start and the next
-  pub row_between : (starts : List ℕ) (links : List (Link W)) (i : ℕ) → i + 1 < length starts →
-      row_of (rows_between starts links) i ≡ slice_range links (get_or starts i 0) (get_or starts (i + 1) 0)
-  row_between [] links i lt = absurd (omega arith)
-  row_between (s ∷ []) links i lt = absurd (omega arith)
-  row_between (s ∷ e ∷ starts) links zero lt = refl
-  row_between (s ∷ e ∷ starts) links (suc i) lt =
+  pub row_between : (starts : List ℕ) (items : List X) (i : ℕ) → i + 1 < length starts →
+      row_of (rows_between starts items) i ≡ slice_range items (get_or starts i 0) (get_or starts (i + 1) 0)
+  row_between [] items i lt = absurd (omega arith)
+  row_between (s ∷ []) items i lt = absurd (omega arith)
+  row_between (s ∷ e ∷ starts) items zero lt = refl
+  row_between (s ∷ e ∷ starts) items (suc i) lt =
       let more : suc i + 1 ≡ suc (i + 1) = omega arith in
-      row_between (e ∷ starts) links i (omega arith)
-      ∙ ap (λ (j : ℕ). slice_range links (get_or (e ∷ starts) i 0) (get_or (s ∷ e ∷ starts) j 0)) (sym more)
+      row_between (e ∷ starts) items i (omega arith)
+      ∙ ap (λ (j : ℕ). slice_range items (get_or (e ∷ starts) i 0) (get_or (s ∷ e ∷ starts) j 0)) (sym more)
 
   -- a part is the same in a longer list
-  part_before : (links row : List (Link W)) (s e : ℕ) → s ≤ e → e ≤ length links → slice_range (links ++ row) s e ≡ slice_range links s e
-  part_before links row s e le inside =
-      let n = length-drop s links in
-      ap (λ (l : List (Link W)). take (e - s) l) (drop-append-le s links row (omega (arith, le, inside)))
-      ∙ take-append-le (e - s) (drop s links) row (omega (arith, n, le, inside))
+  part_before : (items row : List X) (s e : ℕ) → s ≤ e → e ≤ length items → slice_range (items ++ row) s e ≡ slice_range items s e
+  part_before items row s e le inside =
+      let n = length-drop s items in
+      ap (λ (l : List X). take (e - s) l) (drop-append-le s items row (omega (arith, le, inside)))
+      ∙ take-append-le (e - s) (drop s items) row (omega (arith, n, le, inside))
 
   -- the part after a list
-  part_after : (links row : List (Link W)) → slice_range (links ++ row) (length links) (length links + length row) ≡ row
-  part_after links row =
-      let less : (length links + length row) - length links ≡ length row = omega arith in
-      ap (λ (n : ℕ). take n (drop (length links) (links ++ row))) less
-      ∙ ap (λ (l : List (Link W)). take (length row) l)
-      (drop-append-le (length links) links row (omega arith) ∙ ap (λ (l : List (Link W)). l ++ row) (drop_of_length-le links (omega arith)))
+  part_after : (items row : List X) → slice_range (items ++ row) (length items) (length items + length row) ≡ row
+  part_after items row =
+      let less : (length items + length row) - length items ≡ length row = omega arith in
+      ap (λ (n : ℕ). take n (drop (length items) (items ++ row))) less
+      ∙ ap (λ (l : List X). take (length row) l)
+      (drop-append-le (length items) items row (omega arith) ∙ ap (λ (l : List X). l ++ row) (drop_of_length-le items (omega arith)))
       ∙ take_all (length row) row (omega arith)
 
-  pub packed_more : (starts : List ℕ) (links row : List (Link W)) → ArePacked starts links →
-      rows_between (starts ++ (length links + length row) ∷ []) (links ++ row) ≡ rows_between starts links ++ row ∷ []
-  packed_more [] links row packed = let some = packed.some in absurd (omega (arith, some))
-  packed_more (s ∷ []) links row packed =
-      let last : s ≡ length links = packed.last in
-      ap (λ (n : ℕ). slice_range (links ++ row) n (length links + length row) ∷ []) last
-      ∙ ap (λ (r : List (Link W)). r ∷ []) (part_after links row)
-  packed_more (s ∷ e ∷ starts) links row packed =
+  pub packed_more : (starts : List ℕ) (items row : List X) → ArePacked starts items →
+      rows_between (starts ++ (length items + length row) ∷ []) (items ++ row) ≡ rows_between starts items ++ row ∷ []
+  packed_more [] items row packed = let some = packed.some in absurd (omega (arith, some))
+  packed_more (s ∷ []) items row packed =
+      let last : s ≡ length items = packed.last in
+      ap (λ (n : ℕ). slice_range (items ++ row) n (length items + length row) ∷ []) last
+      ∙ ap (λ (r : List X). r ∷ []) (part_after items row)
+  packed_more (s ∷ e ∷ starts) items row packed =
       let first : s ≤ e = packed.rising 0 (omega arith) in
-      let within : e ≤ length links = packed.inside 1 (omega arith) in
-      let tail : ArePacked (e ∷ starts) links = record {
+      let within : e ≤ length items = packed.inside 1 (omega arith) in
+      let tail : ArePacked (e ∷ starts) items = record {
         some = omega arith;
         rising = λ i lt.
             let more : suc i + 1 ≡ suc (i + 1) = omega arith in
@@ -90,120 +101,39 @@ module _ {W : Type 0} where
             let here = packed.last in
             rw size at here;
       } in
-      ap (λ (r : List (Link W)). r ∷ rows_between (e ∷ starts ++ (length links + length row) ∷ []) (links ++ row)) (part_before links row s e first within)
-      ∙ ap (λ (rows : List (List (Link W))). slice_range links s e ∷ rows) (packed_more (e ∷ starts) links row tail)
-
-  pub packed_on : (starts : List ℕ) (links row : List (Link W)) → ArePacked starts links →
-      ArePacked (starts ++ (length links + length row) ∷ []) (links ++ row)
-  packed_on starts links row packed =
-      let end = length links + length row in
-      let n : length (starts ++ end ∷ []) ≡ length starts + 1 = length-append starts (end ∷ []) in
-      let m : length (links ++ row) ≡ end = length-append links row in
-      let old : (i : ℕ) → i < length starts → get_or (starts ++ end ∷ []) i 0 ≡ get_or starts i 0 = λ i lt. get_or_before starts end i lt in
-      let new : get_or (starts ++ end ∷ []) (length starts) 0 ≡ end = get_or_after starts end in
-      let some = packed.some in
-      record {
-        some = omega (arith, n);
-        rising = λ i lt. elim (cases_lt (i + 1) (length starts)) [
-          | inl low ↦
-              let a = old i (omega (arith, low)) in
-              let b = old (i + 1) low in
-              let r = packed.rising i low in
-              omega (arith, a, b, r)
-          | inr high ↦
-              let is : i + 1 ≡ length starts = omega (arith, high, lt, n) in
-              let a = old i (omega (arith, is)) in
-              let b : get_or (starts ++ end ∷ []) (i + 1) 0 ≡ end = ap (λ (j : ℕ). get_or (starts ++ end ∷ []) j 0) is ∙ new in
-              let r = packed.inside i (omega (arith, is)) in
-              omega (arith, a, b, r)
-        ];
-        inside = λ i lt. elim (cases_lt i (length starts)) [
-          | inl low ↦ let a = old i low in let r = packed.inside i low in omega (arith, a, r, m)
-          | inr high ↦
-              let is : i ≡ length starts = omega (arith, high, lt, n) in
-              let b : get_or (starts ++ end ∷ []) i 0 ≡ end = ap (λ (j : ℕ). get_or (starts ++ end ∷ []) j 0) is ∙ new in
-              omega (arith, b, m)
-        ];
-        last =
-            let is : length (starts ++ end ∷ []) - 1 ≡ length starts = omega (arith, n) in
-            ap (λ (j : ℕ). get_or (starts ++ end ∷ []) j 0) is ∙ new ∙ sym m;
-      }
-    where
-      get_or_before : (xs : List ℕ) (x i : ℕ) → i < length xs → get_or (xs ++ x ∷ []) i 0 ≡ get_or xs i 0
-      get_or_before [] x i lt = absurd (omega arith)
-      get_or_before (y ∷ xs) x zero lt = refl
-      get_or_before (y ∷ xs) x (suc i) lt = get_or_before xs x i (omega arith)
-
-      get_or_after : (xs : List ℕ) (x : ℕ) → get_or (xs ++ x ∷ []) (length xs) 0 ≡ x
-      get_or_after [] x = refl
-      get_or_after (y ∷ xs) x = get_or_after xs x
+      ap (λ (r : List X). r ∷ rows_between (e ∷ starts ++ (length items + length row) ∷ []) (items ++ row)) (part_before items row s e first within)
+      ∙ ap (λ (rows : List (List X)). slice_range items s e ∷ rows) (packed_more (e ∷ starts) items row tail)
 
 -- a row is as long as its part
-pub row_count : {W : Type 0} (starts : List ℕ) (links : List (Link W)) → ArePacked starts links → (i : ℕ) → i + 1 < length starts →
-    length (row_of (rows_between starts links) i) ≡ get_or starts (i + 1) 0 - get_or starts i 0
-row_count starts links packed i lt =
+pub row_count : {X : Type 0} (starts : List ℕ) (items : List X) → ArePacked starts items → (i : ℕ) → i + 1 < length starts →
+    length (row_of (rows_between starts items) i) ≡ get_or starts (i + 1) 0 - get_or starts i 0
+row_count starts items packed i lt =
     let s = get_or starts i 0 in
     let e = get_or starts (i + 1) 0 in
     let up = packed.rising i lt in
     let within = packed.inside (i + 1) lt in
-    let n = length-drop s links in
-    ap length (row_between starts links i lt) ∙ length-take-le (e - s) (drop s links) (omega (arith, n, up, within))
+    let n = length-drop s items in
+    ap length (row_between starts items i lt) ∙ length-take-le (e - s) (drop s items) (omega (arith, n, up, within))
 
 -- a link of a row, in the whole list
-pub row_link : {W : Type 0} (starts : List ℕ) (links : List (Link W)) → ArePacked starts links → (i : ℕ) → i + 1 < length starts →
-    (j : ℕ) → j < length (row_of (rows_between starts links) i) → (d : Link W) →
-    get_or (row_of (rows_between starts links) i) j d ≡ get_or links (get_or starts i 0 + j) d
-row_link starts links packed i lt j low d =
+pub row_link : {X : Type 0} (starts : List ℕ) (items : List X) → ArePacked starts items → (i : ℕ) → i + 1 < length starts →
+    (j : ℕ) → j < length (row_of (rows_between starts items) i) → (d : X) →
+    get_or (row_of (rows_between starts items) i) j d ≡ get_or items (get_or starts i 0 + j) d
+row_link starts items packed i lt j low d =
     let s = get_or starts i 0 in
     let e = get_or starts (i + 1) 0 in
-    let n = row_count starts links packed i lt in
-    ap (λ (r : List (Link _)). get_or r j d) (row_between starts links i lt)
-    ∙ get_or-take (e - s) (drop s links) j d (omega (arith, n, low)) ∙ get_or-drop s links j d
+    let n = row_count starts items packed i lt in
+    ap (λ (r : List _). get_or r j d) (row_between starts items i lt)
+    ∙ get_or-take (e - s) (drop s items) j d (omega (arith, n, low)) ∙ get_or-drop s items j d
 
--- the same starts serve other links, of which there are as many
-pub packed_as : {W : Type 0} (starts : List ℕ) (links others : List (Link W)) → length others ≡ length links → ArePacked starts links → ArePacked starts others
-packed_as starts links others n packed = record {
+-- the same starts serve other items, of which there are as many
+pub packed_as : {X Y : Type 0} (starts : List ℕ) (items : List X) (others : List Y) → length others ≡ length items → ArePacked starts items → ArePacked starts others
+packed_as starts items others n packed = record {
   some = packed.some;
   rising = packed.rising;
   inside = λ i lt. let le = packed.inside i lt in omega (arith, le, n);
   last = let is = packed.last in omega (arith, is, n);
 }
-
--- links one after the other
-module _ {W : Type 0} (places : List ℕ) (leaving entering : List W) (fields : AreFields places leaving entering) where
-  pub appended_none : AreAppended places leaving entering [] places leaving entering
-  appended_none = record {
-    fields = fields;
-    rises = sym (append-nil (links_of places leaving));
-    falls = sym (append-nil (links_of places entering));
-  }
-
-  pub appended_one : (e : Edge W) → AreAppended places leaving entering (e ∷ []) (places ++ e.place ∷ []) (leaving ++ e.leaving ∷ []) (entering ++ e.entering ∷ [])
-  appended_one e =
-      let l = length-append leaving (e.leaving ∷ []) in
-      let m = length-append entering (e.entering ∷ []) in
-      let n = length-append places (e.place ∷ []) in
-      let p = fields.leaving_count in
-      let q = fields.entering_count in
-      record {
-        fields = record { leaving_count = omega (arith, l, n, p); entering_count = omega (arith, m, n, q) };
-        rises = links-append places leaving (e.place ∷ []) (e.leaving ∷ []) fields.leaving_count;
-        falls = links-append places entering (e.place ∷ []) (e.entering ∷ []) fields.entering_count;
-      }
-
-  pub appended_more : (row on : List (Edge W)) (more most : List ℕ) (more_leaving more_entering most_leaving most_entering : List W) →
-      AreAppended places leaving entering row more more_leaving more_entering →
-      AreAppended more more_leaving more_entering on most most_leaving most_entering →
-      AreAppended places leaving entering (row ++ on) most most_leaving most_entering
-  appended_more row on more most more_leaving more_entering most_leaving most_entering one two = record {
-    fields = two.fields;
-    rises = two.rises ∙ ap (λ (l : List (Link W)). l ++ map rising on) one.rises
-        ∙ append_assoc (links_of places leaving) (map rising row) (map rising on)
-        ∙ ap (λ (l : List (Link W)). links_of places leaving ++ l) (sym (map-append rising row on));
-    falls = two.falls ∙ ap (λ (l : List (Link W)). l ++ map falling on) one.falls
-        ∙ append_assoc (links_of places entering) (map falling row) (map falling on)
-        ∙ ap (λ (l : List (Link W)). links_of places entering ++ l) (sym (map-append falling row on));
-  }
 
 -- what is known of the row of a place, in lists of both links
 module _ {W : Type 0} (starts places : List ℕ) (leaving entering : List W) (packed : ArePackedBothWays starts places leaving entering)

@@ -1,17 +1,18 @@
 -- The tree of an elimination: what is above a place is its parent, or above its parent.
-use Rattle.std.proofs.Common.{◌≡◌, ℕ, zero, suc, ◌+◌, ◌<◌, ◌≤◌, ◌⊎◌, inl, inr, List, [], ◌∷◌, ◌++◌, length, get_or, refl, ap, sym, ◌∙◌, subst, arith}
-use Rattle.std.specs.Prelude.{Contains, min}
-use Rattle.std.proofs.Math.Nat.{min-le_left, min-le_right, min-eq_left, min-eq_right}
-use Rattle.std.proofs.lemmas.Bool.{cases_lt}
-use Rattle.std.proofs.lemmas.List.{get_or_default, get_or_append_left, get_or_push}
+use Rattle.std.proofs.Common.{◌≡◌, ℕ, zero, suc, ◌<◌, ◌≤◌, ◌⊎◌, inl, inr, List, length, get_or, refl, ap, sym, ◌∙◌, subst, arith}
+use Rattle.std.specs.Prelude.{Contains}
+use Rattle.std.specs.List.Sorted.{IsStrictlyIncreasing}
+use Rattle.std.proofs.lemmas.List.{get_or_default}
 use Rattle.road_graph.specs.GraphData.{GraphData}
 use Rattle.path_algebra.specs.Algebra.{Algebra}
 use Rattle.path_algebra.specs.Composition.{Composition}
 use Rattle.path_factors.specs.declared.link.Link.{Link}
 use Rattle.path_factors.specs.Factors.{FactorData, AreLinks, IsClosedAt, row_of}
 use Rattle.path_factors.specs.Edges.{AreAligned}
+use Rattle.path_factors.specs.Heads.{heads_in}
 use Rattle.path_factors.specs.Tree.{IsAbove, IsTreeParent, IsUp, IsAncestor}
 use Rattle.path_factors.proofs.Eliminating.{edge_of_riser, edge_of_faller}
+use Rattle.path_factors.proofs.HeadRows.{above_of_head, first_is_least, head_of_link}
 
 module _ {V W : Type 0} (A : Algebra V) (C : Composition V W) (g : GraphData) (F : FactorData W) (links : AreLinks A C g F) where
   pub above_inside : (v y : ℕ) → IsAbove F.leaving v y → (v < y) × (y < g.vertices)
@@ -93,52 +94,13 @@ module _ {V W : Type 0} (A : Algebra V) (C : Composition V W) (g : GraphData) (F
           | inr down ↦ let back = links.falling x y past.0 down in absurd (omega (arith, back.0, less))
         ]
 
--- the least of the first j places of a row, or none
-pub record IsLeastTo {W : Type 0} (rows : List (List (Link W))) (none v j p : ℕ) : Type 0 where
-  pub least : (q : ℕ) (k : Link W) → q < j → get_or (row_of rows v) q k ≡ k → p ≤ k.place
-  pub one : (p ≡ none) ⊎ IsAbove rows v p
-
-module _ {W : Type 0} (rows : List (List (Link W))) (none v : ℕ) where
-  pub least_none : IsLeastTo rows none v 0 none
-  least_none = record { least = λ q k low is. absurd (omega (arith, low)); one = inl refl }
-
-  pub least_more : (j least : ℕ) (k : Link W) → IsLeastTo rows none v j least → j < length (row_of rows v) →
-      k ≡ get_or (row_of rows v) j k → IsLeastTo rows none v (j + 1) (min least k.place)
-  least_more j least k done lt is = record {
-    least = λ q l low e. elim (cases_lt q j) [
-      | inl before ↦ let le = done.least q l before e in let first = min-le_left least k.place in omega (arith, le, first)
-      | inr past ↦
-          let here : q ≡ j = omega (arith, past, low) in
-          let read : get_or (row_of rows v) j l ≡ l = ap (λ (p : ℕ). get_or (row_of rows v) p l) (sym here) ∙ e in
-          let same : k.place ≡ l.place = ap (λ (m : Link W). m.place) (is ∙ get_or_default (row_of rows v) j k l lt ∙ read) in
-          let second = min-le_right least k.place in
-          omega (arith, second, same)
-    ];
-    one = elim (cases_lt k.place least) [
-      | inl less ↦ inr (subst (λ (p : ℕ). IsAbove rows v p) (sym (min-eq_right {n = k.place} {m = least} (omega (arith, less)))) (k.walk, (j, lt, sym is)))
-      | inr not_less ↦ (let old : min least k.place ≡ least = min-eq_left {n = least} {m = k.place} not_less in
-          elim done.one [
-            | inl none ↦ inl (old ∙ none)
-            | inr up ↦ inr (subst (λ (p : ℕ). IsAbove rows v p) (sym old) up)
-          ])
-    ];
+-- the parent of a place is its first head, if it has one
+module _ {W : Type 0} (rows : List (List (Link W))) (n v p : ℕ) where
+  pub first_is_parent : IsStrictlyIncreasing (row_of (heads_in rows) v) → 0 < length (row_of (heads_in rows) v) → get_or (row_of (heads_in rows) v) 0 0 ≡ p →
+      IsTreeParent rows n v p
+  first_is_parent up some is = record {
+    least = λ y above.
+        let first = first_is_least (row_of (heads_in rows) v) up y (head_of_link rows v (record { place = y; walk = above.0 }) above.1) in
+        omega (arith, first, is);
+    one = inr (above_of_head rows v p (0, some, get_or_default (row_of (heads_in rows) v) 0 p 0 some ∙ is));
   }
-
-  pub least_ends : (j least : ℕ) → IsLeastTo rows none v j least → length (row_of rows v) ≤ j → IsTreeParent rows none v least
-  least_ends j least done all = record {
-    least = λ y up. let low = up.1.1 in done.least up.1.0 (record { place = y; walk = up.0 }) (omega (arith, low, all)) up.1.2;
-    one = done.one;
-  }
-
--- one more parent
-pub parents_more : {W : Type 0} (rows : List (List (Link W))) (n i p : ℕ) (parents : List ℕ) → length parents ≡ i →
-    ((v : ℕ) → v < i → IsTreeParent rows n v (get_or parents v 0)) → IsTreeParent rows n i p →
-    (v : ℕ) → v < i + 1 → IsTreeParent rows n v (get_or (parents ++ p ∷ []) v 0)
-parents_more rows n i p parents count done parent v low = elim (cases_lt v i) [
-  | inl before ↦
-      subst (λ (q : ℕ). IsTreeParent rows n v q) (sym (get_or_append_left parents (p ∷ []) 0 v (omega (arith, before, count)))) (done v before)
-  | inr past ↦
-      let here : v ≡ i = omega (arith, past, low) in
-      subst (λ (u : ℕ). IsTreeParent rows n u (get_or (parents ++ p ∷ []) u 0)) (sym here)
-      (subst (λ (q : ℕ). IsTreeParent rows n i q) (sym (get_or_push parents p 0 i count)) parent)
-]

@@ -1,10 +1,10 @@
 -- Both links between two places as one edge, and rows of links that list the same places both ways.
-use Rattle.std.specs.Prelude.{◌≡◌, ℕ, ◌<◌, List, length, map, cond, slice_index_or}
+use Rattle.std.specs.Prelude.{◌≡◌, ℕ, ◌<◌, List, length, map, cond, Contains, slice_index_or}
 use Rattle.path_algebra.specs.Composition.{Composition}
 use Rattle.path_factors.specs.declared.link.Link.{Link}
 use Rattle.path_factors.specs.declared.edge.Edge.{Edge}
 use Rattle.path_factors.specs.Factors.{FactorData, LeadsNoWorse, row_of}
-use Rattle.path_factors.specs.Eliminating.{IsImproved, AreImproved}
+use Rattle.path_factors.specs.Eliminating.{AreImproved}
 
 -- the link of an edge to its greater place
 abbrev pub rising : {W : Type 0} → Edge W → Link W
@@ -24,22 +24,13 @@ abbrev pub AreAligned : {W : Type 0} → List (List (Link W)) → List (List (Li
 AreAligned leaving entering =
     (i : ℕ) → map (λ k. k.place) (row_of leaving i) ≡ map (λ k. k.place) (row_of entering i)
 
+-- each link has the same walk
+abbrev pub AreBlank : {W : Type 0} → W → List (List (Link W)) → Type 0
+AreBlank {W} none rows = (i : ℕ) (k : Link W) → Contains (row_of rows i) k → k.walk ≡ none
+
 -- the better of two walks, the first if both are as good
 abbrev pub better_walk : {V W : Type 0} → Composition V W → W → W → W
 better_walk C a b = cond (C.no_worse a b) a b
-
--- the better of two links each way
-abbrev pub better_edge : {V W : Type 0} → Composition V W → Edge W → Edge W → Edge W
-better_edge C e f = record {
-  place = f.place;
-  leaving = better_walk C e.leaving f.leaving;
-  entering = better_walk C e.entering f.entering;
-}
-
--- a row after both links of an edge were added to it
-pub record IsEdgeImproved {V W : Type 0} (C : Composition V W) (before : List (Edge W)) (e : Edge W) (after : List (Edge W)) : Type 0 where
-  pub leaving : IsImproved C (map rising before) (rising e) (map rising after)
-  pub entering : IsImproved C (map falling before) (falling e) (map falling after)
 
 -- rows after both links of an edge were added to that of place i
 pub record AreEdgesImproved {V W : Type 0} (C : Composition V W) (before : LinkRows W) (i : ℕ) (e : Edge W) (after : LinkRows W) : Type 0 where

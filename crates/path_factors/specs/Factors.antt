@@ -23,8 +23,8 @@ vertex_at F i = slice_index F.order i
 abbrev pub place_of : {W : Type 0} → FactorData W → ℕ → ℕ
 place_of F v = slice_index F.places (v - 1)
 
--- the links of a place
-abbrev pub row_of : {W : Type 0} → List (List (Link W)) → ℕ → List (Link W)
+-- the row of a place
+abbrev pub row_of : {X : Type 0} → List (List X) → ℕ → List X
 row_of rows i = slice_index_or rows i []
 
 -- a link of worth a leads from place x to the greater place y: it stands in the row of x

@@ -6,3 +6,6 @@ pub mod Edges
 pub mod Packing
 pub mod Tree
 pub mod Asking
+pub mod Heads
+pub mod Chains
+pub mod Reweighing

@@ -1,11 +1,11 @@
 -- The tree of an elimination: the parent of a place is the least place to which it has an edge.
-use Rattle.std.specs.Prelude.{◌≡◌, ℕ, zero, suc, ◌<◌, ◌≤◌, ◌⊎◌, List, Contains, length, slice_index}
+use Rattle.std.specs.Prelude.{◌≡◌, ℕ, zero, suc, ◌<◌, ◌≤◌, ◌⊎◌, List, Contains}
 use Rattle.road_graph.specs.GraphData.{GraphData, IsGraph}
 use Rattle.path_algebra.specs.Algebra.{Algebra}
 use Rattle.path_algebra.specs.Composition.{Composition}
 use Rattle.path_factors.specs.declared.link.Link.{Link}
 use Rattle.path_factors.specs.Factors.{FactorData, IsFactor, row_of}
-use Rattle.path_factors.specs.Edges.{AreAligned}
+use Rattle.path_factors.specs.Heads.{AreHeads, heads_in}
 
 -- an edge leads from a place to the greater place y
 abbrev pub IsAbove : {W : Type 0} → List (List (Link W)) → ℕ → ℕ → Type 0
@@ -25,14 +25,8 @@ IsUp rows n (suc k) v y = (v < n) × ((p : ℕ) × IsTreeParent rows n v p × Is
 abbrev pub IsAncestor : {W : Type 0} → List (List (Link W)) → ℕ → ℕ → ℕ → Type 0
 IsAncestor rows n v y = (k : ℕ) × IsUp rows n k v y
 
--- the parent of each place
-abbrev pub AreTreeParents : {W : Type 0} → List (List (Link W)) → ℕ → List ℕ → Type 0
-AreTreeParents rows n parents = (v : ℕ) → v < n → IsTreeParent rows n v (slice_index parents v)
-
--- what holds of a graph that is factored, with the parents of its places
-pub record IsFactored {V W : Type 0} (A : Algebra V) (C : Composition V W) (g : GraphData) (F : FactorData W) (parents : List ℕ) : Type 0 where
+-- what holds of a graph that is factored
+pub record IsFactored {V W : Type 0} (A : Algebra V) (C : Composition V W) (g : GraphData) (F : FactorData W) : Type 0 where
   pub roads : IsGraph g
   pub factor : IsFactor A C g F
-  pub aligned : AreAligned F.leaving F.entering
-  pub parents_count : length parents ≡ g.vertices
-  pub tree : AreTreeParents F.leaving g.vertices parents
+  pub heads : AreHeads g.vertices (heads_in F.leaving)

@@ -2,8 +2,9 @@
 ghost use Rattle.std.specs.Prelude.{◌≡◌, ◌<◌, length, slice_set};
 ghost use Rattle.path_algebra.specs.Walks.{better_label};
 ghost use Rattle.path_factors.specs.Substituting.{at};
+ghost use Rattle.path_factors.specs.Edges.{better_walk};
 
-use path_algebra::{PathAlgebra, laws_hold};
+use path_algebra::{ComposingAlgebra, PathAlgebra, laws_hold};
 
 /// The better of two labels, the only one, or none.
 pub(crate) fn better<A: PathAlgebra>(
@@ -33,4 +34,11 @@ pub(crate) fn offer<A: PathAlgebra>(
         (at labels.old i) l) }
 {
     labels[i] = better(algebra, labels[i], l);
+}
+
+/// The better of two walks, the first if both are as good.
+pub(crate) fn better_of_walks<A: ComposingAlgebra>(algebra: A, a: A::Walk, b: A::Walk) -> A::Walk
+    ensures { result ≡ better_walk (A.walks algebra) a b }
+{
+    if algebra.no_worse_walk(a, b) { a } else { b }
 }

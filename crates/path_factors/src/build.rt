@@ -1,69 +1,23 @@
 //! A graph is factored.
 ghost use Rattle.std.specs.Prelude.{◌≡◌, IfOk, IfSome, IfNone};
-ghost use Rattle.path_factors.specs.Factors.{ArePlaces, CoversArcs, HasEachVertex};
-ghost use Rattle.path_factors.specs.Eliminating.{AreClosedTo};
+ghost use Rattle.path_factors.specs.Factors.{HasEachVertex};
 
-use crate::elimination::Elimination;
 use crate::factors::Factors;
 use crate::order::places_of;
+use crate::outline::outline;
 use crate::packed::PackedRows;
-use crate::rows::Rows;
-use crate::tree::parents_of;
-use elimination_order::least_degree_order;
-use path_algebra::{ComposingAlgebra, composition_holds};
+use crate::weighing::Weighing;
+use elimination_order::approximate_minimum_degree;
+use path_algebra::ComposingAlgebra;
 use road_graph::{Memory, OutGraph, Vertex};
 use std::alloc::Global;
 use std::snapshot::Snapshot;
 
-impl<'g, A: ComposingAlgebra> Elimination<'g, A> {
-    /// No links yet, between the places of an order.
-    fn open(
-        alloc: Global,
-        algebra: A,
-        graph: &'g OutGraph,
-        order: Vec<Vertex>,
-        places: Vec<u32>,
-    ) -> Result<Self, Memory>
-        requires { ArePlaces graph.now.vertices order.items places.items }
-        ensures algebra { IfOk result (λ e. e.algebra ≡ algebra) }
-        ensures roads { IfOk result (λ e. e.roads ≡ graph.now) }
-        ensures order { IfOk result (λ e. e.factor.order ≡ order.items) }
-    {
-        let n = graph.vertices() as usize;
-        let rows = Rows::new(alloc, n)?;
-        Ok(Elimination {
-            algebra,
-            graph,
-            order,
-            places,
-            rows,
-        })
-    }
-
-    /// The factor, once each arc has a link and each place is eliminated.
-    fn into_factors(self, alloc: Global) -> Result<Factors<A>, Memory>
-        requires covers { CoversArcs (A.walks self.algebra) self.roads self.factor }
-        requires closed { AreClosedTo (A.walks self.algebra) self.factor self.roads.vertices }
-        ensures { IfOk result (λ f. f ≡ self.entry) }
-    {
-        self.holds();
-        let rows = PackedRows::pack(alloc, &self.rows)?;
-        let parents = parents_of(alloc, self.graph.vertices(), &rows)?;
-        Ok(Factors {
-            algebra: self.algebra,
-            graph: Snapshot::of(self.graph),
-            order: Snapshot::of(&self.order),
-            places: self.places,
-            rows,
-            parents,
-        })
-    }
-}
-
 impl<A: ComposingAlgebra> Factors<A> {
     /// The factor of a graph by an order of its vertices; none if the order does not have each vertex once.
     ///
-    /// Any order gives right answers, a good one few links.
+    /// Any order gives right answers, a good one few links. First it is found which links are needed, and then walks
+    /// are put at them.
     pub fn build(
         alloc: Global,
         algebra: A,
@@ -77,15 +31,13 @@ impl<A: ComposingAlgebra> Factors<A> {
             (HasEachVertex graph.now.vertices order.items → ⊥)) }
     {
         graph.holds();
-        composition_holds(algebra);
         let Some(places) = places_of(alloc, graph.vertices(), &order)? else {
             return Ok(None);
         };
-        let mut elimination = Elimination::open(alloc, algebra, graph, order, places)?;
-        elimination.load()?;
-        elimination.eliminate_all()?;
-        let factors = elimination.into_factors(alloc)?;
-        Ok(Some(factors))
+        let heads = outline(alloc, graph, &places)?;
+        let rows = PackedRows::blank(alloc, heads, algebra.no_walk())?;
+        let order = Snapshot::of(&order);
+        Ok(Some(Weighing::weigh(algebra, graph, order, places, rows)))
     }
 
     /// The factor of a graph by the order of `elimination_order`; none if the graph is too dense to factor.
@@ -93,7 +45,8 @@ impl<A: ComposingAlgebra> Factors<A> {
         ensures algebra { IfOk result (λ built. IfSome built (λ f. f.algebra ≡ algebra)) }
         ensures roads { IfOk result (λ built. IfSome built (λ f. f.roads ≡ graph.now)) }
     {
-        let Some(order) = least_degree_order(alloc, graph)? else {
+        let ordered = approximate_minimum_degree(alloc, graph)?;
+        let Some(order) = ordered.order else {
             return Ok(None);
         };
         Factors::build(alloc, algebra, graph, order)

@@ -16,7 +16,7 @@ use std::snapshot::Snapshot;
 /// Links between the places of an order, from which best values of a graph are found by substitution. Contracts alone
 /// see the graph and the order.
 ///
-/// It takes 12 bytes for each vertex, and 4 and those of two walks for each edge.
+/// It takes 8 bytes for each vertex, and 4 and those of two walks for each edge.
 #[derive(Drop)]
 pub struct Factors<A: ComposingAlgebra> {
     pub(crate) algebra: A,
@@ -26,8 +26,6 @@ pub struct Factors<A: ComposingAlgebra> {
     pub(crate) places: Vec<u32>,
     /// For each place the links to greater places and from them.
     pub(crate) rows: PackedRows<A::Walk>,
-    /// For each place the least one to which it has an edge, or how many places there are if it has none.
-    pub(crate) parents: Vec<u32>,
 }
 
 impl<A: ComposingAlgebra> Model for Factors<A> {
@@ -38,7 +36,7 @@ impl<A: ComposingAlgebra> Model for Factors<A> {
 
     ghost view = { λ f. record { algebra = f.algebra; roads = f.graph.value; factor = record { order = f.order.value.items; places = f.places.items; leaving = f.rows.leaving; entering = f.rows.entering } } };
 
-    ghost invariant = { λ f. IsFactored (A.meaning f.algebra) (A.walks f.algebra) f.graph.value (record { order = f.order.value.items; places = f.places.items; leaving = f.rows.leaving; entering = f.rows.entering }) f.parents.items };
+    ghost invariant = { λ f. IsFactored (A.meaning f.algebra) (A.walks f.algebra) f.graph.value (record { order = f.order.value.items; places = f.places.items; leaving = f.rows.leaving; entering = f.rows.entering }) };
 }
 
 impl<A: ComposingAlgebra> Factors<A> {
@@ -53,6 +51,7 @@ impl<A: ComposingAlgebra> Factors<A> {
     {
         laws_hold(self.algebra);
         composition_holds(self.algebra);
+        let _ = self.rows.len();
     }
 
     /// The least place to which a place has an edge; how many places there are if it has none.
@@ -62,6 +61,11 @@ impl<A: ComposingAlgebra> Factors<A> {
         ensures above { i < result }
         ensures inside { result ≤ self.now.roads.vertices }
     {
-        self.parents[i] as usize
+        let heads = self.rows.heads(i);
+        if 0 < heads.len() {
+            heads[0] as usize
+        } else {
+            self.places.len()
+        }
     }
 }

@@ -8,19 +8,23 @@
 mod asker;
 mod better;
 mod build;
+mod chains;
 mod climb;
 mod edge;
-mod elimination;
 mod factors;
 mod find;
+mod heads;
 mod link;
 mod load;
 mod order;
+mod outline;
 mod packed;
-mod rows;
+mod reweigh;
 mod solve;
-mod tree;
+mod upward;
+mod weighing;
 
 pub use asker::Asker;
 pub use factors::Factors;
 pub use link::Link;
+pub use reweigh::Unfit;

@@ -1,15 +1,16 @@
-//! A link for each arc of the graph, before any place is eliminated.
-ghost use Rattle.std.specs.Prelude.{◌≡◌, ℕ, ◌<◌, OnOk};
+//! A walk at a link for each arc of the graph, before any place is eliminated.
+ghost use Rattle.std.specs.Prelude.{◌≡◌, ℕ, ◌<◌};
 ghost use Rattle.road_graph.specs.GraphData.{HasArc, HasVertex, arc_of};
 ghost use Rattle.path_factors.specs.Factors.{CoversArcs, LeadsNoWorse, IsWorthOfWalk, place_of};
 ghost use Rattle.path_factors.specs.Eliminating.{Improves};
+ghost use Rattle.path_factors.specs.Heads.{IsHead, IsJoined, heads_in};
 ghost use Rattle.path_factors.specs.State.{IsSameState};
 
-use crate::elimination::Elimination;
+use crate::weighing::Weighing;
 use path_algebra::ComposingAlgebra;
-use road_graph::{Memory, OutRoad, Vertex};
+use road_graph::{OutRoad, Vertex};
 
-impl<'g, A: ComposingAlgebra> Elimination<'g, A> {
+impl<'g, A: ComposingAlgebra> Weighing<'g, A> {
     /// The place of a vertex.
     fn place(&self, v: Vertex) -> u32
         requires { HasVertex self.now.roads v }
@@ -19,57 +20,56 @@ impl<'g, A: ComposingAlgebra> Elimination<'g, A> {
         self.places[v.0 as usize - 1]
     }
 
-    /// Puts a link for a road from a vertex, and no walk back, unless there is one.
-    fn add(&mut self, tail: Vertex, road: OutRoad) -> Result<(), Memory>
+    /// Puts a walk at the link for a road from a vertex, unless there is one no worse.
+    fn add(&mut self, tail: Vertex, road: OutRoad)
         requires tail { HasVertex self.old.roads tail }
         requires head { HasVertex self.old.roads road.head }
+        requires joined { IsJoined (IsHead (heads_in self.old.factor.leaving))
+            (place_of self.old.factor tail) (place_of self.old.factor road.head) }
         requires worth { IsWorthOfWalk (A.meaning self.old.algebra) (A.walks self.old.algebra)
             self.old.roads tail road.head ((A.walks self.old.algebra).of_arc road.weight) }
-        ensures same { OnOk result (IsSameState self.old self.new) }
-        ensures improves { OnOk result (Improves (A.walks self.old.algebra) 0 self.old.factor
-            self.new.factor) }
-        ensures leads { OnOk result ((tail ≡ road.head → ⊥) →
+        ensures same { IsSameState self.old self.new }
+        ensures improves { Improves (A.walks self.old.algebra) 0 self.old.factor
+            self.new.factor }
+        ensures leads { (tail ≡ road.head → ⊥) →
             LeadsNoWorse (A.walks self.old.algebra) self.new.factor (place_of self.old.factor tail)
-            (place_of self.old.factor road.head) ((A.walks self.old.algebra).of_arc road.weight)) }
+            (place_of self.old.factor road.head) ((A.walks self.old.algebra).of_arc road.weight) }
     {
         self.holds();
         let there = self.algebra.of_arc(road.weight);
         let back = self.algebra.no_walk();
-        self.connect(self.place(tail), self.place(road.head), there, back)?;
-        Ok(())
+        self.connect(self.place(tail), self.place(road.head), there, back);
     }
 
-    /// Puts a link for each arc that leaves a vertex.
-    fn load_from(&mut self, tail: Vertex) -> Result<(), Memory>
+    /// Puts a walk at the link for each arc that leaves a vertex.
+    fn load_from(&mut self, tail: Vertex)
         requires { HasVertex self.old.roads tail }
-        ensures same { OnOk result (IsSameState self.old self.new) }
-        ensures improves { OnOk result (Improves (A.walks self.old.algebra) 0 self.old.factor
-            self.new.factor) }
-        ensures covers { OnOk result ((a : ℕ) → HasArc self.old.roads a → (arc_of self.old.roads a).tail ≡ tail →
+        ensures same { IsSameState self.old self.new }
+        ensures improves { Improves (A.walks self.old.algebra) 0 self.old.factor
+            self.new.factor }
+        ensures covers { (a : ℕ) → HasArc self.old.roads a → (arc_of self.old.roads a).tail ≡ tail →
             ((arc_of self.old.roads a).tail ≡ (arc_of self.old.roads a).head → ⊥) →
             LeadsNoWorse (A.walks self.old.algebra) self.new.factor (place_of self.old.factor (arc_of self.old.roads a).tail)
-            (place_of self.old.factor (arc_of self.old.roads a).head) ((A.walks self.old.algebra).of_arc (arc_of self.old.roads a).weight)) }
+            (place_of self.old.factor (arc_of self.old.roads a).head) ((A.walks self.old.algebra).of_arc (arc_of self.old.roads a).weight) }
     {
         self.holds();
         let graph = self.graph;
         for road in graph.roads_from(tail) {
-            self.add(tail, *road)?;
+            self.add(tail, *road);
         }
-        Ok(())
     }
 
-    /// Puts a link for each arc.
-    pub(crate) fn load(&mut self) -> Result<(), Memory>
-        ensures same { OnOk result (IsSameState self.old self.new) }
-        ensures improves { OnOk result (Improves (A.walks self.old.algebra) 0 self.old.factor
-            self.new.factor) }
-        ensures covers { OnOk result (CoversArcs (A.walks self.old.algebra) self.old.roads
-            self.new.factor) }
+    /// Puts a walk at the link for each arc.
+    pub(crate) fn load(&mut self)
+        ensures same { IsSameState self.old self.new }
+        ensures improves { Improves (A.walks self.old.algebra) 0 self.old.factor
+            self.new.factor }
+        ensures covers { CoversArcs (A.walks self.old.algebra) self.old.roads
+            self.new.factor }
     {
         self.holds();
         for i in 0..self.graph.vertices() {
-            self.load_from(Vertex(i + 1))?;
+            self.load_from(Vertex(i + 1));
         }
-        Ok(())
     }
 }

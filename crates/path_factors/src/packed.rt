@@ -1,11 +1,11 @@
 //! The links of each place, one row after the other.
-ghost use Rattle.std.specs.Prelude.{◌≡◌, ◌+◌, ◌<◌, ◌≤◌, ◌++◌, ◌∷◌, [], OnOk, length, map, slice_index, slice_index_or, slice_range};
-ghost use Rattle.path_factors.specs.Packing.{rows_between, links_of, AreFields, ArePackedBothWays, AreAppended};
-ghost use Rattle.path_factors.specs.Edges.{rising, falling};
+ghost use Rattle.std.specs.Prelude.{◌≡◌, ℕ, ◌<◌, All, IfOk, length, slice_index, slice_index_or};
 
+use crate::better::better_of_walks;
 use crate::edge::Edge;
+use crate::heads::{Heads, row_between};
 use crate::link::Link;
-use crate::rows::Rows;
+use path_algebra::{ComposingAlgebra, composition_holds};
 use road_graph::Memory;
 use std::alloc::{AllocError, Global};
 use std::marker::Model;
@@ -33,94 +33,47 @@ impl<W: Copy> Model for PackedRows<W> {
     ghost invariant = { λ r. ArePackedBothWays r.starts.items r.places.items r.leaving.items r.entering.items };
 }
 
-/// One more edge at the end of the lists.
-fn push_edge<W: Copy>(
-    places: &mut Vec<u32>,
-    leaving: &mut Vec<W>,
-    entering: &mut Vec<W>,
-    edge: Edge<W>,
-) -> Result<(), Memory>
-    requires { AreFields places.old.items leaving.old.items entering.old.items }
-    ensures { OnOk result (AreAppended places.old.items leaving.old.items entering.old.items (edge ∷ [])
-        places.new.items leaving.new.items entering.new.items) }
+/// The same walk so many times.
+fn repeated<W: Copy>(alloc: Global, walk: W, count: usize) -> Result<Vec<W>, Memory>
+    ensures count { IfOk result (λ walks. length walks.items ≡ count) }
+    ensures all { IfOk result (λ walks. All (λ a. a ≡ walk) walks.items) }
 {
-    places.push(edge.place).map_err(AllocError::from)?;
-    leaving.push(edge.leaving).map_err(AllocError::from)?;
-    entering.push(edge.entering).map_err(AllocError::from)?;
-    Ok(())
-}
-
-/// One more row at the end of the lists.
-fn push_edges<W: Copy>(
-    places: &mut Vec<u32>,
-    leaving: &mut Vec<W>,
-    entering: &mut Vec<W>,
-    row: &[Edge<W>],
-) -> Result<(), Memory>
-    requires { AreFields places.old.items leaving.old.items entering.old.items }
-    ensures { OnOk result (AreAppended places.old.items leaving.old.items entering.old.items row.now
-        places.new.items leaving.new.items entering.new.items) }
-{
-    for edge in row {
-        push_edge(places, leaving, entering, *edge)?;
+    let mut walks = Vec::with_capacity(alloc, count)?;
+    for _ in 0..count {
+        walks.push(walk).map_err(AllocError::from)?;
     }
-    Ok(())
+    Ok(walks)
 }
 
-/// One more row at the end.
-fn append<W: Copy>(
-    starts: &mut Vec<u32>,
-    places: &mut Vec<u32>,
-    leaving: &mut Vec<W>,
-    entering: &mut Vec<W>,
-    row: &[Edge<W>],
-) -> Result<(), Memory>
-    requires { ArePackedBothWays starts.old.items places.old.items leaving.old.items
-        entering.old.items }
-    ensures packed { OnOk result (ArePackedBothWays starts.new.items places.new.items
-        leaving.new.items entering.new.items) }
-    ensures leaving { OnOk result (
-        rows_between starts.new.items (links_of places.new.items leaving.new.items) ≡
-        rows_between starts.old.items (links_of places.old.items leaving.old.items)
-        ++ map rising row.now ∷ []) }
-    ensures entering { OnOk result (
-        rows_between starts.new.items (links_of places.new.items entering.new.items) ≡
-        rows_between starts.old.items (links_of places.old.items entering.old.items)
-        ++ map falling row.now ∷ []) }
+/// Puts the same walk everywhere.
+fn fill<W: Copy>(walks: &mut Vec<W>, none: W)
+    ensures count { length walks.new.items ≡ length walks.old.items }
+    ensures all { (k : ℕ) → k < length walks.new.items → slice_index_or walks.new.items k none ≡ none }
 {
-    push_edges(places, leaving, entering, row)?;
-    let Ok(end) = u32::try_from(places.len()) else {
-        return Err(Memory);
-    };
-    starts.push(end).map_err(AllocError::from)?;
-    Ok(())
+    for k in 0..walks.len() {
+        walks[k] = none;
+    }
 }
 
 impl<W: Copy> PackedRows<W> {
-    ghost use Rattle.std.specs.Prelude.{IfOk};
     ghost use Rattle.path_factors.specs.Factors.{row_of};
+    ghost use Rattle.path_factors.specs.Edges.{AreBlank, AreEdgesImproved};
+    ghost use Rattle.path_factors.specs.Heads.{heads_in};
 
-    /// The same rows, packed.
-    pub(crate) fn pack(alloc: Global, rows: &Rows<W>) -> Result<Self, Memory>
-        ensures { IfOk result (λ packed. packed ≡ rows.now) }
+    /// An edge for each head, with the same walk both ways.
+    pub(crate) fn blank(alloc: Global, heads: Heads, none: W) -> Result<Self, Memory>
+        ensures count { IfOk result (λ rows. length rows.leaving ≡ length heads) }
+        ensures leaving { IfOk result (λ rows. heads_in rows.leaving ≡ heads) }
+        ensures entering { IfOk result (λ rows. heads_in rows.entering ≡ heads) }
+        ensures risers { IfOk result (λ rows. AreBlank none rows.leaving) }
+        ensures fallers { IfOk result (λ rows. AreBlank none rows.entering) }
     {
-        let mut starts: Vec<u32> = Vec::new(alloc);
-        starts.push(0).map_err(AllocError::from)?;
-        let mut places: Vec<u32> = Vec::new(alloc);
-        let mut leaving: Vec<W> = Vec::new(alloc);
-        let mut entering: Vec<W> = Vec::new(alloc);
-        for i in 0..rows.count() {
-            append(
-                &mut starts,
-                &mut places,
-                &mut leaving,
-                &mut entering,
-                rows.row(i),
-            )?;
-        }
+        let count = heads.places.len();
+        let leaving = repeated(alloc, none, count)?;
+        let entering = repeated(alloc, none, count)?;
         Ok(PackedRows {
-            starts,
-            places,
+            starts: heads.starts,
+            places: heads.places,
             leaving,
             entering,
         })
@@ -159,5 +112,53 @@ impl<W: Copy> PackedRows<W> {
             place: self.places[k],
             walk: self.entering[k],
         }
+    }
+
+    /// How many places there are.
+    pub(crate) fn len(&self) -> usize
+        ensures count { result ≡ length self.now.leaving }
+        ensures entering { result ≡ length self.now.entering }
+        ensures heads { heads_in self.now.entering ≡ heads_in self.now.leaving }
+    {
+        self.starts.len() - 1
+    }
+
+    /// The heads of a place.
+    pub(crate) fn heads(&self, i: usize) -> &[u32]
+        requires { i < length self.now.leaving }
+        ensures { result.now ≡ row_of (heads_in self.now.leaving) i }
+    {
+        row_between(&self.starts, &self.places, i)
+    }
+
+    /// Puts the same walk at each link.
+    pub(crate) fn clear(&mut self, none: W)
+        ensures leaving { heads_in self.new.leaving ≡ heads_in self.old.leaving }
+        ensures entering { heads_in self.new.entering ≡ heads_in self.old.leaving }
+        ensures risers { AreBlank none self.new.leaving }
+        ensures fallers { AreBlank none self.new.entering }
+    {
+        fill(&mut self.leaving, none);
+        fill(&mut self.entering, none);
+    }
+
+    /// Makes both links of an edge of a place no worse than these, where `j` is its index.
+    pub(crate) fn improve<A: ComposingAlgebra<Walk = W>>(
+        &mut self,
+        algebra: A,
+        i: usize,
+        j: usize,
+        edge: Edge<W>,
+    )
+        requires row { i < length self.old.leaving }
+        requires index { j < length (row_of self.old.leaving i) }
+        requires head { slice_index (row_of (heads_in self.old.leaving) i) j ≡ edge.place }
+        ensures improved { AreEdgesImproved (A.walks algebra) self.old i edge self.new }
+        ensures heads { heads_in self.new.leaving ≡ heads_in self.old.leaving }
+    {
+        composition_holds(algebra);
+        let k = self.starts[i] as usize + j;
+        self.leaving[k] = better_of_walks(algebra, self.leaving[k], edge.leaving);
+        self.entering[k] = better_of_walks(algebra, self.entering[k], edge.entering);
     }
 }

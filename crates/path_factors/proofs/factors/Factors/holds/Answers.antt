@@ -3,6 +3,7 @@ use Rattle.road_graph.specs.GraphData.{IsGraph}
 use Rattle.path_factors.specs.Factors.{IsFactor}
 use Rattle.path_factors.specs.Edges.{AreAligned}
 use Rattle.path_factors.specs.State.{FactorState}
+use Rattle.path_factors.proofs.HeadRows.{aligned_of_heads}
 use Rattle.path_factors.proofs.factors.Factors.holds.Goals as goal
 
 pub returns-clause-factor : goal.returns-clause-factor
@@ -16,4 +17,5 @@ returns-clause-roads g c =
 
 pub returns-clause-aligned : goal.returns-clause-aligned
 returns-clause-aligned g c =
-    subst (λ (s : FactorState g.row.A.Denot g.row.A-Walk.Denot). AreAligned s.factor.leaving s.factor.entering) c.self.view_is c.self.invariant.aligned
+    subst (λ (s : FactorState g.row.A.Denot g.row.A-Walk.Denot). AreAligned s.factor.leaving s.factor.entering) c.self.view_is
+    (aligned_of_heads c.self.inside.rows.leaving c.self.inside.rows.entering c.len.ensures.heads)

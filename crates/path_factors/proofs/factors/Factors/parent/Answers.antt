@@ -1,24 +1,41 @@
-use Rattle.std.proofs.Common.{◌≡◌, ◌<◌, ◌∙◌, arith}
+use Rattle.std.proofs.Common.{◌≡◌, ℕ, ◌<◌, List, length, get_or, ap, arith, sym, subst}
 use Rattle.std.proofs.lemmas.List.{get_or_default}
-use Rattle.path_factors.proofs.Trees.{parent_inside}
+use Rattle.path_factors.specs.Factors.{row_of}
+use Rattle.path_factors.specs.Heads.{IsHead, heads_in}
+use Rattle.path_factors.specs.Tree.{IsTreeParent}
+use Rattle.path_factors.proofs.Trees.{first_is_parent}
 use Rattle.path_factors.proofs.factors.Factors.parent.Goals as goal
 
-pub returns-clause-above : goal.returns-clause-above
-returns-clause-above g c =
-    let s = c.self.inside in
-    let n : s.graph.value.vertices ≡ c.args.self.now.roads.vertices = λ i. (c.self.view_is i).roads.vertices in
-    let low : c.args.i < s.graph.value.vertices = omega (arith, c.requires, n) in
-    let read = c.index.ensures ∙ get_or_default s.parents.items c.args.i c.index.result.now 0 (omega (arith, low, c.self.invariant.parents_count)) in
-    let up = parent_inside (g.A.PathAlgebra.meaning s.algebra) (g.A.ComposingAlgebra.walks s.algebra) s.graph.value _ c.self.invariant.factor.links
-    c.args.i _ low (c.self.invariant.tree c.args.i low) in
-    omega (arith, up.0, read)
+pub returns-then-heads-gt0-clause-parent : goal.returns-then-heads-gt0-clause-parent
+returns-then-heads-gt0-clause-parent g c =
+    let rows = c.self.inside.rows.leaving in
+    let n = c.args.self.now.roads.vertices in
+    let i = c.args.i in
+    let list = c.heads-heads.result.now in
+    let size = ap length c.heads-heads.ensures in
+    let some : 0 < length (row_of (heads_in rows) i) = omega (arith, size, c.if-heads-gt0.true) in
+    let is : get_or (row_of (heads_in rows) i) 0 0 ≡ get_or list 0 0 = ap (λ (l : List ℕ). get_or l 0 0) (sym c.heads-heads.ensures) in
+    subst (λ r. IsTreeParent r n i (get_or list 0 0)) (λ j. (c.self.view_is j).factor.leaving)
+    (first_is_parent rows n i (get_or list 0 0) (c.self.invariant.heads.ascending i) some is)
 
-pub returns-clause-inside : goal.returns-clause-inside
-returns-clause-inside g c =
-    let s = c.self.inside in
-    let n : s.graph.value.vertices ≡ c.args.self.now.roads.vertices = λ i. (c.self.view_is i).roads.vertices in
-    let low : c.args.i < s.graph.value.vertices = omega (arith, c.requires, n) in
-    let read = c.index.ensures ∙ get_or_default s.parents.items c.args.i c.index.result.now 0 (omega (arith, low, c.self.invariant.parents_count)) in
-    let up = parent_inside (g.A.PathAlgebra.meaning s.algebra) (g.A.ComposingAlgebra.walks s.algebra) s.graph.value _ c.self.invariant.factor.links
-    c.args.i _ low (c.self.invariant.tree c.args.i low) in
-    omega (arith, up.1, read, n)
+pub returns-then-heads-gt0-clause-above : goal.returns-then-heads-gt0-clause-above
+returns-then-heads-gt0-clause-above g c =
+    let heads = heads_in c.self.inside.rows.leaving in
+    let i = c.args.i in
+    let list = c.heads-heads.result.now in
+    let p = get_or list 0 0 in
+    let head : IsHead heads i p = subst (λ (l : List ℕ). (k : ℕ) × (k < length l) × (get_or l k p ≡ p)) c.heads-heads.ensures
+    (0, c.if-heads-gt0.true, get_or_default list 0 p 0 c.if-heads-gt0.true) in
+    (c.self.invariant.heads.rising i p head).0
+
+pub returns-then-heads-gt0-clause-inside : goal.returns-then-heads-gt0-clause-inside
+returns-then-heads-gt0-clause-inside g c =
+    let heads = heads_in c.self.inside.rows.leaving in
+    let i = c.args.i in
+    let list = c.heads-heads.result.now in
+    let p = get_or list 0 0 in
+    let head : IsHead heads i p = subst (λ (l : List ℕ). (k : ℕ) × (k < length l) × (get_or l k p ≡ p)) c.heads-heads.ensures
+    (0, c.if-heads-gt0.true, get_or_default list 0 p 0 c.if-heads-gt0.true) in
+    let r = c.self.invariant.heads.rising i p head in
+    let n : c.self.inside.graph.value.vertices ≡ c.args.self.now.roads.vertices = λ j. (c.self.view_is j).roads.vertices in
+    omega (arith, r.1, n)

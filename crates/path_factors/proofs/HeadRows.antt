@@ -1,0 +1,149 @@
+-- Heads in rows of links, and in rows that are packed.
+use Rattle.std.proofs.Common.{◌≡◌, ℕ, zero, suc, ◌+◌, ◌-◌, ◌<◌, ◌≤◌, inl, inr, false, Result, Ok, Err, List, [], ◌∷◌, length, take, drop, get_or, map, refl, ap, sym, ◌∙◌, subst, arith}
+use Rattle.std.specs.Prelude.{◌↔◌, Contains, IsTrue, is_ok, slice_range}
+use Rattle.std.specs.List.Sorted.{IsBinarySearchResult, IsStrictlyIncreasing}
+use Rattle.std.specs.Ordering.{nat_cmp}
+use Rattle.std.proofs.lemmas.Bool.{cases_lt}
+use Rattle.std.proofs.lemmas.List.{get_or_default, get_or-map, length-map}
+use Rattle.std.proofs.lemmas.List.Sorted.{searched}
+use Rattle.std.proofs.lemmas.List.Kept.{AllPairs-from_increasing}
+use Rattle.road_graph.proofs.Lists.{not_in_empty, here, later, head_or_tail}
+use Rattle.path_factors.specs.declared.link.Link.{Link}
+use Rattle.path_factors.specs.Factors.{row_of}
+use Rattle.path_factors.specs.Edges.{AreAligned}
+use Rattle.path_factors.specs.Heads.{IsHead, heads_in}
+use Rattle.path_factors.specs.Packing.{links_of, rows_between}
+use Rattle.path_factors.specs.Tree.{IsAbove}
+
+-- numbers that rise
+pub rises_between : (xs : List ℕ) → IsStrictlyIncreasing xs → (i j : ℕ) → i < j → j < length xs → get_or xs i 0 < get_or xs j 0
+rises_between xs up i j less lt = AllPairs-from_increasing xs up i j 0 less lt
+
+-- the first is the least
+pub first_is_least : (xs : List ℕ) → IsStrictlyIncreasing xs → (y : ℕ) → Contains xs y → get_or xs 0 0 ≤ y
+first_is_least xs up y (zero, lt, is) = let e = get_or_default xs zero 0 y lt ∙ is in omega (arith, e)
+first_is_least xs up y (suc k, lt, is) =
+    let e = get_or_default xs (suc k) 0 y lt ∙ is in
+    let less = rises_between xs up 0 (suc k) (omega arith) lt in
+    omega (arith, e, less)
+
+not_falling : (xs : List ℕ) → IsStrictlyIncreasing xs → (i j : ℕ) → i ≤ j → j < length xs → get_or xs i 0 ≤ get_or xs j 0
+not_falling xs up i j le lt = elim (cases_lt i j) [
+  | inl less ↦ let r = rises_between xs up i j less lt in omega (arith, r)
+  | inr not_less ↦
+      let is : i ≡ j = omega (arith, le, not_less) in
+      let same = ap (λ (k : ℕ). get_or xs k 0) is in
+      omega (arith, same)
+]
+
+-- a binary search finds a number exactly if it is there
+pub listed_by_search : (xs : List ℕ) (x : ℕ) (r : Result ℕ ℕ) → IsStrictlyIncreasing xs → IsBinarySearchResult (λ y. nat_cmp y x) xs r →
+    IsTrue (is_ok r) ↔ Contains xs x
+listed_by_search xs x (Ok i) up is =
+    let at = searched xs x (Ok i) is (not_falling xs up) in
+    (λ yes. (i, at.0, get_or_default xs i x 0 at.0 ∙ at.1), λ c. refl)
+listed_by_search xs x (Err i) up is =
+    let at = searched xs x (Err i) is (not_falling xs up) in (
+      λ (never : IsTrue false). absurd (cc),
+      λ c.
+          let read = get_or_default xs c.0 0 x c.1 ∙ c.2 in
+          elim (cases_lt c.0 i) [
+            | inl before ↦ let less = at.1 c.0 before in absurd (omega (arith, read, less))
+            | inr after ↦ let more = at.2 c.0 after c.1 in absurd (omega (arith, read, more))
+          ],
+    )
+
+-- where two lists that rise have the same number, later ones that they share come later in both
+pub seek_more : (xs ys : List ℕ) → IsStrictlyIncreasing xs → IsStrictlyIncreasing ys → (q j : ℕ) → q < length xs → get_or xs q 0 ≡ get_or ys j 0 →
+    (p m : ℕ) → j + 1 ≤ p → p < length ys → m < length xs → get_or xs m 0 ≡ get_or ys p 0 → q ≤ m
+seek_more xs ys up also q j inside same p m after lt low is = elim (cases_lt m q) [
+  | inr not_before ↦ not_before
+  | inl less ↦
+      let one = rises_between xs up m q less inside in
+      let two = rises_between ys also j p (omega (arith, after)) lt in
+      absurd (omega (arith, one, two, same, is))
+]
+
+module _ {W : Type 0} where
+  pub heads_row : (rows : List (List (Link W))) (i : ℕ) → row_of (heads_in rows) i ≡ map (λ (k : Link W). k.place) (row_of rows i)
+  heads_row [] i = refl
+  heads_row (r ∷ rows) zero = refl
+  heads_row (r ∷ rows) (suc i) = heads_row rows i
+
+  pub heads_count : (rows : List (List (Link W))) → length (heads_in rows) ≡ length rows
+  heads_count [] = refl
+  heads_count (r ∷ rows) = let n = heads_count rows in omega (arith, n)
+
+  pub row_heads_count : (rows : List (List (Link W))) (i : ℕ) → length (row_of (heads_in rows) i) ≡ length (row_of rows i)
+  row_heads_count rows i = ap length (heads_row rows i) ∙ length-map (row_of rows i) (λ (k : Link W). k.place)
+
+  -- the head of an edge
+  pub head_at : (rows : List (List (Link W))) (v j : ℕ) (k : Link W) → j < length (row_of rows v) → get_or (row_of rows v) j k ≡ k →
+      get_or (row_of (heads_in rows) v) j 0 ≡ k.place
+  head_at rows v j k lt is =
+      ap (λ (r : List ℕ). get_or r j 0) (heads_row rows v)
+      ∙ get_or-map (λ (k : Link W). k.place) (row_of rows v) j k 0 lt
+      ∙ ap (λ (l : Link W). l.place) is
+
+  place_in : (row : List (Link W)) (k : Link W) → Contains row k → Contains (map (λ (k : Link W). k.place) row) k.place
+  place_in [] k c = absurd (not_in_empty k c)
+  place_in (l ∷ row) k c = elim (head_or_tail l k row c) [
+    | inl is ↦
+        subst (λ (q : Link W). Contains (l.place ∷ map (λ (k : Link W). k.place) row) q.place) is
+        (here l.place (map (λ (k : Link W). k.place) row))
+    | inr rest ↦ later l.place k.place (map (λ (k : Link W). k.place) row) (place_in row k rest)
+  ]
+
+  link_in : (row : List (Link W)) (y : ℕ) → Contains (map (λ (k : Link W). k.place) row) y → (a : W) × Contains row (record { place = y; walk = a })
+  link_in [] y c = absurd (not_in_empty y c)
+  link_in (l ∷ row) y c = elim (head_or_tail l.place y (map (λ (k : Link W). k.place) row) c) [
+    | inl is ↦
+        (l.walk, subst (λ (p : ℕ). Contains (l ∷ row) (record { place = p; walk = l.walk })) is (here l row))
+    | inr rest ↦ let r = link_in row y rest in (r.0, later l (record { place = y; walk = r.0 }) row r.1)
+  ]
+
+  -- a head is above its place, and what is above is a head
+  pub above_of_head : (rows : List (List (Link W))) (v y : ℕ) → IsHead (heads_in rows) v y → IsAbove rows v y
+  above_of_head rows v y h = link_in (row_of rows v) y (subst (λ (r : List ℕ). Contains r y) (heads_row rows v) h)
+
+  pub head_of_link : (rows : List (List (Link W))) (v : ℕ) (k : Link W) → Contains (row_of rows v) k → IsHead (heads_in rows) v k.place
+  head_of_link rows v k c = subst (λ (r : List ℕ). Contains r k.place) (sym (heads_row rows v)) (place_in (row_of rows v) k c)
+
+  -- rows with the same heads are aligned
+  pub aligned_of_heads : (leaving entering : List (List (Link W))) → heads_in entering ≡ heads_in leaving → AreAligned leaving entering
+  aligned_of_heads leaving entering same i =
+      sym (heads_row leaving i) ∙ ap (λ (h : List (List ℕ)). row_of h i) (sym same) ∙ heads_row entering i
+
+-- the places of links
+module _ {X Y : Type 0} (f : X → Y) where
+  map-take : (n : ℕ) (xs : List X) → map f (take n xs) ≡ take n (map f xs)
+  map-take zero xs = refl
+  map-take (suc n) [] = refl
+  map-take (suc n) (x ∷ xs) = ap (λ (l : List Y). f x ∷ l) (map-take n xs)
+
+  map-drop : (n : ℕ) (xs : List X) → map f (drop n xs) ≡ drop n (map f xs)
+  map-drop zero xs = refl
+  map-drop (suc n) [] = refl
+  map-drop (suc n) (x ∷ xs) = map-drop n xs
+
+  map-part : (xs : List X) (s e : ℕ) → map f (slice_range xs s e) ≡ slice_range (map f xs) s e
+  map-part xs s e = map-take (e - s) (drop s xs) ∙ ap (λ (l : List Y). take (e - s) l) (map-drop s xs)
+
+  map-rows : (starts : List ℕ) (xs : List X) → map (λ (row : List X). map f row) (rows_between starts xs) ≡ rows_between starts (map f xs)
+  map-rows [] xs = refl
+  map-rows (s ∷ []) xs = refl
+  map-rows (s ∷ e ∷ starts) xs =
+      ap (λ (row : List Y). row ∷ map (λ (row : List X). map f row) (rows_between (e ∷ starts) xs)) (map-part xs s e)
+      ∙ ap (λ (rows : List (List Y)). slice_range (map f xs) s e ∷ rows) (map-rows (e ∷ starts) xs)
+
+pub places-links : {W : Type 0} (places : List ℕ) (walks : List W) → length walks ≡ length places → map (λ (k : Link W). k.place) (links_of places walks) ≡ places
+places-links [] walks n = refl
+places-links (p ∷ places) [] n = absurd (omega (arith, n))
+places-links (p ∷ places) (a ∷ walks) n = ap (λ (l : List ℕ). p ∷ l) (places-links places walks (omega (arith, n)))
+
+-- the heads of rows that are packed are their places
+pub heads_packed : {W : Type 0} (starts places : List ℕ) (walks : List W) → length walks ≡ length places →
+    heads_in (rows_between starts (links_of places walks)) ≡ rows_between starts places
+heads_packed {W = W} starts places walks n =
+    map-rows (λ (k : Link W). k.place) starts (links_of places walks)
+    ∙ ap (λ (l : List ℕ). rows_between starts l) (places-links places walks n)

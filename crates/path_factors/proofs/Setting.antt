@@ -1,0 +1,205 @@
+-- A link of packed rows is replaced, and all are.
+use Rattle.std.proofs.Common.{◌≡◌, ℕ, zero, suc, ◌+◌, ◌-◌, ◌<◌, ◌≤◌, inl, inr, List, [], ◌∷◌, length, take, drop, get_or, set, refl, ap, sym, ◌∙◌, subst, arith}
+use Rattle.std.specs.Prelude.{All}
+use Rattle.std.proofs.lemmas.Bool.{cases_lt}
+use Rattle.std.proofs.lemmas.List.{get_or_default, get_or-map, drop-set-lt, drop-set-add, take-set-le}
+use Rattle.std.proofs.lemmas.List.Elements.{All-nil, All-cons, All-head, All-tail, All-contains}
+use Rattle.std.proofs.Math.Seq.{take-set-lt}
+use Rattle.path_algebra.specs.Algebra.{Algebra, IsOrder}
+use Rattle.path_algebra.specs.Composition.{Composition, IsComposition}
+use Rattle.road_graph.specs.GraphData.{GraphData}
+use Rattle.path_factors.specs.declared.link.Link.{Link}
+use Rattle.path_factors.specs.declared.edge.Edge.{Edge}
+use Rattle.path_factors.specs.Factors.{ArePlaces, IsWorthOfWalk, row_of}
+use Rattle.path_factors.specs.Eliminating.{IsImproved, AreImproved, IsBegun}
+use Rattle.path_factors.specs.Edges.{LinkRows, AreBlank, AreEdgesImproved, better_walk, rising, falling}
+use Rattle.path_factors.specs.Packing.{links_of, rows_between, ArePacked, ArePackedBothWays}
+use Rattle.path_factors.specs.Heads.{AreHeads, IsHead, heads_in}
+use Rattle.path_factors.proofs.Improving.{improved_better}
+use Rattle.path_factors.proofs.Connecting.{worth_of_none}
+use Rattle.path_factors.proofs.HeadRows.{heads_row, heads_count, head_of_link}
+use Rattle.path_factors.proofs.Packing.{link_at, rows_count, row_past, row_all, row_between, row_count, row_link, row_inside, risers_of_row, fallers_of_row, row_ends, riser_at, packed_falls}
+
+module _ {W : Type 0} where
+  -- a walk is replaced
+  pub links-set : (places : List ℕ) (walks : List W) (k p : ℕ) (a : W) → length walks ≡ length places → k < length places →
+      p ≡ get_or places k p → links_of places (set walks k a) ≡ set (links_of places walks) k (record { place = p; walk = a })
+  links-set [] walks k p a n lt is = absurd (omega (arith, lt))
+  links-set (q ∷ places) [] k p a n lt is = absurd (omega (arith, n))
+  links-set (q ∷ places) (b ∷ walks) zero p a n lt is = λ i. record { place = (sym is) i; walk = a } ∷ links_of places walks
+  links-set (q ∷ places) (b ∷ walks) (suc k) p a n lt is =
+      ap (λ (l : List (Link W)). record { place = q; walk = b } ∷ l) (links-set places walks k p a (omega (arith, n)) (omega (arith, lt)) is)
+
+  -- starts rise over any distance
+  rises_over : (starts : List ℕ) (links : List (Link W)) → ArePacked starts links → (i d : ℕ) → i + d < length starts →
+      get_or starts i 0 ≤ get_or starts (i + d) 0
+  rises_over starts links packed i zero lt =
+      let e = ap (λ (j : ℕ). get_or starts j 0) (let z : i + 0 ≡ i = omega arith in z) in
+      omega (arith, e)
+  rises_over starts links packed i (suc d) lt =
+      let more : i + suc d ≡ (i + d) + 1 = omega arith in
+      let before = rises_over starts links packed i d (omega (arith, lt)) in
+      let next = packed.rising (i + d) (omega (arith, lt)) in
+      let e = ap (λ (j : ℕ). get_or starts j 0) more in
+      omega (arith, before, next, e)
+
+  pub rises_to : (starts : List ℕ) (links : List (Link W)) → ArePacked starts links → (i j : ℕ) → i ≤ j → j < length starts →
+      get_or starts i 0 ≤ get_or starts j 0
+  rises_to starts links packed i j le lt =
+      let is : i + (j - i) ≡ j = omega (arith, le) in
+      let h = rises_over starts links packed i (j - i) (omega (arith, is, lt)) in
+      let e = ap (λ (k : ℕ). get_or starts k 0) is in
+      omega (arith, h, e)
+
+  module _ (starts : List ℕ) (links : List (Link W)) (packed : ArePacked starts links) (i : ℕ) (lt : i + 1 < length starts)
+      (j : ℕ) (low : j < length (row_of (rows_between starts links) i)) (l : Link W) where
+    abbrev s : ℕ
+    s = get_or starts i 0
+
+    abbrev e : ℕ
+    e = get_or starts (i + 1) 0
+
+    abbrev after : List (Link W)
+    after = set links (s + j) l
+
+    within : j < e - s
+    within = let n = row_count starts links packed i lt in omega (arith, n, low)
+
+    pub set_row : row_of (rows_between starts after) i ≡ set (row_of (rows_between starts links) i) j l
+    set_row =
+        row_between starts after i lt
+        ∙ ap (λ (r : List (Link W)). take (e - s) r) (drop-set-add s links j l)
+        ∙ take-set-lt (e - s) (drop s links) j l within
+        ∙ ap (λ (r : List (Link W)). set r j l) (sym (row_between starts links i lt))
+
+    pub set_others : (q : ℕ) → (q ≡ i → ⊥) → row_of (rows_between starts after) q ≡ row_of (rows_between starts links) q
+    set_others q other = elim (cases_lt (q + 1) (length starts)) [
+      | inr high ↦
+          let n = rows_count starts links in
+          let m = rows_count starts after in
+          row_past (rows_between starts after) q (omega (arith, m, high)) ∙ sym (row_past (rows_between starts links) q (omega (arith, n, high)))
+      | inl inside ↦
+          let f = get_or starts q 0 in
+          let t = get_or starts (q + 1) 0 in
+          row_between starts after q inside
+          ∙ (elim (cases_lt q i) [
+            | inl before ↦
+                let le = rises_to starts links packed (q + 1) i (omega (arith, before)) (omega (arith, lt)) in
+                let up = packed.rising q inside in
+                let split : f + ((s + j) - f) ≡ s + j = omega (arith, le, up) in
+                ap (λ (k : ℕ). take (t - f) (drop f (set links k l))) (sym split)
+                ∙ ap (λ (r : List (Link W)). take (t - f) r) (drop-set-add f links ((s + j) - f) l)
+                ∙ take-set-le (t - f) (drop f links) ((s + j) - f) l (omega (arith, le, up))
+            | inr not_before ↦
+                let le = rises_to starts links packed (i + 1) q (omega (arith, not_before, other)) (omega (arith, inside)) in
+                let in_row = within in
+                ap (λ (r : List (Link W)). take (t - f) r) (drop-set-lt f links (s + j) l (omega (arith, le, in_row)))
+          ])
+          ∙ sym (row_between starts links q inside)
+    ]
+
+    pub set_count : length (rows_between starts after) ≡ length (rows_between starts links)
+    set_count = rows_count starts after ∙ sym (rows_count starts links)
+
+    -- with the better of both walks at the link
+    pub set_improved : {V : Type 0} (C : Composition V W) → IsOrder C.no_worse → (k old : Link W) →
+        old ≡ get_or links (s + j) old → old.place ≡ k.place → l ≡ record { place = k.place; walk = better_walk C old.walk k.walk } →
+        AreImproved C (rows_between starts links) i k (rows_between starts after)
+    set_improved C ordered k old is leads new =
+        let row = row_of (rows_between starts links) i in
+        let read : old ≡ get_or row j old = is ∙ sym (row_link starts links packed i lt j low old) in
+        let better = improved_better C ordered row k j old low read leads in
+        let here : row_of (rows_between starts after) i ≡ set row j (record { place = k.place; walk = better_walk C old.walk k.walk }) =
+        set_row ∙ ap (λ (q : Link W). set row j q) new in
+        record {
+          count = set_count;
+          row = subst (λ (r : List (Link W)). IsImproved C row k r) (sym here) better;
+          others = set_others;
+        }
+
+  -- the same walk at each link
+  blank_links : (places : List ℕ) (walks : List W) (none : W) → All (λ (a : W). a ≡ none) walks → All (λ (k : Link W). k.walk ≡ none) (links_of places walks)
+  blank_links [] walks none all = All-nil (λ (k : Link W). k.walk ≡ none)
+  blank_links (p ∷ places) [] none all = All-nil (λ (k : Link W). k.walk ≡ none)
+  blank_links (p ∷ places) (a ∷ walks) none all =
+      All-cons (λ (k : Link W). k.walk ≡ none) (record { place = p; walk = a }) (links_of places walks)
+      (All-head (λ (a : W). a ≡ none) a walks all)
+      (blank_links places walks none (All-tail (λ (a : W). a ≡ none) a walks all))
+
+  pub blank : (starts places : List ℕ) (walks : List W) (none : W) → All (λ (a : W). a ≡ none) walks →
+      AreBlank none (rows_between starts (links_of places walks))
+  blank starts places walks none all i k c =
+      All-contains (λ (k : Link W). k.walk ≡ none) (row_of (rows_between starts (links_of places walks)) i) k
+      (row_all (λ (k : Link W). k.walk ≡ none) starts (links_of places walks) (blank_links places walks none all) i) c
+
+-- links without walks are worth walks
+pub begun_blank : {V W : Type 0} (A : Algebra V) (C : Composition V W) → IsComposition A C → (g : GraphData) (order places : List ℕ) → ArePlaces g.vertices order places →
+    (rows : LinkRows W) → AreHeads g.vertices (heads_in rows.leaving) → heads_in rows.entering ≡ heads_in rows.leaving →
+    AreBlank C.no_walk rows.leaving → AreBlank C.no_walk rows.entering →
+    IsBegun A C g (record { order = order; places = places; leaving = rows.leaving; entering = rows.entering })
+begun_blank {W = W} A C composes g order places are rows heads same risers fallers = record {
+  ordering = are;
+  links = record {
+    leaving_count = sym (heads_count rows.leaving) ∙ heads.count;
+    entering_count = sym (heads_count rows.entering) ∙ ap length same ∙ heads.count;
+    rising = λ x y a h. heads.rising x y (head_of_link rows.leaving x (record { place = y; walk = a }) h);
+    falling = λ x y a h.
+        heads.rising y x (subst (λ (r : List (List ℕ)). IsHead r y x) same (head_of_link rows.entering y (record { place = x; walk = a }) h));
+    sound = λ x y a l. elim l [
+      | inl h ↦
+          subst (λ (w : W). IsWorthOfWalk A C g (get_or order x 0) (get_or order y 0) w) (sym (risers x (record { place = y; walk = a }) h))
+          (worth_of_none A C composes g (get_or order x 0) (get_or order y 0))
+      | inr h ↦
+          subst (λ (w : W). IsWorthOfWalk A C g (get_or order x 0) (get_or order y 0) w) (sym (fallers y (record { place = x; walk = a }) h))
+          (worth_of_none A C composes g (get_or order x 0) (get_or order y 0))
+    ];
+  };
+}
+
+-- both links of an edge are made no worse, where they are
+module _ {W : Type 0} (starts places : List ℕ) (leaving entering : List W) (packed : ArePackedBothWays starts places leaving entering)
+    (i : ℕ) (low : i < length (rows_between starts (links_of places leaving))) where
+  pub edge_improved : {V : Type 0} (C : Composition V W) → IsOrder C.no_worse → (j : ℕ) (e : Edge W) →
+      j < length (row_of (rows_between starts (links_of places leaving)) i) →
+      get_or (row_of (heads_in (rows_between starts (links_of places leaving))) i) j 0 ≡ e.place →
+      (a b : W) → a ≡ get_or leaving (get_or starts i 0 + j) a → b ≡ get_or entering (get_or starts i 0 + j) b →
+      AreEdgesImproved C (record { leaving = rows_between starts (links_of places leaving); entering = rows_between starts (links_of places entering) }) i e
+      (record {
+        leaving = rows_between starts (links_of places (set leaving (get_or starts i 0 + j) (better_walk C a e.leaving)));
+        entering = rows_between starts (links_of places (set entering (get_or starts i 0 + j) (better_walk C b e.entering)));
+      })
+  edge_improved C ordered j e index head a b is_a is_b =
+      let s = get_or starts i 0 in
+      let k = s + j in
+      let lt = row_inside starts places leaving entering packed i low in
+      let n = risers_of_row starts places leaving entering packed i low in
+      let m = fallers_of_row starts places leaving entering packed i low in
+      let le = row_ends starts places leaving entering packed i low in
+      let inside : k < length places = omega (arith, index, n, le) in
+      let index_falls : j < length (row_of (rows_between starts (links_of places entering)) i) = omega (arith, index, n, m) in
+      let falls = packed_falls starts places leaving entering packed i low in
+      let l = packed.fields.leaving_count in
+      let f = packed.fields.entering_count in
+      let P = get_or places k 0 in
+      let is_P : P ≡ get_or places k P = get_or_default places k 0 P inside in
+      let row = row_of (rows_between starts (links_of places leaving)) i in
+      let d : Link W = record { place = P; walk = a } in
+      let riser : get_or row j d ≡ d = riser_at starts places leaving entering packed i low j P a d index is_P is_a in
+      let to : P ≡ e.place =
+      sym (ap (λ (q : Link W). q.place) riser) ∙ sym (get_or-map (λ (q : Link W). q.place) row j d 0 index)
+      ∙ ap (λ (r : List ℕ). get_or r j 0) (sym (heads_row (rows_between starts (links_of places leaving)) i)) ∙ head in
+      let is_e : e.place ≡ get_or places k e.place = sym to ∙ get_or_default places k 0 e.place inside in
+      let old_a : Link W = record { place = P; walk = a } in
+      let old_b : Link W = record { place = P; walk = b } in
+      let read_a : old_a ≡ get_or (links_of places leaving) k old_a = sym (link_at places leaving k P a old_a l inside is_P is_a) in
+      let read_b : old_b ≡ get_or (links_of places entering) k old_b = sym (link_at places entering k P b old_b f inside is_P is_b) in
+      let new_a : Link W = record { place = e.place; walk = better_walk C a e.leaving } in
+      let new_b : Link W = record { place = e.place; walk = better_walk C b e.entering } in
+      let links_a = links-set places leaving k e.place (better_walk C a e.leaving) l inside is_e in
+      let links_b = links-set places entering k e.place (better_walk C b e.entering) f inside is_e in
+      let one = set_improved starts (links_of places leaving) packed.packed i lt j index new_a C ordered (rising e) old_a read_a to refl in
+      let two = set_improved starts (links_of places entering) falls i lt j index_falls new_b C ordered (falling e) old_b read_b to refl in
+      record {
+        leaving = subst (λ (q : List (Link W)). AreImproved C (rows_between starts (links_of places leaving)) i (rising e) (rows_between starts q)) (sym links_a) one;
+        entering = subst (λ (q : List (Link W)). AreImproved C (rows_between starts (links_of places entering)) i (falling e) (rows_between starts q)) (sym links_b) two;
+      }

@@ -1,0 +1,48 @@
+use Rattle.std.proofs.Common.{◌≡◌, ℕ, ◌+◌, ◌<◌, ◌∙◌, List, [], ◌∷◌, ◌++◌, length, get_or, set, ap, sym, subst, arith}
+use Rattle.std.proofs.lemmas.Grind.{common_steps}
+use Rattle.std.proofs.lemmas.List.{get_or_default, length-append}
+use Rattle.path_factors.specs.declared.chains.Item.{Item}
+use Rattle.path_factors.specs.Chains.{ChainData, HasValue, IsMore}
+use Rattle.path_factors.proofs.Listing.{pushed_has, pushed_more}
+use Rattle.path_factors.proofs.chains.Chains.push.Goals as goal
+
+pub returns-clause-has : goal.returns-clause-has
+returns-clause-has c =
+    let firsts = c.self.inside.firsts.items in
+    let items = c.self.inside.items.items in
+    let list = c.args.list in
+    let value = c.args.value in
+    let low : list < length firsts = subst (λ (d : ChainData). list < length d.firsts) (sym c.self.view_is) c.requires in
+    let next : c.index-next.result.now ≡ get_or firsts list 0 = c.index-next.ensures ∙ get_or_default firsts list c.index-next.result.now 0 low in
+    let pushed : c.push.new.self.items ≡ items ++ record { value = value; next = c.index-next.result.now } ∷ [] = grind (arith, common_steps) in
+    let all : c.push.new.self.items ≡ items ++ record { value = value; next = get_or firsts list 0 } ∷ [] =
+    pushed ∙ ap (λ (n : ℕ). items ++ record { value = value; next = n } ∷ []) next in
+    let whole : c.in-Ok.item ≡ length c.push.new.self.items = grind (arith, common_steps) in
+    let n = length-append items (record { value = value; next = get_or firsts list 0 } ∷ []) in
+    let size = ap length all in
+    let item : c.in-Ok.item ≡ length items + 1 = omega (arith, whole, size, n) in
+    let before : ChainData = record { firsts = firsts; items = items } in
+    subst (λ (l : List Item). HasValue (record { firsts = set firsts list c.in-Ok.item; items = l }) list value) (sym all)
+    (subst (λ (k : ℕ). HasValue (record { firsts = set firsts list k; items = items ++ record { value = value; next = get_or firsts list 0 } ∷ [] }) list value) (sym item)
+    (pushed_has before c.self.invariant list value low))
+
+pub returns-clause-more : goal.returns-clause-more
+returns-clause-more c = λ m small.
+    let firsts = c.self.inside.firsts.items in
+    let items = c.self.inside.items.items in
+    let list = c.args.list in
+    let value = c.args.value in
+    let low : list < length firsts = subst (λ (d : ChainData). list < length d.firsts) (sym c.self.view_is) c.requires in
+    let next : c.index-next.result.now ≡ get_or firsts list 0 = c.index-next.ensures ∙ get_or_default firsts list c.index-next.result.now 0 low in
+    let pushed : c.push.new.self.items ≡ items ++ record { value = value; next = c.index-next.result.now } ∷ [] = grind (arith, common_steps) in
+    let all : c.push.new.self.items ≡ items ++ record { value = value; next = get_or firsts list 0 } ∷ [] =
+    pushed ∙ ap (λ (n : ℕ). items ++ record { value = value; next = n } ∷ []) next in
+    let whole : c.in-Ok.item ≡ length c.push.new.self.items = grind (arith, common_steps) in
+    let n = length-append items (record { value = value; next = get_or firsts list 0 } ∷ []) in
+    let size = ap length all in
+    let item : c.in-Ok.item ≡ length items + 1 = omega (arith, whole, size, n) in
+    let before : ChainData = record { firsts = firsts; items = items } in
+    subst (λ (d : ChainData). IsMore m d (record { firsts = set firsts list c.in-Ok.item; items = c.push.new.self.items })) c.self.view_is
+    (subst (λ (l : List Item). IsMore m before (record { firsts = set firsts list c.in-Ok.item; items = l })) (sym all)
+    (subst (λ (k : ℕ). IsMore m before (record { firsts = set firsts list k; items = items ++ record { value = value; next = get_or firsts list 0 } ∷ [] })) (sym item)
+    (pushed_more before c.self.invariant list value low m small)))

@@ -1,9 +1,0 @@
-use Rattle.path_factors.specs.State.{IsSameState}
-use Rattle.path_factors.proofs.Loading.{LoadedTo}
-use Rattle.path_factors.proofs.elimination.Elimination.load.Given as goal
-
-abbrev pub invariant-loop-i : goal.invariant-loop-i
-invariant-loop-i g l = record {
-  same : IsSameState l.fn.self l.self;
-  loaded : LoadedTo (g.A.ComposingAlgebra.walks l.fn.self.algebra) l.fn.self.roads l.fn.self.factor l.self.factor l.i;
-}

@@ -1,0 +1,32 @@
+use Rattle.std.proofs.Common.{◌≡◌, ◌∙◌, length, ap, arith, sym, subst}
+use Rattle.path_factors.specs.Edges.{LinkRows}
+use Rattle.path_factors.specs.Heads.{heads_in}
+use Rattle.path_factors.specs.Packing.{links_of}
+use Rattle.path_factors.proofs.Packing.{rows_count}
+use Rattle.path_factors.proofs.HeadRows.{heads_packed}
+use Rattle.path_factors.proofs.packed.PackedRows.len.Goals as goal
+
+pub overflow_sub-result : goal.overflow_sub-result
+overflow_sub-result g c = let some = c.self.invariant.packed.some in omega (arith, some, c.len.ensures)
+
+pub returns-clause-count : goal.returns-clause-count
+returns-clause-count g c =
+    let s = c.self.inside in
+    let n = rows_count s.starts.items (links_of s.places.items s.leaving.items) in
+    let m = ap (λ (l : LinkRows g.row.W.Denot). length l.leaving) c.self.view_is in
+    omega (arith, n, m, c.len.ensures)
+
+pub returns-clause-entering : goal.returns-clause-entering
+returns-clause-entering g c =
+    let s = c.self.inside in
+    let n = rows_count s.starts.items (links_of s.places.items s.entering.items) in
+    let m = ap (λ (l : LinkRows g.row.W.Denot). length l.entering) c.self.view_is in
+    omega (arith, n, m, c.len.ensures)
+
+pub returns-clause-heads : goal.returns-clause-heads
+returns-clause-heads g c =
+    let s = c.self.inside in
+    let f = c.self.invariant.fields in
+    subst (λ (l : LinkRows g.row.W.Denot). heads_in l.entering ≡ heads_in l.leaving) c.self.view_is
+    (heads_packed s.starts.items s.places.items s.entering.items f.entering_count
+    ∙ sym (heads_packed s.starts.items s.places.items s.leaving.items f.leaving_count))

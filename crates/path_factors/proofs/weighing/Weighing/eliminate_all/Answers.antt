@@ -1,0 +1,29 @@
+use Rattle.std.proofs.Common.{◌≡◌, ◌+◌, ◌∙◌, arith, subst}
+use Rattle.path_factors.specs.Factors.{IsClosedAt}
+use Rattle.path_factors.specs.Eliminating.{Improves}
+use Rattle.path_factors.proofs.Eliminating.{eliminated_to_more}
+use Rattle.path_factors.proofs.weighing.Weighing.eliminate_all.Goals as goal
+
+pub loop-v-preserved : goal.loop-v-preserved
+loop-v-preserved g c =
+    let C = g.A.ComposingAlgebra.walks c.args.self.now.algebra in
+    let k = c.loop-v.v in
+    let F = c.args.self.now.factor in
+    let G = c.loop-v.self.factor in
+    let H = c.eliminate.new.self.factor in
+    let alg = c.loop-v.invariant.same.algebra in
+    let improves = subst (λ a. Improves (g.A.ComposingAlgebra.walks a) (k + 1) G H) alg c.eliminate.ensures.improves in
+    let closed = subst (λ a. IsClosedAt (g.A.ComposingAlgebra.walks a) H k) alg c.eliminate.ensures.closed in
+    record {
+      same = record {
+        algebra = c.eliminate.ensures.same.algebra ∙ alg;
+        roads = c.eliminate.ensures.same.roads ∙ c.loop-v.invariant.same.roads;
+        heads = c.eliminate.ensures.same.heads ∙ c.loop-v.invariant.same.heads;
+      };
+      eliminated = eliminated_to_more C c.holds.ensures.composes.ordered F G H k c.loop-v.invariant.eliminated improves closed;
+    }
+
+pub returns-clause-closed : goal.returns-clause-closed
+returns-clause-closed g c = λ v low.
+    let n : c.self.inside.graph.now.vertices ≡ c.args.self.now.roads.vertices = λ i. (c.self.view_is i).roads.vertices in
+    c.loop-v.invariant.eliminated.closed v (omega (arith, low, n, c.loop-v-test.false, c.vertices-v-end.ensures.count))

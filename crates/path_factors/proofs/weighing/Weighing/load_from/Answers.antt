@@ -1,0 +1,69 @@
+use Rattle.std.proofs.Common.{◌≡◌, ◌∙◌, List, ℕ, sym, subst}
+use Rattle.road_graph.specs.GraphData.{ListsRoadsFrom, HasVertex}
+use Rattle.path_factors.specs.Factors.{LeadsNoWorse, IsWorthOfWalk, place_of}
+use Rattle.path_factors.specs.Eliminating.{Improves}
+use Rattle.path_factors.specs.Heads.{IsHead, IsJoined, heads_in}
+use Rattle.path_factors.specs.State.{FactorState}
+use Rattle.path_factors.proofs.Loading.{loaded_more, loaded_all, road_inside, road_worth}
+use Rattle.path_factors.proofs.Joining.{at, road_joined}
+use Rattle.path_factors.proofs.weighing.Weighing.load_from.Goals as goal
+
+pub loop-road-preserved : goal.loop-road-preserved
+loop-road-preserved g c =
+    let C = g.A.ComposingAlgebra.walks c.args.self.now.algebra in
+    let F = c.args.self.now.factor in
+    let G = c.loop-road.self.factor in
+    let H = c.add.new.self.factor in
+    let tail = c.args.tail in
+    let road = c.road-item.result in
+    let alg = c.loop-road.invariant.same.algebra in
+    let improves = subst (λ a. Improves (g.A.ComposingAlgebra.walks a) 0 G H) alg c.add.ensures.improves in
+    let leads = subst (λ a. (tail ≡ road.head → ⊥) → LeadsNoWorse (g.A.ComposingAlgebra.walks a) H (place_of G tail) (place_of G road.head) ((g.A.ComposingAlgebra.walks a).of_arc road.weight)) alg c.add.ensures.leads in
+    record {
+      same = record {
+        algebra = c.add.ensures.same.algebra ∙ alg;
+        roads = c.add.ensures.same.roads ∙ c.loop-road.invariant.same.roads;
+        heads = c.add.ensures.same.heads ∙ c.loop-road.invariant.same.heads;
+      };
+      loaded = loaded_more C c.holds.ensures.composes.ordered tail c.roads_from-road-items.result.now F G H c.loop-road.road-index road c.loop-road.invariant.loaded
+          c.loop-road-test.true c.road-item.is improves leads;
+    }
+
+pub returns-clause-covers : goal.returns-clause-covers
+returns-clause-covers g c = λ a has from other.
+    let items = c.roads_from-road-items.result.now in
+    let lists = subst (λ (s : FactorState g.row.A.Denot g.row.A-Walk.Denot). ListsRoadsFrom s.roads c.args.tail items) c.self.view_is c.roads_from-road-items.ensures in
+    loaded_all (g.A.ComposingAlgebra.walks c.args.self.now.algebra) c.holds.ensures.composes.ordered c.args.self.now.roads c.args.tail items lists
+    c.args.self.now.factor c.loop-road.self.factor c.loop-road.road-index c.loop-road.invariant.loaded c.loop-road-test.false a has from other
+
+pub add-requires-clause-head : goal.add-requires-clause-head
+add-requires-clause-head g c κs within =
+    let items = c.roads_from-road-items.result.now in
+    let lists = subst (λ (s : FactorState g.row.A.Denot g.row.A-Walk.Denot). ListsRoadsFrom s.roads c.args.tail items) c.self.view_is c.roads_from-road-items.ensures in
+    subst (λ r. HasVertex r c.road-item.result.head) (sym c.loop-road.invariant.same.roads)
+    (road_inside c.args.self.now.roads c.holds.ensures.roads c.args.tail items lists c.loop-road.road-index c.road-item.result c.loop-road-test.true c.road-item.is)
+
+pub add-requires-clause-worth : goal.add-requires-clause-worth
+add-requires-clause-worth g c κs within =
+    let A = g.A.PathAlgebra.meaning c.args.self.now.algebra in
+    let C = g.A.ComposingAlgebra.walks c.args.self.now.algebra in
+    let items = c.roads_from-road-items.result.now in
+    let road = c.road-item.result in
+    let lists = subst (λ (s : FactorState g.row.A.Denot g.row.A-Walk.Denot). ListsRoadsFrom s.roads c.args.tail items) c.self.view_is c.roads_from-road-items.ensures in
+    let worth = road_worth A C c.holds.ensures.composes c.args.self.now.roads c.holds.ensures.roads c.args.tail items lists c.loop-road.road-index road c.loop-road-test.true c.road-item.is in
+    let here = subst (λ r. IsWorthOfWalk A C r c.args.tail road.head (C.of_arc road.weight)) (sym c.loop-road.invariant.same.roads) worth in
+    subst (λ a. IsWorthOfWalk (g.A.PathAlgebra.meaning a) (g.A.ComposingAlgebra.walks a) c.loop-road.self.roads c.args.tail road.head ((g.A.ComposingAlgebra.walks a).of_arc road.weight))
+    (sym c.loop-road.invariant.same.algebra) here
+
+pub add-requires-clause-joined : goal.add-requires-clause-joined
+add-requires-clause-joined g c κs within =
+    let F = c.args.self.now.factor in
+    let G = c.loop-road.self.factor in
+    let tail = c.args.tail in
+    let road = c.road-item.result in
+    let items = c.roads_from-road-items.result.now in
+    let lists = subst (λ (s : FactorState g.row.A.Denot g.row.A-Walk.Denot). ListsRoadsFrom s.roads c.args.tail items) c.self.view_is c.roads_from-road-items.ensures in
+    let joined = road_joined (IsHead (heads_in F.leaving)) F.places c.args.self.now.roads tail items lists
+    (λ a has from. c.holds.ensures.outline.joined a has) c.loop-road.road-index road c.loop-road-test.true c.road-item.is in
+    subst (λ h. IsJoined (IsHead h) (place_of G tail) (place_of G road.head)) (sym c.loop-road.invariant.same.heads)
+    (subst (λ (p : List ℕ). IsJoined (IsHead (heads_in F.leaving)) (at p tail) (at p road.head)) (sym c.loop-road.invariant.loaded.improves.places) joined)

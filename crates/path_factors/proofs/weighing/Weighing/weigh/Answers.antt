@@ -1,0 +1,28 @@
+use Rattle.std.proofs.Common.{◌∙◌, sym, subst}
+use Rattle.path_algebra.specs.Algebra.{IsOrder}
+use Rattle.path_factors.specs.Factors.{CoversArcs}
+use Rattle.path_factors.specs.Eliminating.{AreClosedTo}
+use Rattle.path_factors.proofs.Loading.{still_covers}
+use Rattle.path_factors.proofs.weighing.Weighing.weigh.Goals as goal
+
+pub into_factors-requires-clause-covers : goal.into_factors-requires-clause-covers
+into_factors-requires-clause-covers g c κs within =
+    let opened = c.open-weighing.result in
+    let loaded = c.load.new.self in
+    let done = c.eliminate_all.new.self in
+    let load = c.load.ensures in
+    let all = c.eliminate_all.ensures in
+    let ordered = subst (λ a. IsOrder (g.A.ComposingAlgebra.walks a).no_worse) (sym (load.same.algebra ∙ c.open-weighing.ensures.algebra)) c.composition_holds.ensures.ordered in
+    let roads = subst (λ r. CoversArcs (g.A.ComposingAlgebra.walks opened.algebra) r loaded.factor) (sym load.same.roads) load.covers in
+    let covers = subst (λ a. CoversArcs (g.A.ComposingAlgebra.walks a) loaded.roads loaded.factor) (sym load.same.algebra) roads in
+    let kept = still_covers (g.A.ComposingAlgebra.walks loaded.algebra) ordered loaded.roads loaded.factor done.factor all.improves covers in
+    let roads_now = subst (λ r. CoversArcs (g.A.ComposingAlgebra.walks loaded.algebra) r done.factor) (sym all.same.roads) kept in
+    subst (λ a. CoversArcs (g.A.ComposingAlgebra.walks a) done.roads done.factor) (sym all.same.algebra) roads_now
+
+pub into_factors-requires-clause-closed : goal.into_factors-requires-clause-closed
+into_factors-requires-clause-closed g c κs within =
+    let loaded = c.load.new.self in
+    let done = c.eliminate_all.new.self in
+    let all = c.eliminate_all.ensures in
+    let roads_now = subst (λ r. AreClosedTo (g.A.ComposingAlgebra.walks loaded.algebra) done.factor r.vertices) (sym all.same.roads) all.closed in
+    subst (λ a. AreClosedTo (g.A.ComposingAlgebra.walks a) done.factor done.roads.vertices) (sym all.same.algebra) roads_now

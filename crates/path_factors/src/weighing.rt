@@ -1,0 +1,213 @@
+//! Walks are put at the links of an outline: what makes a factor of a graph.
+ghost use Rattle.std.specs.Prelude.{◌≡◌, ℕ, ◌+◌, ◌<◌, ◌≤◌, length, slice_index};
+ghost use Rattle.road_graph.specs.GraphData.{IsGraph};
+ghost use Rattle.path_algebra.specs.Composition.{IsComposition};
+ghost use Rattle.path_factors.specs.declared.edge.Edge.{Edge};
+ghost use Rattle.path_factors.specs.Factors.{row_of, IsClosedAt, LeadsNoWorse, IsWorthOfWalk, vertex_at};
+ghost use Rattle.path_factors.specs.Edges.{AreAligned, IsEdgeAt, AreJoined};
+ghost use Rattle.path_factors.specs.Eliminating.{IsBegun, Improves, AreClosedTo};
+ghost use Rattle.path_factors.specs.Heads.{IsHead, IsJoined, IsOutline, heads_in};
+ghost use Rattle.path_factors.specs.State.{IsSameState};
+
+use crate::edge::Edge;
+use crate::heads::{position, seek};
+use crate::packed::PackedRows;
+use path_algebra::{ComposingAlgebra, composition_holds};
+use road_graph::{OutGraph, Vertex};
+use std::marker::Model;
+use std::snapshot::Snapshot;
+
+/// A factor in the making, with an edge wherever elimination needs one: its links are worth walks of the graph, and are
+/// closed at the places that are eliminated.
+#[derive(Drop)]
+pub(crate) struct Weighing<'g, A: ComposingAlgebra> {
+    pub(crate) algebra: A,
+    pub(crate) graph: &'g OutGraph,
+    pub(crate) order: Snapshot<Vec<Vertex>>,
+    pub(crate) places: Vec<u32>,
+    pub(crate) rows: PackedRows<A::Walk>,
+}
+
+impl<'g, A: ComposingAlgebra> Model for Weighing<'g, A> {
+    ghost use Rattle.path_factors.specs.Eliminating.{IsBegun};
+    ghost use Rattle.path_factors.specs.Heads.{IsOutline, heads_in};
+    ghost use Rattle.path_factors.specs.State.{FactorState};
+
+    ghost Value = { FactorState A A.Walk };
+
+    ghost view = { λ f. record { algebra = f.algebra; roads = f.graph.now; factor = record { order = f.order.value.items; places = f.places.items; leaving = f.rows.leaving; entering = f.rows.entering } } };
+
+    ghost invariant = { λ f.
+        IsBegun (A.meaning f.algebra) (A.walks f.algebra) f.graph.now (record { order = f.order.value.items; places = f.places.items; leaving = f.rows.leaving; entering = f.rows.entering })
+        × IsOutline f.graph.now f.places.items (heads_in f.rows.leaving) };
+}
+
+impl<'g, A: ComposingAlgebra> Weighing<'g, A> {
+    /// Makes both links of an edge of a place no worse than these walks; `j` is its index.
+    fn improve(&mut self, x: usize, j: usize, edge: Edge<A::Walk>)
+        requires from { x < self.old.roads.vertices }
+        requires index { j < length (row_of (heads_in self.old.factor.leaving) x) }
+        requires head { slice_index (row_of (heads_in self.old.factor.leaving) x) j ≡ edge.place }
+        requires leaving { IsWorthOfWalk (A.meaning self.old.algebra) (A.walks self.old.algebra)
+            self.old.roads (vertex_at self.old.factor x) (vertex_at self.old.factor edge.place) edge.leaving }
+        requires entering { IsWorthOfWalk (A.meaning self.old.algebra) (A.walks self.old.algebra)
+            self.old.roads (vertex_at self.old.factor edge.place) (vertex_at self.old.factor x) edge.entering }
+        ensures same { IsSameState self.old self.new }
+        ensures improves { (low : ℕ) → low ≤ x →
+            Improves (A.walks self.old.algebra) low self.old.factor self.new.factor }
+        ensures leaving { LeadsNoWorse (A.walks self.old.algebra) self.new.factor x
+            edge.place edge.leaving }
+        ensures entering { LeadsNoWorse (A.walks self.old.algebra) self.new.factor
+            edge.place x edge.entering }
+    {
+        let algebra = self.algebra;
+        composition_holds(algebra);
+        self.rows.improve(algebra, x, j, edge);
+    }
+
+    /// Makes the links from one place to another and back no worse than these walks. From a place to itself none is
+    /// needed.
+    pub(crate) fn connect(&mut self, x: u32, y: u32, there: A::Walk, back: A::Walk)
+        requires from { x < self.old.roads.vertices }
+        requires to { y < self.old.roads.vertices }
+        requires joined { IsJoined (IsHead (heads_in self.old.factor.leaving)) x y }
+        requires there { IsWorthOfWalk (A.meaning self.old.algebra) (A.walks self.old.algebra)
+            self.old.roads (vertex_at self.old.factor x) (vertex_at self.old.factor y) there }
+        requires back { IsWorthOfWalk (A.meaning self.old.algebra) (A.walks self.old.algebra)
+            self.old.roads (vertex_at self.old.factor y) (vertex_at self.old.factor x) back }
+        ensures same { IsSameState self.old self.new }
+        ensures improves { Improves (A.walks self.old.algebra) 0 self.old.factor
+            self.new.factor }
+        ensures there { (x ≡ y → ⊥) →
+            LeadsNoWorse (A.walks self.old.algebra) self.new.factor x y there }
+    {
+        self.holds();
+        if x < y {
+            let edge = Edge {
+                place: y,
+                leaving: there,
+                entering: back,
+            };
+            let j = position(self.rows.heads(x as usize), y);
+            self.improve(x as usize, j, edge);
+        } else if y < x {
+            let edge = Edge {
+                place: x,
+                leaving: back,
+                entering: there,
+            };
+            let j = position(self.rows.heads(y as usize), x);
+            self.improve(y as usize, j, edge);
+        }
+    }
+
+    /// What holds of every weighing. Nothing is computed.
+    pub(crate) fn holds(&self)
+        ensures begun { IsBegun (A.meaning self.now.algebra) (A.walks self.now.algebra)
+            self.now.roads self.now.factor }
+        ensures outline { IsOutline self.now.roads self.now.factor.places
+            (heads_in self.now.factor.leaving) }
+        ensures roads { IsGraph self.now.roads }
+        ensures composes { IsComposition (A.meaning self.now.algebra) (A.walks self.now.algebra) }
+        ensures aligned { AreAligned self.now.factor.leaving self.now.factor.entering }
+    {
+        composition_holds(self.algebra);
+        self.graph.holds();
+        let _ = self.rows.len();
+    }
+
+    /// How many edges a place has.
+    fn count(&self, v: usize) -> usize
+        requires { v < self.now.roads.vertices }
+        ensures { result ≡ length (row_of self.now.factor.leaving v) }
+    {
+        self.rows.count(v)
+    }
+
+    /// One of the edges of a place.
+    fn edge(&self, v: usize, j: usize) -> Edge<A::Walk>
+        requires place { v < self.now.roads.vertices }
+        requires edge { j < length (row_of self.now.factor.leaving v) }
+        ensures { IsEdgeAt self.now.factor v j result }
+    {
+        self.holds();
+        let riser = self.rows.riser(v, j);
+        let faller = self.rows.faller(v, j);
+        Edge {
+            place: riser.place,
+            leaving: riser.walk,
+            entering: faller.walk,
+        }
+    }
+
+    /// Joins two edges that meet at a place, both ways; `q` is the index of the edge between their places.
+    fn join(&mut self, v: usize, e: Edge<A::Walk>, f: Edge<A::Walk>, q: usize)
+        requires first { (j : ℕ) × IsEdgeAt self.old.factor v j e }
+        requires second { (j : ℕ) × IsEdgeAt self.old.factor v j f }
+        requires index { q < length (row_of (heads_in self.old.factor.leaving) e.place) }
+        requires head { slice_index (row_of (heads_in self.old.factor.leaving) e.place) q ≡ f.place }
+        ensures same { IsSameState self.old self.new }
+        ensures improves { Improves (A.walks self.old.algebra) (v + 1) self.old.factor
+            self.new.factor }
+        ensures joined { AreJoined (A.walks self.old.algebra) self.new.factor e f }
+    {
+        self.holds();
+        let there = self.algebra.compose(e.entering, f.leaving);
+        let back = self.algebra.compose(f.entering, e.leaving);
+        let edge = Edge {
+            place: f.place,
+            leaving: there,
+            entering: back,
+        };
+        self.improve(e.place as usize, q, edge);
+    }
+
+    /// Joins an edge of a place with each one after it.
+    fn pass(&mut self, v: usize, i: usize)
+        requires place { v < self.old.roads.vertices }
+        requires edge { i < length (row_of self.old.factor.leaving v) }
+        ensures same { IsSameState self.old self.new }
+        ensures improves { Improves (A.walks self.old.algebra) (v + 1) self.old.factor
+            self.new.factor }
+        ensures joined { (j : ℕ) (e f : Edge A.Walk) → i < j → IsEdgeAt self.old.factor v i e →
+            IsEdgeAt self.old.factor v j f → AreJoined (A.walks self.old.algebra) self.new.factor e f }
+    {
+        self.holds();
+        let first = self.edge(v, i);
+        let count = self.count(v);
+        let mut q = 0;
+        for j in i + 1..count {
+            let second = self.edge(v, j);
+            q = seek(self.rows.heads(first.place as usize), q, second.place);
+            self.join(v, first, second, q);
+        }
+    }
+
+    /// Eliminates a place: joins each two of its edges.
+    fn eliminate(&mut self, v: usize)
+        requires { v < self.old.roads.vertices }
+        ensures same { IsSameState self.old self.new }
+        ensures improves { Improves (A.walks self.old.algebra) (v + 1) self.old.factor
+            self.new.factor }
+        ensures closed { IsClosedAt (A.walks self.old.algebra) self.new.factor v }
+    {
+        self.holds();
+        for i in 0..self.count(v) {
+            self.pass(v, i);
+        }
+    }
+
+    /// Eliminates each place, in ascending order.
+    pub(crate) fn eliminate_all(&mut self)
+        ensures same { IsSameState self.old self.new }
+        ensures improves { Improves (A.walks self.old.algebra) 0 self.old.factor
+            self.new.factor }
+        ensures closed { AreClosedTo (A.walks self.old.algebra) self.new.factor
+            self.old.roads.vertices }
+    {
+        self.holds();
+        for v in 0..self.graph.vertices() as usize {
+            self.eliminate(v);
+        }
+    }
+}

@@ -42,27 +42,27 @@ module _ {V : Type 0} (A : Algebra V) (lawful : IsLawful A) (g : GraphData) (s t
       before LesserParent lt h = h
       before HasWalk lt h = h
 
-  module _ (code hops : ℕ) (route : List ℕ) (code_is : IsBestCode A g (s ∷ []) t code) (hops_are : AreHops A g (s ∷ []) t hops) (route_is : IsRouteBetween A g s t route) where
-    refused : (f : FoundData) (r : Reason) → IsOther code hops route f r → IsPairRefused A g s t (Some f) r
-    refused f NotBest h = λ k. h (code_once A lawful g (s ∷ []) t f.code code k code_is)
-    refused f OtherHops h = λ k. h (hops_once A lawful g (s ∷ []) t f.hops hops k hops_are)
-    refused f OtherRoute h = λ k. h (route_once A lawful g s t f.route route k route_is)
+  module _ (right : FoundData) (is : IsFoundBetween A g s t right) where
+    refused : (f : FoundData) (r : Reason) → IsOther right f r → IsPairRefused A g s t (Some f) r
+    refused f NotBest h = λ k. h (code_once A lawful g (s ∷ []) t f.code right.code k is.code)
+    refused f OtherHops h = λ k. h (hops_once A lawful g (s ∷ []) t f.hops right.hops k is.hops)
+    refused f OtherRoute h = λ k. h (route_once A lawful g s t f.route right.route k is.route)
     refused f Mismatch h = h
     refused f NoParent h = h
     refused f LesserParent h = h
     refused f HasWalk h = h
 
-    other : (f : FoundData) (r : Reason) → IsPairRefused A g s t (Some f) r → IsOther code hops route f r
-    other f NotBest h = λ e. h (subst (IsBestCode A g (s ∷ []) t) (sym e) code_is)
-    other f OtherHops h = λ e. h (subst (AreHops A g (s ∷ []) t) (sym e) hops_are)
-    other f OtherRoute h = λ e. h (subst (IsRouteBetween A g s t) (sym e) route_is)
+    other : (f : FoundData) (r : Reason) → IsPairRefused A g s t (Some f) r → IsOther right f r
+    other f NotBest h = λ e. h (subst (IsBestCode A g (s ∷ []) t) (sym e) is.code)
+    other f OtherHops h = λ e. h (subst (AreHops A g (s ∷ []) t) (sym e) is.hops)
+    other f OtherRoute h = λ e. h (subst (IsRouteBetween A g s t) (sym e) is.route)
     other f Mismatch h = h
     other f NoParent h = h
     other f LesserParent h = h
     other f HasWalk h = h
 
     -- the first difference is the first reason
-    pub pair_judged : (f : FoundData) (o : Option Reason) → IsFirstReason (f ≡ record { code = code; hops = hops; route = route }) (IsOther code hops route f) o →
+    pub pair_judged : (f : FoundData) (o : Option Reason) → IsFirstReason (f ≡ right) (IsOther right f) o →
         IsFirstReason (IsPairAnswer A g s t (Some f)) (IsPairRefused A g s t (Some f)) o
-    pair_judged f None e = subst (λ (q : FoundData). IsFoundBetween A g s t q) (sym e) (record { code = code_is; hops = hops_are; route = route_is })
+    pair_judged f None e = subst (λ (q : FoundData). IsFoundBetween A g s t q) (sym e) is
     pair_judged f (Some r) h = (refused f r h.0, λ q lt k. h.1 q lt (other f q k))

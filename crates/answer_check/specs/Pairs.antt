@@ -1,5 +1,5 @@
 -- How the answer to a pair differs from the right code, hops and route, and which answers have yet to be judged.
-use Rattle.std.specs.Prelude.{◌≡◌, ◌≢◌, ℕ, ◌<◌, ◌≤◌, List, Bool, true, false, ⊤, Some, slice_get}
+use Rattle.std.specs.Prelude.{◌≡◌, ◌≢◌, ℕ, ◌<◌, ◌≤◌, Bool, true, false, ⊤, Some, slice_get}
 use Rattle.road_graph.specs.GraphData.{GraphData}
 use Rattle.path_algebra.specs.Algebra.{Algebra}
 use Rattle.road_files.specs.Asked.{Question, Asked}
@@ -9,11 +9,11 @@ use Rattle.answer_check.specs.declared.verdict.Reason.{Reason}
 use Rattle.answer_check.specs.declared.verdict.Reason.TheVariants.{NotBest, OtherHops, OtherRoute}
 
 -- code, hops or route are not the right ones
-abbrev pub IsOther : ℕ → ℕ → List ℕ → FoundData → Reason → Type 0
-IsOther code hops route f NotBest = f.code ≢ code
-IsOther code hops route f OtherHops = f.hops ≢ hops
-IsOther code hops route f OtherRoute = f.route ≢ route
-IsOther code hops route f _ = ⊥
+abbrev pub IsOther : FoundData → FoundData → Reason → Type 0
+IsOther right f NotBest = f.code ≢ right.code
+IsOther right f OtherHops = f.hops ≢ right.hops
+IsOther right f OtherRoute = f.route ≢ right.route
+IsOther right f _ = ⊥
 
 -- whether the answer to question i has yet to be judged: if not, it is right
 abbrev pub TellsSuspect : {V : Type 0} → Algebra V → GraphData → Asked → AnswerList → ℕ → Bool → Type 0

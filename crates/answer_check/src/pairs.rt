@@ -9,25 +9,21 @@ ghost use Rattle.answer_text.specs.IsAnswer.{IsPairAnswer};
 ghost use Rattle.answer_check.specs.Pairs.{IsOther};
 
 use crate::verdict::Reason;
-use answer_text::Found;
 use path_algebra::{PathAlgebra, laws_hold};
 use road_files::are_same;
 use road_graph::{InGraph, Memory, OutGraph, Vertex};
-use route_tree::{PairSearcher, routes_follow_parents};
+use route_tree::{Found, PairSearcher};
 
-/// The first way in which an answer differs from the right code, hops and route.
-fn difference(code: u64, hops: u32, list: &[Vertex], found: &Found) -> Option<Reason>
-    ensures { IsFirstReason (found_of found.now ≡ record {
-      code = code;
-      hops = hops;
-      route = list.now;
-    }) (IsOther code hops list.now (found_of found.now)) result }
+/// The first way in which what is told of a pair differs from what is right.
+fn difference(right: &Found, found: &Found) -> Option<Reason>
+    ensures { IsFirstReason (found_of found.now ≡ found_of right.now)
+        (IsOther (found_of right.now) (found_of found.now)) result }
 {
-    if found.code != code {
+    if found.code != right.code {
         Some(Reason::NotBest)
-    } else if found.hops != hops {
+    } else if found.hops != right.hops {
         Some(Reason::OtherHops)
-    } else if !are_same(list, found.route.as_slice()) {
+    } else if !are_same(right.route.as_slice(), found.route.as_slice()) {
         Some(Reason::OtherRoute)
     } else {
         None
@@ -54,22 +50,16 @@ pub(crate) fn reason_of_pair<A: PathAlgebra>(
 {
     let algebra = searcher.algebra();
     laws_hold(algebra);
-    routes_follow_parents(algebra);
-    graph.holds();
-    let (value, route) = searcher.solve(graph, rows, pair)?;
+    let right = searcher.solve(graph, rows, pair)?;
     let Some(found) = found else {
-        return Ok(if value.is_some() {
+        return Ok(if right.is_some() {
             Some(Reason::HasWalk)
         } else {
             None
         });
     };
-    let Some(value) = value else {
-        return Ok(Some(Reason::NotBest));
-    };
-    let Some(right) = route else {
-        return Ok(Some(Reason::NotBest));
-    };
-    let list = right.vertices.as_slice();
-    Ok(difference(algebra.code(value), right.hops, list, found))
+    match right {
+        Some(right) => Ok(difference(&right, found)),
+        None => Ok(Some(Reason::NotBest)),
+    }
 }

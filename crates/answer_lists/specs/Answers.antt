@@ -1,10 +1,9 @@
 -- What a status means, and what is written with it.
-use Rattle.std.specs.Prelude.{◌≡◌, ℕ, ◌+◌, ◌⊎◌, [], ◌∷◌, List, ℤ, pos, length, take, Option, MatchOption}
+use Rattle.std.specs.Prelude.{◌≡◌, ℕ, ◌+◌, ◌⊎◌, [], ◌∷◌, List, ℤ, pos, length, take}
 use Rattle.road_graph.specs.GraphData.{GraphData, HasVertex}
 use Rattle.path_algebra.specs.Algebra.{Algebra}
 use Rattle.path_algebra.specs.Walks.{IsBestCode, AreHops, IsUnreached}
-use Rattle.route_tree.specs.Told.{IsParentRoute}
-use Rattle.route_tree.specs.declared.routes.PairRoute.{PairRoute}
+use Rattle.route_tree.specs.Found.{IsRouteBetween}
 
 -- the status is one of these
 abbrev pub IsOneOf : List ℕ → ℤ → Type 0
@@ -27,25 +26,9 @@ IsFound status = (status ≡ pos 0) ⊎ (status ≡ pos 2)
 abbrev pub IsAnswered : ℤ → Type 0
 IsAnswered status = IsFound status ⊎ (status ≡ pos 1)
 
--- no walk from the source to the target has a value
-pub record IsNoRoute {V : Type 0} (A : Algebra V) (g : GraphData) (source target : ℕ) : Type 0 where
-  pub unreached : IsUnreached A g (source ∷ []) target
-
--- the code of the best value from a source to a target, the least hops, and the route by least parents, of that length
-pub record IsRouteFound {V : Type 0} (A : Algebra V) (g : GraphData) (source target code hops : ℕ) (route : List ℕ) : Type 0 where
-  pub best : IsBestCode A g (source ∷ []) target code
-  pub near : AreHops A g (source ∷ []) target hops
-  pub parents : IsParentRoute A g (source ∷ []) target route
-  pub count : length route ≡ hops + 1
-
--- what was found of a pair: the best code and the route, or that there is none
-abbrev pub IsPairFound : {V : Type 0} → Algebra V → GraphData → ℕ → ℕ → Option (ℕ × PairRoute) → Type 0
-IsPairFound A g source target found = MatchOption found (IsNoRoute A g source target)
-    (λ r. IsRouteFound A g source target r.0 r.1.hops r.1.vertices.items)
-
 -- what the status of a route means, and what the places of the caller contain
 pub record ReportsRoute {V : Type 0} (A : Algebra V) (g : GraphData) (source target : ℕ) (status : ℤ) (code hops : ℕ) (room : List ℕ) : Type 0 where
   pub best : IsFound status → IsBestCode A g (source ∷ []) target code
   pub near : IsFound status → AreHops A g (source ∷ []) target hops
-  pub route : status ≡ pos 0 → IsParentRoute A g (source ∷ []) target (take (hops + 1) room)
-  pub none : status ≡ pos 1 → IsNoRoute A g source target
+  pub route : status ≡ pos 0 → IsRouteBetween A g source target (take (hops + 1) room)
+  pub none : status ≡ pos 1 → IsUnreached A g (source ∷ []) target

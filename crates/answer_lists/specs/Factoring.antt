@@ -17,3 +17,10 @@ pub record IsTooHeavy {V : Type 0} (A : Algebra V) (g : GraphData) : Type 0 wher
   pub cost : Cost
   pub carried : IsCarried A (cost_of cost)
   pub heavy : (k : ℕ) → CountsFit g (cost_of cost) k → ⊥
+
+-- the values of A are sums of costs, and some number of low bits for the hops leaves room for the sums of this graph
+pub record HasRoom {V : Type 0} (A : Algebra V) (g : GraphData) : Type 0 where
+  pub cost : Cost
+  pub carried : IsCarried A (cost_of cost)
+  pub bits : ℕ
+  pub fits : CountsFit g (cost_of cost) bits

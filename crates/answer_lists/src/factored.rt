@@ -7,7 +7,7 @@ ghost use Rattle.path_algebra.specs.Carried.{IsCarried};
 ghost use Rattle.path_algebra.specs.Counted.{cost_of};
 ghost use Rattle.path_algebra.specs.Walks.{AreBest};
 ghost use Rattle.route_tree.specs.Tree.{IsTree};
-ghost use Rattle.answer_lists.specs.Answers.{IsPairFound};
+ghost use Rattle.route_tree.specs.Found.{IsPairFound};
 ghost use Rattle.answer_lists.specs.Table.{AreRowCodes};
 ghost use Rattle.answer_lists.specs.Tree.{HasLowCodes};
 
@@ -15,7 +15,7 @@ use crate::codes::{code_for, push_code};
 use factor_routes::{RoadFactors, RouteAsker};
 use path_algebra::{Cost, Labels, PathAlgebra, laws_hold};
 use road_graph::{InGraph, Memory, Vertex};
-use route_tree::{PairRoute, Tree};
+use route_tree::{Found, Tree};
 use std::alloc::{AllocError, Global};
 use std::marker::Model;
 use std::sync::Arc;
@@ -132,33 +132,6 @@ impl Factored {
         row
     }
 
-    /// Asks for the best code and the route.
-    fn ask_route<A: PathAlgebra>(
-        &self,
-        alloc: Global,
-        algebra: A,
-        rows: &InGraph,
-        asker: &mut RouteAsker,
-        ends: (Vertex, Vertex),
-    ) -> Result<Option<(u64, PairRoute)>, Memory>
-        requires carried { IsCarried (A.meaning algebra) (cost_of self.now.algebra.cost) }
-        requires same { asker.old.factors ≡ self.now }
-        requires rows { rows.now ≡ self.now.roads }
-        requires source { HasVertex self.now.roads ends.0 }
-        requires target { HasVertex self.now.roads ends.1 }
-        ensures same { asker.new.factors ≡ self.now }
-        ensures found { IfOk result (IsPairFound (A.meaning algebra) self.now.roads ends.0 ends.1) }
-    {
-        self.factors.begin(asker, ends.0);
-        let Some(value) = self.factors.best_value(algebra, asker, ends.1)? else {
-            return Ok(None);
-        };
-        match self.factors.route_from(alloc, algebra, rows, asker, ends)? {
-            Some(route) => Ok(Some((algebra.code(value), route))),
-            None => Ok(None),
-        }
-    }
-
     /// The best code and the route; none if no walk to the target has a value.
     pub(crate) fn route<A: PathAlgebra>(
         &mut self,
@@ -166,7 +139,7 @@ impl Factored {
         algebra: A,
         rows: &InGraph,
         ends: (Vertex, Vertex),
-    ) -> Result<Option<(u64, PairRoute)>, Memory>
+    ) -> Result<Option<Found>, Memory>
         requires carried { IsCarried (A.meaning algebra) (cost_of self.old.algebra.cost) }
         requires rows { rows.now ≡ self.old.roads }
         requires source { HasVertex self.old.roads ends.0 }
@@ -175,7 +148,7 @@ impl Factored {
         ensures found { IfOk result (IsPairFound (A.meaning algebra) self.old.roads ends.0 ends.1) }
     {
         let mut asker = self.take_asker(alloc)?;
-        let found = self.ask_route(alloc, algebra, rows, &mut asker, ends);
+        let found = self.factors.find(alloc, algebra, rows, &mut asker, ends);
         self.asker = Some(asker);
         found
     }

@@ -3,7 +3,7 @@
 ghost use Rattle.std.specs.Prelude.{◌≡◌, ◌↔◌, ◌∷◌, [], pos};
 ghost use Rattle.path_algebra.specs.Choices.{IsAlgebra, OfAlgebra, Under};
 ghost use Rattle.answer_lists.specs.Answers.{IsOneOf};
-ghost use Rattle.answer_lists.specs.Factoring.{IsTooHeavy};
+ghost use Rattle.answer_lists.specs.Factoring.{IsTooHeavy, HasRoom};
 
 use crate::shared_graph::SharedGraph;
 use crate::status::{DENSE, DONE, HEAVY, MEMORY, NO_ALGEBRA, NO_FACTORS};
@@ -15,6 +15,7 @@ use std::alloc::Global;
 fn factor<A: PathAlgebra>(alloc: Global, algebra: A, shared: &mut SharedGraph) -> i32
     ensures graph { shared.new ≡ shared.old }
     ensures heavy { result ≡ pos 8 → IsTooHeavy (A.meaning algebra) shared.old }
+    ensures dense { result ≡ pos 7 → HasRoom (A.meaning algebra) shared.old }
     ensures status { IsOneOf (0 ∷ 3 ∷ 7 ∷ 8 ∷ 9 ∷ []) result }
 {
     let Some(cost) = algebra.cost() else {
@@ -32,6 +33,7 @@ fn factor<A: PathAlgebra>(alloc: Global, algebra: A, shared: &mut SharedGraph) -
 fn factor_chosen(alloc: Global, chosen: AlgebraChoice, shared: &mut SharedGraph) -> i32
     ensures graph { shared.new ≡ shared.old }
     ensures heavy { result ≡ pos 8 → Under chosen (λ V A. IsTooHeavy A shared.old) }
+    ensures dense { result ≡ pos 7 → Under chosen (λ V A. HasRoom A shared.old) }
     ensures status { IsOneOf (0 ∷ 3 ∷ 7 ∷ 8 ∷ 9 ∷ []) result }
 {
     with_algebra!(chosen, |algebra| factor(alloc, algebra, shared))
@@ -44,6 +46,7 @@ fn factor_chosen(alloc: Global, chosen: AlgebraChoice, shared: &mut SharedGraph)
 pub fn factor_graph(alloc: Global, number: u32, shared: &mut SharedGraph) -> i32
     ensures graph { shared.new ≡ shared.old }
     ensures heavy { result ≡ pos 8 → OfAlgebra number 0 (λ V A. IsTooHeavy A shared.old) }
+    ensures dense { result ≡ pos 7 → OfAlgebra number 0 (λ V A. HasRoom A shared.old) }
     ensures algebra { (result ≡ pos 43) ↔ (IsAlgebra number 0 → ⊥) }
     ensures status { IsOneOf (0 ∷ 3 ∷ 7 ∷ 8 ∷ 9 ∷ 43 ∷ []) result }
 {

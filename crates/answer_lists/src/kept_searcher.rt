@@ -4,12 +4,12 @@ ghost use Rattle.std.specs.Prelude.{◌≡◌, IfOk, IsTrue};
 ghost use Rattle.road_graph.specs.GraphData.{HasVertex};
 ghost use Rattle.path_algebra.specs.Choices.{Under};
 ghost use Rattle.path_plain.specs.Searcher.{IsOfSameGraph};
-ghost use Rattle.answer_lists.specs.Answers.{IsPairFound};
+ghost use Rattle.route_tree.specs.Found.{IsPairFound};
 ghost use Rattle.answer_lists.specs.Kept.{IsKeptFor, algebra_of, graph_of};
 
 use path_algebra::{AlgebraChoice, Hops, PathAlgebra, Reach, Reliable, Shortest, Widest, Within};
 use road_graph::{InGraph, Memory, OutGraph, Vertex};
-use route_tree::{PairRoute, PairSearcher};
+use route_tree::{Found, PairSearcher};
 use std::alloc::Global;
 
 /// A searcher for the pairs of a graph, by one of the given algebras.
@@ -21,31 +21,6 @@ pub(crate) enum KeptSearcher {
     Hops(PairSearcher<Hops>),
     Reliable(PairSearcher<Reliable>),
     Within(PairSearcher<Within>),
-}
-
-/// The best code and the route; none if no walk to the target has a value.
-fn find<A: PathAlgebra>(
-    searcher: &mut PairSearcher<A>,
-    graph: &OutGraph,
-    rows: &InGraph,
-    ends: (Vertex, Vertex),
-) -> Result<Option<(u64, PairRoute)>, Memory>
-    requires graph { graph.now ≡ searcher.old.roads }
-    requires rows { rows.now ≡ graph.now }
-    requires source { HasVertex graph.now ends.0 }
-    requires target { HasVertex graph.now ends.1 }
-    ensures found { IfOk result (IsPairFound (A.meaning searcher.old.algebra) graph.now ends.0 ends.1) }
-    ensures same { IsOfSameGraph searcher.old searcher.new }
-{
-    let algebra = searcher.algebra();
-    let (value, route) = searcher.solve(graph, rows, ends)?;
-    let Some(value) = value else {
-        return Ok(None);
-    };
-    match route {
-        Some(route) => Ok(Some((algebra.code(value), route))),
-        None => Ok(None),
-    }
 }
 
 /// Gives it this limit. If it had another, its next search begins anew.
@@ -112,7 +87,7 @@ impl KeptSearcher {
         graph: &OutGraph,
         rows: &InGraph,
         ends: (Vertex, Vertex),
-    ) -> Result<Option<(u64, PairRoute)>, Memory>
+    ) -> Result<Option<Found>, Memory>
         requires graph { graph.now ≡ graph_of self.old }
         requires rows { rows.now ≡ graph.now }
         requires source { HasVertex graph.now ends.0 }
@@ -122,12 +97,12 @@ impl KeptSearcher {
         ensures graph { graph_of self.new ≡ graph_of self.old }
     {
         match self {
-            KeptSearcher::Shortest(searcher) => find(searcher, graph, rows, ends),
-            KeptSearcher::Widest(searcher) => find(searcher, graph, rows, ends),
-            KeptSearcher::Reach(searcher) => find(searcher, graph, rows, ends),
-            KeptSearcher::Hops(searcher) => find(searcher, graph, rows, ends),
-            KeptSearcher::Reliable(searcher) => find(searcher, graph, rows, ends),
-            KeptSearcher::Within(searcher) => find(searcher, graph, rows, ends),
+            KeptSearcher::Shortest(searcher) => searcher.solve(graph, rows, ends),
+            KeptSearcher::Widest(searcher) => searcher.solve(graph, rows, ends),
+            KeptSearcher::Reach(searcher) => searcher.solve(graph, rows, ends),
+            KeptSearcher::Hops(searcher) => searcher.solve(graph, rows, ends),
+            KeptSearcher::Reliable(searcher) => searcher.solve(graph, rows, ends),
+            KeptSearcher::Within(searcher) => searcher.solve(graph, rows, ends),
         }
     }
 }

@@ -5,14 +5,15 @@ ghost use Rattle.road_graph.specs.GraphData.{HasVertex};
 ghost use Rattle.path_algebra.specs.Carried.{IsCarried};
 ghost use Rattle.path_algebra.specs.Choices.{IsAlgebra, OfAlgebra, Under};
 ghost use Rattle.path_algebra.specs.Counted.{cost_of};
-ghost use Rattle.answer_lists.specs.Answers.{IsAnswered, IsFound, IsOneOf, IsPairFound, ReportsRoute, HasBoth};
+ghost use Rattle.route_tree.specs.Found.{IsPairFound};
+ghost use Rattle.answer_lists.specs.Answers.{IsAnswered, IsFound, IsOneOf, ReportsRoute, HasBoth};
 
 use crate::factored::Factored;
 use crate::shared_graph::SharedGraph;
 use crate::status::{DONE, MEMORY, NO_ALGEBRA, NO_ROOM, NO_ROUTE, NO_VERTEX};
 use path_algebra::{AlgebraChoice, with_algebra};
 use road_graph::{InGraph, Memory, Vertex};
-use route_tree::PairRoute;
+use route_tree::Found;
 use std::alloc::Global;
 
 /// Takes the factors out for an algebra, if there are any.
@@ -31,7 +32,7 @@ fn query(
     factored: &mut Factored,
     rows: &InGraph,
     ends: (Vertex, Vertex),
-) -> Result<Option<(u64, PairRoute)>, Memory>
+) -> Result<Option<Found>, Memory>
     requires carried { Under chosen (λ V A. IsCarried A (cost_of factored.old.algebra.cost)) }
     requires rows { rows.now ≡ factored.old.roads }
     requires source { HasVertex factored.old.roads ends.0 }
@@ -50,7 +51,7 @@ fn find(
     shared: &mut SharedGraph,
     source: Vertex,
     target: Vertex,
-) -> Result<Option<(u64, PairRoute)>, Memory>
+) -> Result<Option<Found>, Memory>
     requires source { HasVertex shared.old source }
     requires target { HasVertex shared.old target }
     ensures graph { shared.new ≡ shared.old }
@@ -78,20 +79,20 @@ fn copy(list: &[Vertex], room: &mut [u32])
 }
 
 /// Writes a route, if the room is long enough.
-fn write_route(route: &PairRoute, room: &mut [u32]) -> i32
-    requires { length route.now.vertices.items ≡ route.now.hops + 1 }
+fn write_route(found: &Found, room: &mut [u32]) -> i32
+    requires { length found.now.route.items ≡ found.now.hops + 1 }
     ensures found { IsFound result }
-    ensures route { result ≡ pos 0 → take (route.now.hops + 1) room.new ≡ route.now.vertices.items }
-    ensures short { result ≡ pos 2 → length room.old < route.now.hops + 1 }
-    ensures long { result ≡ pos 0 → route.now.hops + 1 ≤ length room.old }
+    ensures route { result ≡ pos 0 → take (found.now.hops + 1) room.new ≡ found.now.route.items }
+    ensures short { result ≡ pos 2 → length room.old < found.now.hops + 1 }
+    ensures long { result ≡ pos 0 → found.now.hops + 1 ≤ length room.old }
     ensures kept { result ≡ pos 2 → room.new ≡ room.old }
-    ensures rest { result ≡ pos 0 → drop (route.now.hops + 1) room.new ≡ drop (route.now.hops + 1)
+    ensures rest { result ≡ pos 0 → drop (found.now.hops + 1) room.new ≡ drop (found.now.hops + 1)
         room.old }
 {
-    if room.len() < route.vertices.len() {
+    if room.len() < found.route.len() {
         return NO_ROOM;
     }
-    copy(&route.vertices, room);
+    copy(&found.route, room);
     DONE
 }
 
@@ -120,13 +121,12 @@ fn answer(
     let Ok(found) = find(alloc, chosen, shared, source, target) else {
         return MEMORY;
     };
-    let Some(pair) = found else {
+    let Some(found) = found else {
         return NO_ROUTE;
     };
-    let (value, route) = pair;
-    *code = value;
-    *hops = route.hops;
-    write_route(&route, room)
+    *code = found.code;
+    *hops = found.hops;
+    write_route(&found, room)
 }
 
 /// Finds a route by the algebra of a number and writes it, if there is such an algebra and both are vertices.

@@ -6,16 +6,16 @@ ghost use Rattle.path_algebra.specs.Carried.{IsCarried};
 ghost use Rattle.path_algebra.specs.Choices.{Under};
 ghost use Rattle.path_algebra.specs.Counted.{cost_of, CountsFit};
 ghost use Rattle.road_graph.specs.GraphData.{HasVertex};
-ghost use Rattle.answer_lists.specs.Answers.{IsPairFound};
+ghost use Rattle.route_tree.specs.Found.{IsPairFound};
 ghost use Rattle.answer_lists.specs.Kept.{IsKeptFor};
-ghost use Rattle.factor_routes.specs.declared.road_factors.Unfactored.TheVariants.{Heavy};
+ghost use Rattle.factor_routes.specs.declared.road_factors.Unfactored.TheVariants.{Dense, Heavy};
 
 use crate::factored::Factored;
 use crate::kept_searcher::KeptSearcher;
 use factor_routes::{RoadFactors, Unfactored};
 use path_algebra::{AlgebraChoice, Cost, PathAlgebra};
 use road_graph::{InGraph, Memory, OutGraph, Vertex};
-use route_tree::PairRoute;
+use route_tree::Found;
 use std::alloc::{AllocError, Global};
 use std::marker::Model;
 use std::sync::Arc;
@@ -183,7 +183,7 @@ impl SharedGraph {
         chosen: AlgebraChoice,
         rows: &InGraph,
         ends: (Vertex, Vertex),
-    ) -> Result<Option<(u64, PairRoute)>, Memory>
+    ) -> Result<Option<Found>, Memory>
         requires rows { rows.now ≡ self.old }
         requires source { HasVertex self.old ends.0 }
         requires target { HasVertex self.old ends.1 }
@@ -204,6 +204,7 @@ impl SharedGraph {
         ensures kept { self.new ≡ self.old }
         ensures heavy { IfErr result (λ e. e ≡ Heavy → (k : ℕ) → CountsFit self.old (cost_of cost) k →
             ⊥) }
+        ensures dense { IfErr result (λ e. e ≡ Dense → (k : ℕ) × CountsFit self.old (cost_of cost) k) }
     {
         if self.is_factored(cost) {
             return Ok(());

@@ -1,10 +1,10 @@
 //! The codes of the best values from some vertices to others, written to a list of the caller.
 
-ghost use Rattle.std.specs.Prelude.{◌≡◌, ◌↔◌, ◌*◌, ◌∷◌, [], length, pos, IfOk, IsTrue};
+ghost use Rattle.std.specs.Prelude.{◌≡◌, ◌↔◌, ◌*◌, ◌∷◌, [], length, pos, IfOk, IfSome, IsTrue, OnOk};
 ghost use Rattle.std.specs.List.{All};
 ghost use Rattle.road_graph.specs.GraphData.{HasVertex};
 ghost use Rattle.path_algebra.specs.Choices.{OfAlgebra, Under};
-ghost use Rattle.path_algebra.specs.Walks.{AreBest};
+ghost use Rattle.route_tree.specs.Searchers.{IsSearcherOf};
 ghost use Rattle.answer_lists.specs.Answers.{IsOneOf};
 ghost use Rattle.answer_lists.specs.Table.{AreRowCodes, AreTableCodes, ReportsTableRefusals};
 ghost use Rattle.answer_lists.specs.Tree.{HasLowCodes};
@@ -13,52 +13,57 @@ use crate::codes::{code_for, push_code};
 use crate::shared_graph::SharedGraph;
 use crate::sources::are_vertices;
 use crate::status::{DONE, MEMORY, NO_ALGEBRA, NO_ROOM, NO_VERTEX};
-use path_algebra::{AlgebraChoice, Labels, PathAlgebra, laws_hold, with_algebra};
-use path_plain::solve_outgoing;
+use path_algebra::{AlgebraChoice, PathAlgebra, laws_hold, with_algebra};
+use path_plain::Searcher;
 use road_graph::{Memory, OutGraph, Vertex};
 use std::alloc::Global;
 
-/// The codes of the labels of some vertices.
-fn codes_at<A: PathAlgebra>(
+/// The searcher of the row before, or a new one if there is none.
+fn take_searcher<A: PathAlgebra>(
     alloc: Global,
     algebra: A,
     graph: &OutGraph,
-    source: Vertex,
-    labels: &Labels<A::Value>,
-    targets: &[u32],
-) -> Result<Vec<u64>, Memory>
-    requires low { HasLowCodes (A.meaning algebra) }
-    requires targets { All (HasVertex graph.now) targets.now }
-    requires best { AreBest (A.meaning algebra) graph.now (source ∷ []) labels.now }
-    ensures { IfOk result (λ row. AreRowCodes (A.meaning algebra) graph.now targets.now source
-        row.items) }
+    kept: &mut Option<Searcher<A>>,
+) -> Result<Searcher<A>, Memory>
+    requires { IfSome kept.old (IsSearcherOf algebra graph.now) }
+    ensures { IfOk result (IsSearcherOf algebra graph.now) }
 {
-    graph.holds();
-    laws_hold(algebra);
-    let mut row = Vec::with_capacity(alloc, targets.len())?;
-    for target in targets {
-        let label = labels.of(Vertex(*target));
-        push_code(&mut row, code_for(algebra, label))?;
+    match kept.take() {
+        Some(searcher) => Ok(searcher),
+        None => Searcher::new(alloc, algebra, graph),
     }
-    Ok(row)
 }
 
-/// The codes from one source, by a search.
+/// The codes from one source, by a search: for each target it goes on as far as it needs. One that is kept from a row of
+/// the same source goes on too.
 fn searched_row<A: PathAlgebra>(
     alloc: Global,
     algebra: A,
     graph: &OutGraph,
+    kept: &mut Option<Searcher<A>>,
     source: Vertex,
     targets: &[u32],
 ) -> Result<Vec<u64>, Memory>
     requires low { HasLowCodes (A.meaning algebra) }
+    requires kept { IfSome kept.old (IsSearcherOf algebra graph.now) }
     requires source { HasVertex graph.now source }
     requires targets { All (HasVertex graph.now) targets.now }
-    ensures { IfOk result (λ row. AreRowCodes (A.meaning algebra) graph.now targets.now source
+    ensures kept { OnOk result (IfSome kept.new (IsSearcherOf algebra graph.now)) }
+    ensures row { IfOk result (λ row. AreRowCodes (A.meaning algebra) graph.now targets.now source
         row.items) }
 {
-    let labels = solve_outgoing(alloc, algebra, graph, &[source])?;
-    codes_at(alloc, algebra, graph, source, &labels, targets)
+    graph.holds();
+    laws_hold(algebra);
+    let mut searcher = take_searcher(alloc, algebra, graph, kept)?;
+    let mut row = Vec::with_capacity(alloc, targets.len())?;
+    for target in targets {
+        let target = Vertex(*target);
+        searcher.solve_to(graph, source, target)?;
+        let label = searcher.labels().of(target);
+        push_code(&mut row, code_for(algebra, label))?;
+    }
+    *kept = Some(searcher);
+    Ok(row)
 }
 
 /// The codes from one source.
@@ -66,18 +71,21 @@ fn row<A: PathAlgebra>(
     alloc: Global,
     algebra: A,
     shared: &mut SharedGraph,
+    kept: &mut Option<Searcher<A>>,
     source: Vertex,
     targets: &[u32],
 ) -> Result<Vec<u64>, Memory>
     requires low { HasLowCodes (A.meaning algebra) }
+    requires kept { IfSome kept.old (IsSearcherOf algebra shared.old) }
     requires source { HasVertex shared.old source }
     requires targets { All (HasVertex shared.old) targets.now }
     ensures graph { shared.new ≡ shared.old }
+    ensures kept { OnOk result (IfSome kept.new (IsSearcherOf algebra shared.old)) }
     ensures row { IfOk result (λ row. AreRowCodes (A.meaning algebra) shared.old targets.now source
         row.items) }
 {
     let Some(mut factored) = shared.take_factored(algebra) else {
-        return searched_row(alloc, algebra, shared.graph(), source, targets);
+        return searched_row(alloc, algebra, shared.graph(), kept, source, targets);
     };
     let row = factored.row(alloc, algebra, source, targets);
     shared.put_factored(factored);
@@ -100,8 +108,9 @@ fn table<A: PathAlgebra>(
         targets.now codes.items) }
 {
     let mut codes = Vec::new(alloc);
+    let mut kept = None;
     for source in sources {
-        let row = row(alloc, algebra, shared, Vertex(*source), targets)?;
+        let row = row(alloc, algebra, shared, &mut kept, Vertex(*source), targets)?;
         codes.extend_from_slice(&row)?;
     }
     Ok(codes)

@@ -2,17 +2,11 @@
 use Rattle.std.specs.Prelude.{ℕ, List, Option, map, option_map}
 use Rattle.path_algebra.specs.declared.name.AlgebraName.{AlgebraName}
 use Rattle.road_files.specs.declared.questions.Kind.{Kind}
+pub use Rattle.route_tree.specs.Found.{FoundData, found_of}
 use Rattle.answer_text.specs.declared.answers.Reached.{Reached}
-use Rattle.answer_text.specs.declared.answers.Found.{Found}
 use Rattle.answer_text.specs.declared.answers.Answer.{Answer}
 use Rattle.answer_text.specs.declared.answers.Answer.TheVariants
 use Rattle.answer_text.specs.declared.answers.Answers.{Answers}
-
--- the answer for a pair that a walk joins
-pub record FoundData : Type 0 where
-  pub code : ℕ
-  pub hops : ℕ
-  pub route : List ℕ
 
 -- the answer to a question; entry i of a list of lines is that of vertex i + 1
 pub data AnswerData : Type 0 where
@@ -26,10 +20,6 @@ pub record AnswerList : Type 0 where
   pub kind : Kind
   pub n : ℕ
   pub list : List AnswerData
-
--- the answer for a pair as plain data
-abbrev pub found_of : Found → FoundData
-found_of f = record { code = f.code; hops = f.hops; route = f.route.items }
 
 -- an answer in memory as plain data
 abbrev pub answer_data : Answer → AnswerData

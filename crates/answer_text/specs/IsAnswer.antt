@@ -2,11 +2,12 @@
 use Rattle.std.specs.Prelude.{◌≡◌, ℕ, ◌⊎◌, List, [], ◌∷◌, length, Contains, Option, Some, None, ⊤}
 use Rattle.road_graph.specs.GraphData.{GraphData, HasVertex}
 use Rattle.path_algebra.specs.Algebra.{Algebra}
-use Rattle.path_algebra.specs.Walks.{IsUnreached, AreHops, IsParent, label_of, IsParentChain}
+use Rattle.path_algebra.specs.Walks.{IsUnreached, AreHops, IsParent, label_of}
 pub use Rattle.path_algebra.specs.Walks.{IsBestCode}
+pub use Rattle.route_tree.specs.Found.{IsRouteBetween, IsFoundBetween, IsPairAnswer}
 use Rattle.answer_text.specs.declared.answers.Reached.{Reached}
 use Rattle.road_files.specs.Asked.{Question, FromSource, BetweenPair, FromSources, Asked}
-use Rattle.answer_text.specs.AnswerData.{FoundData, AnswerData, SourceAnswer, PairAnswer, SourcesAnswer, AnswerList}
+use Rattle.answer_text.specs.AnswerData.{AnswerData, SourceAnswer, PairAnswer, SourcesAnswer, AnswerList}
 
 -- 0 at a source, and elsewhere the least of the nearer vertices
 abbrev pub IsParentOrZero : {V : Type 0} → Algebra V → GraphData → List ℕ → ℕ → ℕ → Type 0
@@ -27,21 +28,6 @@ IsVertexLine A g sources v (Some r) = IsReachedLine A g sources v r
 pub record AreVertexLines {V : Type 0} (A : Algebra V) (g : GraphData) (sources : List ℕ) (lines : List (Option Reached)) : Type 0 where
   pub count : length lines ≡ g.vertices
   pub each : (v : ℕ) → HasVertex g v → IsVertexLine A g sources v (label_of lines v)
-
--- the list from s to t in which each vertex is the parent of the next
-abbrev pub IsRouteBetween : {V : Type 0} → Algebra V → GraphData → ℕ → ℕ → List ℕ → Type 0
-IsRouteBetween A g s t route = (rest : List ℕ) × (route ≡ s ∷ rest) × IsParentChain A g (s ∷ []) s rest t
-
--- the best value, the least hops and the route from s to t
-pub record IsFoundBetween {V : Type 0} (A : Algebra V) (g : GraphData) (s t : ℕ) (f : FoundData) : Type 0 where
-  pub code : IsBestCode A g (s ∷ []) t f.code
-  pub hops : AreHops A g (s ∷ []) t f.hops
-  pub route : IsRouteBetween A g s t f.route
-
--- the answer for a pair: nothing exactly if no walk from s to t has a value
-abbrev pub IsPairAnswer : {V : Type 0} → Algebra V → GraphData → ℕ → ℕ → Option FoundData → Type 0
-IsPairAnswer A g s t None = IsUnreached A g (s ∷ []) t
-IsPairAnswer A g s t (Some f) = IsFoundBetween A g s t f
 
 -- the right answer to a question, which it names
 abbrev pub IsAnswer : {V : Type 0} → Algebra V → GraphData → Question → AnswerData → Type 0

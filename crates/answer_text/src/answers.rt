@@ -3,6 +3,7 @@
 use path_algebra::AlgebraName;
 use road_files::Kind;
 use road_graph::Vertex;
+use route_tree::Found;
 
 /// The answer for a vertex that some walk reaches.
 #[derive(Clone, Copy, Debug, PartialEq, Eq)]
@@ -13,17 +14,6 @@ pub struct Reached {
     pub hops: u32,
     /// The vertex before this one on such a walk, the least there is; 0 at a source.
     pub parent: u32,
-}
-
-/// The answer for a pair that some walk joins.
-#[derive(Debug, Drop)]
-pub struct Found {
-    /// The code of the best value.
-    pub code: u64,
-    /// The number of arcs of the route.
-    pub hops: u32,
-    /// The vertices of the route, source and target included.
-    pub route: Vec<Vertex>,
 }
 
 /// The answer to one question. Entry `i` of `lines` is that of vertex `i + 1`: `None` if no walk to it has a value.

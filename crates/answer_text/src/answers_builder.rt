@@ -7,7 +7,7 @@ ghost use Rattle.answer_text.specs.AnswerTakes.{answers_so_far, numbers_given};
 ghost use Rattle.answer_text.specs.AnswerData.{answer_data};
 
 use crate::answer_lines::{begins, found_in, kind_of, name_of, pair_in, source_in, vertex_in};
-use crate::answers::{Answer, Found, Reached};
+use crate::answers::{Answer, Reached};
 use crate::number_fields::number_up_to;
 use crate::present_numbers::PresentNumbers;
 use crate::rules::{BAD_HEADER, MISPLACED, NO_HEADER};
@@ -15,6 +15,7 @@ use crate::writing::MAX_ANSWERS;
 use path_algebra::AlgebraName;
 use road_files::Kind;
 use road_graph::Vertex;
+use route_tree::Found;
 use std::alloc::Global;
 use text_lines::{LineFault, Slot, push_item};
 

@@ -14,7 +14,7 @@ pub mod rules;
 mod vertex_lines;
 mod writing;
 
-pub use answers::{Answer, Answers, Found, Reached};
+pub use answers::{Answer, Answers, Reached};
 pub use laws::{
     an_answer_is_one, answers_are_one, first_answers_begin_all, right_answers_are_read_again,
     written_answers_are_read_again,

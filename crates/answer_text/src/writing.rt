@@ -5,12 +5,13 @@ ghost use Rattle.text_lines.specs.Written.{WritesText};
 ghost use Rattle.answer_text.specs.AnswerText.{answer_text, answers_text, blocks_text, found_lines, found_words, header_text, pair_words, source_words, vertex_lines, vertex_words};
 ghost use Rattle.answer_text.specs.AnswerData.{found_of, answer_list, answer_data};
 
-use crate::answers::{Answer, Answers, Found, Reached};
+use crate::answers::{Answer, Answers, Reached};
 use crate::lines::{line_of_found, line_of_header, line_of_pair, line_of_source};
 use crate::vertex_lines::VertexLine;
 use path_algebra::AlgebraName;
 use road_files::{Kind, write_list};
 use road_graph::Vertex;
+use route_tree::Found;
 use text_lines::{RoadWrite, WriteFault, write_bytes};
 
 /// The most answers that a text may have.

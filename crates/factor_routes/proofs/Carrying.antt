@@ -12,21 +12,6 @@ use Rattle.route_tree.specs.Told.{IsParentRoute, IsToldOf}
 use Rattle.factor_routes.specs.Numbers.{AreBestNumbers}
 use Rattle.factor_routes.specs.Tails.{IsCountedChain, IsCountedRoute, IsLeastTail}
 
-pub one_hops : {V : Type 0} (A : Algebra V) (g : GraphData) (sources : List ℕ) (v h j : ℕ) → AreHops A g sources v h → AreHops A g sources v j → h ≡ j
-one_hops A g sources v h j a b =
-    let low = a.least j b.attained in
-    let high = b.least h a.attained in
-    omega (arith, low, high)
-
-pub none_if_none : {V : Type 0} (o : Option V) (b : Bool) → is_some o ≡ not b → b ≡ true → o ≡ None
-none_if_none None b e f = refl
-none_if_none (Some x) b e f = let bad : true ≡ false = e ∙ ap not f in cc
-
-pub unreached_as : {V : Type 0} (A : Algebra V) (g : GraphData) (sources : List ℕ) (v : ℕ) (o : Option V) → o ≡ None →
-    IsBestLabel A g sources v o → IsUnreached A g sources v
-unreached_as A g sources v None e h = h
-unreached_as A g sources v (Some x) e h = let bad : Some x ≡ None = e in cc
-
 pub told_as : {V : Type 0} (A : Algebra V) (g : GraphData) (sources : List ℕ) (v : ℕ) (l : Option V) (m n p q : Option ℕ) → m ≡ n → p ≡ q →
     IsToldOf A g sources v l n q → IsToldOf A g sources v l m p
 told_as A g sources v l m n p q e f h =
@@ -125,7 +110,6 @@ module _ {V : Type 0} (A : Algebra V) (g : GraphData) (roads : IsGraph g) (sourc
     is : number u ≡ Some first
     some : IsSome (carried_value A k (Some first))
     chain : IsParentChain A g sources u rest v
-    count : first % 2 ^ k + length rest ≡ y % 2 ^ k
 
   chained : (u : ℕ) (rest : List ℕ) (v y : ℕ) → HasVertex g v → number v ≡ Some y → IsSome (carried_value A k (Some y)) →
       IsCountedChain g cost k number u rest v → Chained u rest v y
@@ -135,7 +119,6 @@ module _ {V : Type 0} (A : Algebra V) (g : GraphData) (roads : IsGraph g) (sourc
     is = ap number h ∙ is;
     some = some;
     chain = h;
-    count = omega arith;
   }
   chained u (w ∷ rest) v y in_v is some h =
       let on = chained w rest v y in_v is some h.1 in
@@ -144,17 +127,12 @@ module _ {V : Type 0} (A : Algebra V) (g : GraphData) (roads : IsGraph g) (sourc
       let parent = parent_if_step w on.first on.inside on.is on.some u step in
       let in_u = tail_inside w u parent.nearer in
       let x = tail_number w u parent.nearer in
-      let hops = parent.nearer.4 in
-      let here = one_hops A g sources u (x.0 % 2 ^ k) hops.0 (hops_at u x.0 in_u x.1 x.2) hops.1 in
-      let next = one_hops A g sources w (on.first % 2 ^ k) (hops.0 + 1) (hops_at w on.first on.inside on.is on.some) hops.2 in
-      let more = on.count in
       record {
         inside = in_u;
         first = x.0;
         is = x.1;
         some = x.2;
         chain = (parent, on.chain);
-        count = omega (arith, here, next, more);
       }
 
   module _ (v y : ℕ) (in_v : HasVertex g v) (is : number v ≡ Some y) (some : IsSome (carried_value A k (Some y))) (list : List ℕ)
@@ -179,20 +157,5 @@ module _ {V : Type 0} (A : Algebra V) (g : GraphData) (roads : IsGraph g) (sourc
       chain = on_route.chain;
     }
 
-    route_length : length list ≡ y % 2 ^ k + 1
-    route_length =
-        let c = on_route in
-        let zero_first : c.first ≡ 0 = (carry.sources_are_zero route.first c.first (best_as route.first c.first c.inside c.is)).0 begins in
-        let none : c.first % 2 ^ k ≡ 0 % 2 ^ k = ap (λ (n : ℕ). n % 2 ^ k) zero_first in
-        let zero_mod : 0 % 2 ^ k ≡ 0 = omega arith in
-        let whole = ap length route.is in
-        let count = c.count in
-        omega (arith, none, zero_mod, whole, count)
-
-    pub route_told : (h : ℕ) → h ≡ y % 2 ^ k → AreHops A g sources v h × IsParentRoute A g sources v list × (length list ≡ h + 1)
-    route_told h e =
-        let count = route_length in (
-          subst (λ (n : ℕ). AreHops A g sources v n) (sym e) (hops_at v y in_v is some),
-          route_is,
-          omega (arith, count, e),
-        )
+    pub route_told : (h : ℕ) → h ≡ y % 2 ^ k → AreHops A g sources v h × IsParentRoute A g sources v list
+    route_told h e = (subst (λ (n : ℕ). AreHops A g sources v n) (sym e) (hops_at v y in_v is some), route_is)

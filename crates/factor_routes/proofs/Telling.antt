@@ -8,7 +8,7 @@ use Rattle.path_algebra.specs.Algebra.{Algebra}
 use Rattle.path_algebra.specs.Walks.{IsWalkValue, IsBestLabel, IsTight, AreBest, AreHops, label_of}
 use Rattle.route_tree.specs.Tree.{Branches, hops_of, parent_of, AreHopsAt, IsParentAt, IsTree, IsLinkedAt, IsLinked}
 use Rattle.route_tree.specs.Told.{IsToldOf}
-use Rattle.factor_routes.proofs.Carrying.{one_hops}
+use Rattle.route_tree.proofs.Told.{one_hops}
 
 -- what was found of the vertices 1 to n
 pub record AreTold {V : Type 0} (A : Algebra V) (g : GraphData) (sources : List ℕ) (n : ℕ) (values : List (Option V)) (hops parents : List (Option ℕ)) : Type 0 where

@@ -4,7 +4,7 @@ ghost use Rattle.road_graph.specs.GraphData.{HasVertex};
 ghost use Rattle.path_algebra.specs.Carried.{IsCarried};
 ghost use Rattle.path_algebra.specs.Counted.{cost_of};
 ghost use Rattle.path_algebra.specs.Walks.{IsBestLabel};
-ghost use Rattle.route_tree.specs.Told.{IsPairRoute};
+ghost use Rattle.route_tree.specs.Found.{IsPairFound};
 ghost use Rattle.factor_routes.specs.Numbers.{numbers_of, AreBestNumbers};
 ghost use Rattle.factor_routes.specs.Tails.{IsCountedRoute};
 
@@ -12,7 +12,7 @@ use crate::road_factors::{RoadFactors, RouteAsker};
 use path_algebra::PathAlgebra;
 use path_plain::best_values_exist;
 use road_graph::{InGraph, Memory, Vertex};
-use route_tree::{PairRoute, trees_exist};
+use route_tree::{Found, trees_exist};
 use std::alloc::{AllocError, Global};
 
 impl RoadFactors {
@@ -78,62 +78,42 @@ impl RoadFactors {
         Ok(list)
     }
 
-    /// The route from the asker's source to a target; none if no walk has a value. The only error is `Memory`.
+    /// The best value of a pair's target and the route to it; none if no walk has a value. The only error is `Memory`.
     ///
-    /// It is the route of the whole tree, but only vertices along it and their ancestors in the factors are looked at.
-    pub fn route_from<A: PathAlgebra>(
+    /// The route is that of the whole tree, but only vertices along it and their ancestors in the factors are looked at.
+    pub fn find<A: PathAlgebra>(
         &self,
         alloc: Global,
         algebra: A,
         rows: &InGraph,
         asker: &mut RouteAsker,
         pair: (Vertex, Vertex),
-    ) -> Result<Option<PairRoute>, Memory>
+    ) -> Result<Option<Found>, Memory>
         requires rows { rows.now ≡ self.now.roads }
         requires carried { IsCarried (A.meaning algebra) (cost_of self.now.algebra.cost) }
         requires same { asker.old.factors ≡ self.now }
-        requires begun { asker.old.sources ≡ pair.0 ∷ [] }
         requires source { HasVertex self.now.roads pair.0 }
         requires target { HasVertex self.now.roads pair.1 }
         ensures same { asker.new.factors ≡ asker.old.factors }
-        ensures route { IfOk result (IsPairRoute (A.meaning algebra) self.now.roads pair.0 pair.1) }
+        ensures found { IfOk result (IsPairFound (A.meaning algebra) self.now.roads pair.0 pair.1) }
     {
-        let target = pair.1;
         self.holds();
         self.numbers_exist();
         best_values_exist(algebra);
         trees_exist(algebra);
+        let (source, target) = pair;
+        self.begin(asker, source);
         let Some(number) = self.number(asker, target)? else {
             return Ok(None);
         };
-        if self.value_in(algebra, number).is_none() {
+        let Some(value) = self.value_in(algebra, number) else {
             return Ok(None);
-        }
-        let vertices = self.route_back(alloc, rows, asker, (target, number))?;
-        Ok(Some(PairRoute {
+        };
+        let route = self.route_back(alloc, rows, asker, (target, number))?;
+        Ok(Some(Found {
+            code: algebra.code(value),
             hops: self.hops_in(number),
-            vertices,
+            route,
         }))
-    }
-
-    /// The route of a pair, from its source to its target; none if no walk has a value. The only error is `Memory`.
-    pub fn route<A: PathAlgebra>(
-        &self,
-        alloc: Global,
-        algebra: A,
-        rows: &InGraph,
-        asker: &mut RouteAsker,
-        pair: (Vertex, Vertex),
-    ) -> Result<Option<PairRoute>, Memory>
-        requires rows { rows.now ≡ self.now.roads }
-        requires carried { IsCarried (A.meaning algebra) (cost_of self.now.algebra.cost) }
-        requires same { asker.old.factors ≡ self.now }
-        requires source { HasVertex self.now.roads pair.0 }
-        requires target { HasVertex self.now.roads pair.1 }
-        ensures same { asker.new.factors ≡ asker.old.factors }
-        ensures route { IfOk result (IsPairRoute (A.meaning algebra) self.now.roads pair.0 pair.1) }
-    {
-        self.begin(asker, pair.0);
-        self.route_from(alloc, algebra, rows, asker, pair)
     }
 }

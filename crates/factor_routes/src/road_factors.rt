@@ -2,7 +2,7 @@
 ghost use Rattle.std.specs.Prelude.{◌≡◌, ℕ, IfOk, IfErr};
 ghost use Rattle.road_graph.specs.GraphData.{HasVertex, IsGraph};
 ghost use Rattle.path_algebra.specs.Counted.{cost_of, CountsFit};
-ghost use Rattle.factor_routes.specs.declared.road_factors.Unfactored.TheVariants.{Heavy};
+ghost use Rattle.factor_routes.specs.declared.road_factors.Unfactored.TheVariants.{Dense, Heavy};
 
 use crate::fitting::fitting_sums;
 use path_algebra::{Cost, CountedSums};
@@ -62,6 +62,7 @@ impl RoadFactors {
         ensures roads { IfOk result (λ f. f.roads ≡ graph.now) }
         ensures cost { IfOk result (λ f. f.algebra.cost ≡ cost) }
         ensures heavy { IfErr result (λ e. e ≡ Heavy → (k : ℕ) → CountsFit graph.now (cost_of cost) k → ⊥) }
+        ensures dense { IfErr result (λ e. e ≡ Dense → (k : ℕ) × CountsFit graph.now (cost_of cost) k) }
     {
         let Some(sums) = fitting_sums(cost, rows) else {
             return Err(Unfactored::Heavy);

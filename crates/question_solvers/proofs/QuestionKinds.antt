@@ -1,6 +1,13 @@
 -- Questions by their kind: the one at a place, when two are the same, and whether they are pairs.
-use Rattle.std.proofs.Common.{◌≡◌, ◌≢◌, ℕ, ◌<◌, List, length, get_or, map, sym, ap, subst, ◌∙◌, refl, Vec, Global}
+use Rattle.std.proofs.Common.{◌≡◌, ◌≢◌, ℕ, ◌<◌, List, length, get_or, map, sym, ap, subst, ◌∙◌, refl, Option, Vec, Global}
+use Rattle.std.specs.Prelude.{option_map}
 use Rattle.std.proofs.lemmas.List.{get_or-map}
+use Rattle.road_graph.specs.GraphData.{GraphData}
+use Rattle.path_algebra.specs.Algebra.{Algebra}
+use Rattle.route_tree.specs.Found.{IsPairFound, found_of}
+use Rattle.route_tree.specs.declared.found.Found.{Found}
+use Rattle.answer_text.specs.AnswerData.{PairAnswer}
+use Rattle.answer_text.specs.IsAnswer.{IsAnswer}
 use Rattle.road_files.specs.Asked.{AskWithin, IsVertexOf, Question, BetweenPair, asked_of, of_pair}
 use Rattle.road_files.proofs.QuestionLaws.{in_pairs}
 use Rattle.road_files.specs.declared.questions.Kind.TheVariants as kinds
@@ -20,6 +27,13 @@ pub pair_asked : (q : Questions) (i : ℕ) (ps : Vec (ℕ × ℕ) Global) (p : �
     get_or (asked_of q).questions i d ≡ BetweenPair p.0 p.1
 pair_asked q i ps p e low is d =
     ap (λ (y : Questions). get_or (asked_of y).questions i d) e ∙ get_or-map of_pair ps.items i p d (in_pairs q i ps e low) ∙ ap of_pair (sym is)
+
+-- what is found of this pair answers it
+pub pair_answered : {V : Type 0} (A : Algebra V) (g : GraphData) (q : Questions) (i : ℕ) (ps : Vec (ℕ × ℕ) Global) (p : ℕ × ℕ) (found : Option Found) → q ≡ variants.Pairs ps →
+    i < length (asked_of q).questions → p ≡ get_or ps.items i p → IsPairFound A g p.0 p.1 found → (d : Question) →
+    IsAnswer A g (get_or (asked_of q).questions i d) (PairAnswer p.0 p.1 (option_map found_of found))
+pair_answered A g q i ps p found e low is right d =
+    subst (λ (x : Question). IsAnswer A g x (PairAnswer p.0 p.1 (option_map found_of found))) (sym (pair_asked q i ps p e low is d)) (refl, refl, right)
 
 -- its source and its target are vertices of the graph
 pub pair_within : (n : ℕ) (q : Questions) (i : ℕ) (ps : Vec (ℕ × ℕ) Global) (p : ℕ × ℕ) → AskWithin n q → q ≡ variants.Pairs ps → i < length (asked_of q).questions → p ≡ get_or ps.items i p →

@@ -1,13 +1,12 @@
 -- What questions are solved to: a pair to its answer, and sources to best labels and their tree.
-use Rattle.std.specs.Prelude.{◌≡◌, ◌≢◌, ℕ, ◌<◌, List, [], ◌∷◌, length, get_or, Option, MatchOption, All, HoldsAt}
+use Rattle.std.specs.Prelude.{◌≡◌, ◌≢◌, ℕ, ◌<◌, List, length, get_or, Option, All, HoldsAt}
 use Rattle.road_graph.specs.GraphData.{GraphData}
-use Rattle.road_files.specs.Asked.{Asked, Question, BetweenPair, sources_of}
+use Rattle.road_files.specs.Asked.{Asked, Question, sources_of}
 use Rattle.road_files.specs.declared.questions.Kind.{Kind}
 use Rattle.road_files.specs.declared.questions.Kind.TheVariants.{Pairs}
 use Rattle.path_algebra.specs.Algebra.{Algebra}
-use Rattle.path_algebra.specs.Walks.{AreBest, IsBestCode, IsUnreached}
+use Rattle.path_algebra.specs.Walks.{AreBest}
 use Rattle.route_tree.specs.Tree.{Branches, IsTree}
-use Rattle.answer_text.specs.declared.answers.Answer.{Answer}
 use Rattle.answer_text.specs.AnswerData.{answer_data}
 use Rattle.answer_text.specs.IsAnswer.{IsAnswer}
 use Rattle.question_solvers.specs.declared.solved.Solved.{Solved}
@@ -28,14 +27,6 @@ IsSolution A g kind q (solved.Answer answer) = IsAnswer A g q (answer_data answe
 -- the question at a place is
 abbrev pub IsSolvedFor : {V : Type 0} → Algebra V → GraphData → Asked → ℕ → Solved V → Type 0
 IsSolvedFor A g asked i s = (d : Question) → IsSolution A g asked.kind (get_or asked.questions i d) s
-
--- the answer to a pair is right
-abbrev pub IsAnswerBetween : {V : Type 0} → Algebra V → GraphData → (source target : ℕ) → Answer → Type 0
-IsAnswerBetween A g s t answer = IsAnswer A g (BetweenPair s t) (answer_data answer)
-
--- the code of a pair's best value, and none if no walk has a value
-abbrev pub IsCodeBetween : {V : Type 0} → Algebra V → GraphData → (source target : ℕ) → Option ℕ → Type 0
-IsCodeBetween A g s t code = MatchOption code (IsUnreached A g (s ∷ []) t) (IsBestCode A g (s ∷ []) t)
 
 -- this was found for the question at a place, and solves it
 pub record IsSearchedAt {V : Type 0} (A : Algebra V) (g : GraphData) (asked : Asked) (i : ℕ) (s : Searched V) : Type 0 where

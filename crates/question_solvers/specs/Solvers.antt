@@ -8,19 +8,14 @@ use Rattle.path_algebra.specs.declared.algebra.PathAlgebra.{Ghosts}
 use Rattle.path_algebra.specs.Algebra.{Algebra}
 use Rattle.path_algebra.specs.Carried.{IsCarried}
 use Rattle.path_algebra.specs.Counted.{cost_of}
-use Rattle.path_plain.specs.Searcher.{SearcherState}
+pub use Rattle.route_tree.specs.Searchers.{IsSearcherOf}
 use Rattle.question_solvers.specs.Solved.{IsSearched}
 use Rattle.question_solvers.specs.declared.factor_solver.FactorSolver.{FactorSolver}
 use Rattle.question_solvers.specs.declared.pair_solver.PairSolver.{PairSolver}
 use Rattle.question_solvers.specs.declared.plain_solver.PlainSolver.{PlainSolver}
 use Rattle.question_solvers.specs.declared.solved.Solved.{Solved}
 
--- it searches this graph by this algebra
-pub record IsSearcherOf {S V : Type 0} (algebra : S) (g : GraphData) (s : SearcherState S V) : Type 0 where
-  pub by : s.algebra ≡ algebra
-  pub over : s.roads ≡ g
-
--- each of a pool does
+-- each of a pool searches this graph by this algebra
 abbrev pub IsPoolOf : {S V : Type 0} → S → GraphData → List (PairSolver S V) → Type 0
 IsPoolOf algebra g pool = All (λ s. IsSearcherOf algebra g s.searcher) pool
 

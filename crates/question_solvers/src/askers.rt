@@ -1,15 +1,14 @@
 //! Pairs that are asked of the factors of a graph, several side by side.
 ghost use Rattle.std.specs.Prelude.{◌≡◌, ◌<◌, ◌≤◌, length, All, IfOk};
-ghost use Rattle.road_graph.specs.GraphData.{GraphData, HasVertex};
+ghost use Rattle.road_graph.specs.GraphData.{GraphData};
 ghost use Rattle.path_algebra.specs.Algebra.{Algebra};
 ghost use Rattle.path_algebra.specs.Carried.{IsCarried};
 ghost use Rattle.path_algebra.specs.Counted.{cost_of};
 ghost use Rattle.road_files.specs.Asked.{Asked, AreQuestionsOf, asked_of};
 ghost use Rattle.road_files.specs.declared.questions.Kind.TheVariants.{Pairs};
-ghost use Rattle.question_solvers.specs.Solved.{IsAnswerBetween, IsSearched, IsSearchedAt, IsSolvedFor};
+ghost use Rattle.question_solvers.specs.Solved.{IsSearched, IsSearchedAt, IsSolvedFor};
 
 use crate::ahead::{join, take_at};
-use crate::pair::{answer_by, code_of};
 use crate::searched::{Searched, add};
 use crate::solved::Solved;
 use crate::task::Task;
@@ -18,7 +17,7 @@ use factor_routes::{RoadFactors, RouteAsker};
 use path_algebra::PathAlgebra;
 use rayon::prelude::*;
 use road_files::Questions;
-use road_graph::{InGraph, Memory, Vertex};
+use road_graph::{InGraph, Memory};
 use std::alloc::{AllocError, Global};
 use std::thread::Threads;
 
@@ -27,30 +26,6 @@ const MOST: usize = 256;
 
 /// How many it is made for at least, since its lists are as long as the graph has vertices.
 const LEAST: usize = 16;
-
-/// The answer to a pair, asked of the factors.
-fn answer_asked<A: PathAlgebra>(
-    alloc: Global,
-    algebra: A,
-    rows: &InGraph,
-    factors: &RoadFactors,
-    asker: &mut RouteAsker,
-    pair: (Vertex, Vertex),
-) -> Result<Answer, Memory>
-    requires rows { rows.now ≡ factors.now.roads }
-    requires carried { IsCarried (A.meaning algebra) (cost_of factors.now.algebra.cost) }
-    requires same { asker.old.factors ≡ factors.now }
-    requires source { HasVertex rows.now pair.0 }
-    requires target { HasVertex rows.now pair.1 }
-    ensures same { asker.new.factors ≡ asker.old.factors }
-    ensures answer { IfOk result (IsAnswerBetween (A.meaning algebra) rows.now pair.0 pair.1) }
-{
-    let (source, target) = pair;
-    factors.begin(asker, source);
-    let value = factors.best_value(algebra, asker, target)?;
-    let route = factors.route_from(alloc, algebra, rows, asker, (source, target))?;
-    Ok(answer_by(algebra, (source, target), code_of(algebra, value), route))
-}
 
 /// What the question at a place, a pair, is solved to.
 fn ask_at<A: PathAlgebra>(
@@ -77,10 +52,15 @@ fn ask_at<A: PathAlgebra>(
         unreachable!()
     };
     let (rows, factors) = roads;
-    let answer = answer_asked(alloc, algebra, rows, factors, asker, pairs[place])?;
+    let (source, target) = pairs[place];
+    let found = factors.find(alloc, algebra, rows, asker, (source, target))?;
     Ok(Searched {
         place,
-        solved: Solved::Answer(answer),
+        solved: Solved::Answer(Answer::Pair {
+            source,
+            target,
+            found,
+        }),
     })
 }
 

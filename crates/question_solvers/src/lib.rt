@@ -5,7 +5,6 @@ mod ahead;
 mod askers;
 mod factor_solver;
 mod factors;
-mod pair;
 mod pair_search;
 mod pair_solver;
 mod pairs;
@@ -18,7 +17,6 @@ mod task;
 
 pub use factor_solver::{FactorSolver, Factoring, Refusal};
 pub use factors::{factor, solve_next_by_factors, start_factors};
-pub use pair::{answer_by, code_at};
 pub use plain::{solve_next_plainly, start_plain};
 pub use plain_solver::PlainSolver;
 pub use solved::Solved;

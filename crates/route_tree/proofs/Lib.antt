@@ -4,7 +4,7 @@ mod OneVertex
 mod Marking
 pub mod Trees
 mod Chains
-mod Told
+pub mod Told
 mod Existing
 mod VisitingBack
 mod RegionTrees

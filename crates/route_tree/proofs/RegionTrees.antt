@@ -154,17 +154,14 @@ module _ (g : GraphData) (roads : IsGraph g) (test : ℕ → Bool) (source targe
           let k = within.3 in
           ((p.0, later.0), p.1, (within.0, within.1, within.2, omega (arith, k)), (p.2.0, p.2.1, omega (arith, m, n)))
 
-      pub same_route : (list : List ℕ) → IsRoute (record { hops = near; parents = adopted }) target list → IsRoute (record { hops = hops; parents = parents }) target list × (length list ≡ far + 1)
+      pub same_route : (list : List ℕ) → IsRoute (record { hops = near; parents = adopted }) target list → IsRoute (record { hops = hops; parents = parents }) target list
       same_route list r =
           let c = same_chain r.first r.rest r.chain in
           let at_first = c.3 in
           let n = at_first.2 in
           let le : at_first.0 + length r.rest ≤ far = omega (arith, n) in
           let z : 0 ≡ at_first.0 = same_some (label_of near r.first) 0 at_first.0 r.begins (same_hops r.first at_first.0 (length r.rest) c.1 at_first.1 c.2 le) in
-          let count = ap length r.is in (
-            record { first = r.first; rest = r.rest; is = r.is; begins = at_first.1 ∙ ap (λ (k : ℕ). Some k) (sym z); chain = c.0 },
-            omega (arith, n, z, count),
-          )
+          record { first = r.first; rest = r.rest; is = r.is; begins = at_first.1 ∙ ap (λ (k : ℕ). Some k) (sym z); chain = c.0 }
 
       pub same_at_target : label_of near target ≡ Some far
       same_at_target = same_hops target far 0 in_target at_target ([], refl, All-nil (λ a. IsTrue (test a)), omega arith) (omega arith)
@@ -206,13 +203,12 @@ module _ {V : Type 0} (A : Algebra V) (lawful : IsLawful A) (g : GraphData) (roa
       near_tails e) (tree.hops target in_target)
 
   pub route_told : (k : ℕ) (list : List ℕ) → label_of near target ≡ Some k → IsRoute (record { hops = near; parents = adopted }) target list →
-      AreHops A g (source ∷ []) target k × IsParentRoute A g (source ∷ []) target list × (length list ≡ k + 1)
+      AreHops A g (source ∷ []) target k × IsParentRoute A g (source ∷ []) target list
   route_told k list e r =
       let whole = least_exist g roads (is_tight A g labels) (source ∷ []) in_source in
       let tree = tree_is A lawful g roads (source ∷ []) in_s labels best whole.0 whole.2 whole.1 whole.3 in
       let hops = same_some_hops g roads (is_tight A g labels) source target in_target marks covers whole.0 whole.1 whole.2 whole.3 near adopted near_least near_tails k e in
       let route = same_route g roads (is_tight A g labels) source target in_target marks covers whole.0 whole.1 whole.2 whole.3 near adopted near_least near_tails k hops list r in (
         some_told (label_of whole.0 target) k hops (tree.hops target in_target),
-        route_is A g (source ∷ []) roads (record { hops = whole.0; parents = whole.1 }) tree target list in_target route.0,
-        route.1,
+        route_is A g (source ∷ []) roads (record { hops = whole.0; parents = whole.1 }) tree target list in_target route,
       )

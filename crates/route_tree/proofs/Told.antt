@@ -1,14 +1,15 @@
 -- What labels and a tree tell, and what a route is, in the words of walks.
 use Rattle.std.proofs.Common.{◌≡◌, ℕ, zero, suc, ◌+◌, ◌≤◌, ◌⊎◌, inl, inr, List, [], ◌∷◌, ◌++◌, length, refl, ap, sym, ◌∙◌, subst, arith, Option, Some, None}
 use Rattle.std.proofs.lemmas.List.{length-append}
-use Rattle.std.proofs.lemmas.List.Elements.{All-head, All-tail}
+use Rattle.std.proofs.lemmas.List.Elements.{All-nil, All-head, All-tail}
 use Rattle.std.specs.Prelude.{Contains, All, ◌↔◌}
 use Rattle.road_graph.specs.GraphData.{GraphData, IsGraph, HasVertex, arc_of}
-use Rattle.road_graph.proofs.Lists.{only_element}
+use Rattle.road_graph.proofs.Lists.{here, only_element}
 use Rattle.path_algebra.specs.Algebra.{Algebra}
 use Rattle.path_algebra.specs.Walks.{IsWalk, IsWalkValue, IsTight, IsBestLabel, AreBest, AreHops, IsParent, IsUnreached, label_of, IsParentChain}
 use Rattle.route_tree.specs.Tree.{Branches, hops_of, parent_of, AreHopsAt, IsParentAt, IsTree, IsChain, IsRoute}
 use Rattle.route_tree.specs.Told.{IsToldOf, IsParentRoute}
+use Rattle.route_tree.specs.Found.{FoundData, IsFoundBetween}
 
 module _ {V : Type 0} (A : Algebra V) (g : GraphData) (sources : List ℕ) where
   tight_end : (u : ℕ) (p : List ℕ) (v : ℕ) → IsWalk g u p v → All (IsTight A g sources) p → (u ≡ v) ⊎ ((x : V) × IsWalkValue A g sources v x)
@@ -134,3 +135,28 @@ pub from_one : {V : Type 0} (A : Algebra V) (g : GraphData) (s v : ℕ) (list : 
 from_one A g s v list r =
     let same = only_element s r.first r.begins in
     (r.rest, r.is ∙ ap (λ (x : ℕ). x ∷ r.rest) (sym same), subst (λ (x : ℕ). IsParentChain A g (s ∷ []) x r.rest v) (sym same) r.chain)
+
+module _ {V : Type 0} (A : Algebra V) (g : GraphData) (sources : List ℕ) where
+  pub one_hops : (v j k : ℕ) → AreHops A g sources v j → AreHops A g sources v k → j ≡ k
+  one_hops v j k p q = let low = p.least k q.attained in let high = q.least j p.attained in omega (arith, low, high)
+
+  -- along parents each vertex has one hop more than the one before
+  chain_hops : (u j : ℕ) (rest : List ℕ) (v k : ℕ) → AreHops A g sources u j → IsParentChain A g sources u rest v → AreHops A g sources v k → j + length rest ≡ k
+  chain_hops u j [] v k at_u same at_v =
+      let one = one_hops v j k (subst (λ (n : ℕ). AreHops A g sources n j) same at_u) at_v in omega (arith, one)
+  chain_hops u j (w ∷ rest) v k at_u chain at_v =
+      let near = chain.0.nearer in
+      let one = one_hops u near.4.0 j near.4.1 at_u in
+      let later = chain_hops w (near.4.0 + 1) rest v k near.4.2 chain.1 at_v in
+      omega (arith, one, later)
+
+-- a route has one vertex more than hops
+pub route_count : {V : Type 0} (A : Algebra V) (g : GraphData) (s t : ℕ) (f : FoundData) → IsFoundBetween A g s t f → length f.route ≡ f.hops + 1
+route_count A g s t f h =
+    let none : AreHops A g (s ∷ []) s 0 = record {
+      attained = ([], (s, here s [], refl), All-nil (IsTight A g (s ∷ [])), refl);
+      least = λ j _. omega arith;
+    } in
+    let count = chain_hops A g (s ∷ []) s 0 h.route.0 t f.hops none h.route.2 h.hops in
+    let whole = ap length h.route.1 in
+    omega (arith, count, whole)

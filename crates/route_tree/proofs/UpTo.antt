@@ -5,15 +5,17 @@ use Rattle.std.proofs.lemmas.List.Elements.{All-nil, All-cons, All-head, All-tai
 use Rattle.std.specs.Prelude.{IsTrue, Contains, All}
 use Rattle.road_graph.specs.GraphData.{GraphData, IsGraph, HasVertex, HasArc, arc_of}
 use Rattle.path_algebra.specs.Algebra.{Algebra, IsLawful}
-use Rattle.path_algebra.specs.Walks.{IsWalk, AreWalkValues, AreBest, AreHops, IsUnreached, IsBestLabel, label_of, is_marked, is_tight, is_tight_between, is_reached_by}
+use Rattle.path_algebra.specs.Walks.{IsWalk, AreWalkValues, AreBest, AreHops, IsBestCode, IsUnreached, IsBestLabel, label_of, is_marked, is_tight, is_tight_between, is_reached_by}
 use Rattle.path_algebra.proofs.Walks.{walk_value_is_value}
 use Rattle.path_algebra.proofs.Tight.{best_at, labelled}
 use Rattle.path_algebra.proofs.Least.{same_no_worse}
 use Rattle.path_plain.specs.UpTo.{AreBestUpTo}
 use Rattle.route_tree.specs.Levels.{IsWalkOf, IsLeastAt, AreLeast, IsTreeArc, IsLeastTail, AreLeastTails}
 use Rattle.route_tree.specs.Regions.{Covers, LeadTo, VisitingBack, is_tight_into}
-use Rattle.route_tree.specs.Told.{IsParentRoute, IsPairRoute, IsRouteIn}
-use Rattle.route_tree.specs.declared.routes.PairRoute.{PairRoute}
+use Rattle.route_tree.specs.Told.{IsParentRoute}
+use Rattle.route_tree.specs.Found.{IsFoundIn, IsPairFound}
+use Rattle.route_tree.specs.declared.found.Found.{Found}
+use Rattle.route_tree.proofs.Told.{from_one}
 use Rattle.route_tree.specs.Tree.{IsRoute}
 use Rattle.route_tree.proofs.RegionTrees.{no_route, route_told}
 
@@ -175,7 +177,7 @@ module _ {V : Type 0} (A : Algebra V) (lawful : IsLawful A) (g : GraphData) (roa
   no_route_up_to = no_route_by (label_of whole target) refl
 
   route_by : (l : Option V) → label_of whole target ≡ l → (k : ℕ) (list : List ℕ) → label_of near target ≡ Some k → IsRoute (record { hops = near; parents = adopted }) target list →
-      AreHops A g (source ∷ []) target k × IsParentRoute A g (source ∷ []) target list × (length list ≡ k + 1)
+      AreHops A g (source ∷ []) target k × IsParentRoute A g (source ∷ []) target list
   route_by None e =
       let none : IsUnreached A g (source ∷ []) target = subst (λ (l : Option V). IsBestLabel A g (source ∷ []) target l) e (best.best target in_target) in
       route_told A lawful g roads source target in_source in_s in_target labels (up.all none) marks covers near adopted near_least near_tails
@@ -188,10 +190,17 @@ module _ {V : Type 0} (A : Algebra V) (lawful : IsLawful A) (g : GraphData) (roa
       (least_agree g one two agree (source ∷ []) near near_least) (tails_agree g one two agree near adopted near_tails)
 
   pub route_told_up_to : (k : ℕ) (list : List ℕ) → label_of near target ≡ Some k → IsRoute (record { hops = near; parents = adopted }) target list →
-      AreHops A g (source ∷ []) target k × IsParentRoute A g (source ∷ []) target list × (length list ≡ k + 1)
+      AreHops A g (source ∷ []) target k × IsParentRoute A g (source ∷ []) target list
   route_told_up_to = route_by (label_of whole target) refl
 
-  -- the route of the held tree is that of the pair
-  pub pair_told_up_to : (found : Option PairRoute) → IsRouteIn (record { hops = near; parents = adopted }) target found → IsPairRoute A g source target found
-  pair_told_up_to None e = no_route_up_to e
-  pair_told_up_to (Some r) e = route_told_up_to r.hops r.vertices.items e.0 e.1
+  -- what the held tree shows of the target is what is found of the pair
+  pub pair_found_up_to : (code : ℕ) → IsBestCode A g (source ∷ []) target code → (found : Option Found) →
+      IsFoundIn (record { hops = near; parents = adopted }) code target found → IsPairFound A g source target found
+  pair_found_up_to code best_code None e = no_route_up_to e
+  pair_found_up_to code best_code (Some f) e =
+      let told = route_told_up_to f.hops f.route.items e.1 e.2 in
+      record {
+        code = subst (IsBestCode A g (source ∷ []) target) (sym e.0) best_code;
+        hops = told.0;
+        route = from_one A g source target f.route.items told.1;
+      }

@@ -1,8 +1,10 @@
 pub mod Slots
 pub mod Tree
 pub mod Told
+pub mod Found
 pub mod Levels
 pub mod Regions
 pub mod Blank
 pub mod BreadthFirst
 pub mod Backward
+pub mod Searchers

@@ -1,10 +1,8 @@
 -- What labels, trees and routes say of walks.
-use Rattle.std.specs.Prelude.{◌≡◌, ℕ, ◌+◌, List, [], ◌∷◌, length, Contains, Option, Some, None, MatchOption}
+use Rattle.std.specs.Prelude.{◌≡◌, ℕ, List, ◌∷◌, Contains, Option, Some, None}
 use Rattle.road_graph.specs.GraphData.{GraphData}
 use Rattle.path_algebra.specs.Algebra.{Algebra}
 use Rattle.path_algebra.specs.Walks.{IsBest, IsUnreached, AreHops, IsParent, IsParentChain}
-use Rattle.route_tree.specs.Tree.{Branches, IsRoute, hops_of}
-use Rattle.route_tree.specs.declared.routes.PairRoute.{PairRoute}
 
 -- a label, hops and a parent of v are its best value, its least hops and its least parent, or none of them if no walk to v has a value; a reached v has no parent exactly if it is a source
 abbrev pub IsToldOf : {V : Type 0} → Algebra V → GraphData → List ℕ → ℕ → Option V → Option ℕ → Option ℕ → Type 0
@@ -20,12 +18,3 @@ pub record IsParentRoute {V : Type 0} (A : Algebra V) (g : GraphData) (sources :
   pub is : list ≡ first ∷ rest
   pub begins : Contains sources first
   pub chain : IsParentChain A g sources first rest v
-
--- a route between two vertices has the least hops of its target, and its vertices by least parents; none if no walk to the target has a value
-abbrev pub IsPairRoute : {V : Type 0} → Algebra V → GraphData → ℕ → ℕ → Option PairRoute → Type 0
-IsPairRoute A g source target found = MatchOption found (IsUnreached A g (source ∷ []) target)
-    (λ r. AreHops A g (source ∷ []) target r.hops × IsParentRoute A g (source ∷ []) target r.vertices.items × (length r.vertices.items ≡ r.hops + 1))
-
--- the route to a vertex in a tree and its hops; none if it has no hops
-abbrev pub IsRouteIn : Branches → ℕ → Option PairRoute → Type 0
-IsRouteIn t v found = MatchOption found (hops_of t v ≡ None) (λ r. (hops_of t v ≡ Some r.hops) × IsRoute t v r.vertices.items)

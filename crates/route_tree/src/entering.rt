@@ -7,7 +7,7 @@ use road_graph::{Graph, InGraph, Memory, OutRoad, Vertex};
 use std::alloc::AllocError;
 
 /// A graph along whose arcs a search can go back.
-pub(crate) trait Entering {
+pub trait Entering {
     // The graph itself.
     ghost roads: { Self → GraphData };
 

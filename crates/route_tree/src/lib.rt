@@ -9,6 +9,7 @@
 mod backward;
 mod breadth_first;
 mod entering;
+mod found;
 mod hops_and_parents;
 mod laws;
 mod lists;
@@ -20,12 +21,12 @@ mod slot;
 mod tight_tree;
 mod tightness;
 
+pub use entering::Entering;
+pub use found::Found;
 pub use hops_and_parents::Tree;
 pub use laws::{hops_tell_reached, labels_and_trees_agree, routes_follow_parents, trees_exist};
 pub use pair_searcher::PairSearcher;
 pub use route_finder::RouteFinder;
-pub use routes::{
-    PairRoute, route, route_between, route_between_up_to, route_outgoing, route_outgoing_up_to,
-};
+pub use routes::{route, route_between};
 pub use slot::NumberSlot;
 pub use tight_tree::{tree, tree_outgoing};

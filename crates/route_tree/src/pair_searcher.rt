@@ -1,13 +1,12 @@
 //! Pairs of one graph, one after the other: what their searches use stays.
 
-ghost use Rattle.std.specs.Prelude.{◌≡◌, ◌↔◌, ◌∷◌, [], IfOk, IsTrue, None, OnOk, Some};
+ghost use Rattle.std.specs.Prelude.{◌≡◌, ◌↔◌, IfOk, IsTrue, None, OnOk, Some};
 ghost use Rattle.road_graph.specs.GraphData.{HasVertex};
-ghost use Rattle.path_algebra.specs.Walks.{IsBestLabel};
 ghost use Rattle.path_plain.specs.Searcher.{IsOfSameGraph};
-ghost use Rattle.route_tree.specs.Told.{IsPairRoute};
+ghost use Rattle.route_tree.specs.Found.{IsPairFound};
 
+use crate::found::Found;
 use crate::route_finder::RouteFinder;
-use crate::routes::PairRoute;
 use path_algebra::PathAlgebra;
 use path_plain::Searcher;
 use road_graph::{InGraph, Memory, OutGraph, Vertex};
@@ -68,22 +67,19 @@ impl<A: PathAlgebra> PairSearcher<A> {
         self.searcher.is_from(source)
     }
 
-    /// The best value of a pair's target over all walks from its source, and the route to it; neither if no walk has a
+    /// The best value of a pair's target over all walks from its source, and the route to it; none if no walk has a
     /// value. `rows` has the arcs of the graph by head. The only error is want of memory; after it the next call is right too.
     pub fn solve(
         &mut self,
         graph: &OutGraph,
         rows: &InGraph,
         pair: (Vertex, Vertex),
-    ) -> Result<(Option<A::Value>, Option<PairRoute>), Memory>
+    ) -> Result<Option<Found>, Memory>
         requires graph { graph.now ≡ self.old.roads }
         requires rows { rows.now ≡ graph.now }
         requires source { HasVertex graph.now pair.0 }
         requires target { HasVertex graph.now pair.1 }
-        ensures value { IfOk result (λ found. IsBestLabel (A.meaning self.old.algebra) graph.now
-            (pair.0 ∷ []) pair.1 found.0) }
-        ensures route { IfOk result (λ found. IsPairRoute (A.meaning self.old.algebra) graph.now
-            pair.0 pair.1 found.1) }
+        ensures found { IfOk result (IsPairFound (A.meaning self.old.algebra) graph.now pair.0 pair.1) }
         ensures source { OnOk result (self.new.source ≡ Some pair.0) }
         ensures same { IsOfSameGraph self.old self.new }
     {
@@ -91,9 +87,7 @@ impl<A: PathAlgebra> PairSearcher<A> {
         let algebra = self.searcher.algebra();
         self.searcher.solve_to(graph, source, target)?;
         let labels = self.searcher.labels();
-        let route = self
-            .finder
-            .route(algebra, graph, rows, labels, source, target)?;
-        Ok((labels.of(target), route))
+        self.finder
+            .route(algebra, graph, rows, labels, source, target)
     }
 }

@@ -3,17 +3,18 @@
 ghost use Rattle.std.specs.Prelude.{◌≡◌, ◌∷◌, [], IfOk};
 ghost use Rattle.road_graph.specs.GraphData.{HasVertex};
 ghost use Rattle.path_plain.specs.UpTo.{AreBestUpTo};
-ghost use Rattle.route_tree.specs.Told.{IsPairRoute};
+ghost use Rattle.route_tree.specs.Found.{IsPairFound};
 
 use crate::backward::marks_back;
 use crate::entering::Entering;
+use crate::found::Found;
 use crate::lists::Lists;
 use crate::region::Region;
-use crate::routes::{PairRoute, pair_route};
+use crate::routes::found_in;
 use crate::tight_tree::tree_into;
 use path_algebra::{Labels, PathAlgebra, laws_hold};
 use path_plain::best_values_exist;
-use road_graph::{Graph, InGraph, Memory, OutGraph, Vertex};
+use road_graph::{Memory, OutGraph, Vertex};
 use std::alloc::Global;
 use std::marker::Model;
 
@@ -61,8 +62,11 @@ impl RouteFinder {
         }
     }
 
-    /// The route from a source to a target, in a graph with its arcs by tail; `back` is the same graph, searched by head.
-    fn route_in<A: PathAlgebra, G: Entering>(
+    /// The best value of a target and the route to it, for labels that are best up to the target; none if no walk has a value.
+    /// `back` is the same graph, for steps back along its arcs. The only error is `Memory`; after it the next call is right too.
+    ///
+    /// The route is that of the whole tree: a walk of tight arcs to the target passes only vertices whose labels are best.
+    pub fn route<A: PathAlgebra, G: Entering>(
         &mut self,
         algebra: A,
         graph: &OutGraph,
@@ -70,66 +74,28 @@ impl RouteFinder {
         labels: &Labels<A::Value>,
         source: Vertex,
         target: Vertex,
-    ) -> Result<Option<PairRoute>, Memory>
+    ) -> Result<Option<Found>, Memory>
         requires count { graph.now.vertices ≡ self.old }
         requires back { G.roads back.now ≡ graph.now }
         requires source { HasVertex graph.now source }
         requires target { HasVertex graph.now target }
         requires labels { AreBestUpTo (A.meaning algebra) graph.now (source ∷ []) target labels.now }
-        ensures route { IfOk result (IsPairRoute (A.meaning algebra) graph.now source target) }
+        ensures found { IfOk result (IsPairFound (A.meaning algebra) graph.now source target) }
         ensures same { self.new ≡ self.old }
     {
         laws_hold(algebra);
         best_values_exist(algebra);
         graph.holds();
+        let Some(value) = labels.of(target) else {
+            return Ok(None);
+        };
         let alloc = self.alloc;
         let (marks, blank) = self.take_lists()?.into_parts();
         let (marks, found) = marks_back(alloc, algebra, back, labels, source, target, marks)?;
         let region = Region::marked(marks);
         let tree = tree_into(alloc, algebra, graph, labels, &region, &[source], blank)?;
-        let route = pair_route(alloc, &tree, target)?;
+        let pair = found_in(alloc, &tree, algebra.code(value), target)?;
         self.lists = Some(Lists::put_back(region.into_marks(), tree, found.as_slice()));
-        Ok(route)
-    }
-
-    /// The route from a source to a target, for labels that are best up to the target; none if no walk has a value.
-    /// `back` has the arcs of the graph by head. The only error is `Memory`; after it the next call is right too.
-    pub fn route<A: PathAlgebra>(
-        &mut self,
-        algebra: A,
-        graph: &OutGraph,
-        back: &InGraph,
-        labels: &Labels<A::Value>,
-        source: Vertex,
-        target: Vertex,
-    ) -> Result<Option<PairRoute>, Memory>
-        requires count { graph.now.vertices ≡ self.old }
-        requires back { back.now ≡ graph.now }
-        requires source { HasVertex graph.now source }
-        requires target { HasVertex graph.now target }
-        requires labels { AreBestUpTo (A.meaning algebra) graph.now (source ∷ []) target labels.now }
-        ensures route { IfOk result (IsPairRoute (A.meaning algebra) graph.now source target) }
-        ensures same { self.new ≡ self.old }
-    {
-        self.route_in(algebra, graph, back, labels, source, target)
-    }
-
-    /// The same, in a graph that has its arcs by number and by head too.
-    pub fn route_between<A: PathAlgebra>(
-        &mut self,
-        algebra: A,
-        graph: &Graph,
-        labels: &Labels<A::Value>,
-        source: Vertex,
-        target: Vertex,
-    ) -> Result<Option<PairRoute>, Memory>
-        requires count { graph.now.vertices ≡ self.old }
-        requires source { HasVertex graph.now source }
-        requires target { HasVertex graph.now target }
-        requires labels { AreBestUpTo (A.meaning algebra) graph.now (source ∷ []) target labels.now }
-        ensures route { IfOk result (IsPairRoute (A.meaning algebra) graph.now source target) }
-        ensures same { self.new ≡ self.old }
-    {
-        self.route_in(algebra, graph.outgoing(), graph, labels, source, target)
+        Ok(pair)
     }
 }

@@ -3,14 +3,14 @@
 ghost use Rattle.std.specs.Prelude.{◌≡◌, ◌≤◌, [], ◌∷◌, ◌++◌, length, IfOk, OnErr, OnOk, None, MatchOption};
 ghost use Rattle.road_graph.specs.GraphData.{HasVertex};
 ghost use Rattle.path_algebra.specs.Walks.{AreBest};
-ghost use Rattle.path_plain.specs.UpTo.{AreBestUpTo};
-ghost use Rattle.route_tree.specs.Told.{IsPairRoute, IsRouteIn};
+ghost use Rattle.route_tree.specs.Found.{IsFoundIn, IsPairFound};
 ghost use Rattle.route_tree.specs.Tree.{IsRoute, hops_of};
 
+use crate::found::Found;
 use crate::hops_and_parents::Tree;
 use crate::route_finder::RouteFinder;
 use path_algebra::{Labels, PathAlgebra, laws_hold};
-use road_graph::{Graph, InGraph, Memory, OutGraph, Vertex};
+use road_graph::{Graph, Memory, Vertex};
 use std::alloc::{AllocError, Global};
 
 /// Puts a vertex at the end of a list.
@@ -45,39 +45,31 @@ pub fn route(alloc: Global, tree: &Tree, target: Vertex) -> Result<Option<Vec<Ve
     Ok(Some(list))
 }
 
-/// A route, and how many arcs it goes along.
-#[derive(Drop)]
-pub struct PairRoute {
-    /// The least hops of its target.
-    pub hops: u32,
-    /// From the source on, each vertex is the least parent of the next.
-    pub vertices: Vec<Vertex>,
-}
-
-/// The route to a target in a tree, and its hops; none if the target has no hops.
-pub(crate) fn pair_route(
+/// What a tree shows of a target whose best value has this code; none if the target has no hops.
+pub(crate) fn found_in(
     alloc: Global,
     tree: &Tree,
+    code: u64,
     target: Vertex,
-) -> Result<Option<PairRoute>, Memory>
+) -> Result<Option<Found>, Memory>
     requires low { 1 ≤ target }
     requires high { target ≤ length tree.now.hops }
-    ensures { IfOk result (IsRouteIn tree.now target) }
+    ensures { IfOk result (IsFoundIn tree.now code target) }
 {
     tree.holds();
     let Some(hops) = tree.hops(target) else {
         return Ok(None);
     };
-    let Some(vertices) = route(alloc, tree, target)? else {
+    let Some(route) = route(alloc, tree, target)? else {
         return Ok(None);
     };
-    Ok(Some(PairRoute { hops, vertices }))
+    Ok(Some(Found { code, hops, route }))
 }
 
-/// The route from a source to a target, for labels that are best from that source; none if no walk has a value.
+/// The best value of a target and the route to it, for labels that are best from the source; none if no walk has a value.
 /// The only error is `Memory`.
 ///
-/// It is the route of the whole tree, but only vertices with a walk of tight arcs to the target are looked at, and no
+/// The route is that of the whole tree, but only vertices with a walk of tight arcs to the target are looked at, and no
 /// further back than the source.
 pub fn route_between<A: PathAlgebra>(
     alloc: Global,
@@ -86,74 +78,14 @@ pub fn route_between<A: PathAlgebra>(
     source: Vertex,
     target: Vertex,
     labels: &Labels<A::Value>,
-) -> Result<Option<PairRoute>, Memory>
+) -> Result<Option<Found>, Memory>
     requires source { HasVertex graph.now source }
     requires target { HasVertex graph.now target }
     requires labels { AreBest (A.meaning algebra) graph.now (source ∷ []) labels.now }
-    ensures { IfOk result (IsPairRoute (A.meaning algebra) graph.now source target) }
+    ensures { IfOk result (IsPairFound (A.meaning algebra) graph.now source target) }
 {
     laws_hold(algebra);
     graph.holds();
-    route_between_up_to(alloc, algebra, graph, source, target, labels)
-}
-
-/// The same, in a graph that has its arcs by tail alone, with `back`, which has them by head.
-pub fn route_outgoing<A: PathAlgebra>(
-    alloc: Global,
-    algebra: A,
-    graph: &OutGraph,
-    back: &InGraph,
-    source: Vertex,
-    target: Vertex,
-    labels: &Labels<A::Value>,
-) -> Result<Option<PairRoute>, Memory>
-    requires back { back.now ≡ graph.now }
-    requires source { HasVertex graph.now source }
-    requires target { HasVertex graph.now target }
-    requires labels { AreBest (A.meaning algebra) graph.now (source ∷ []) labels.now }
-    ensures { IfOk result (IsPairRoute (A.meaning algebra) graph.now source target) }
-{
-    laws_hold(algebra);
-    graph.holds();
-    route_outgoing_up_to(alloc, algebra, graph, back, source, target, labels)
-}
-
-/// The route from a source to a target, for labels that are best up to the target, as a search gives them that stops there.
-///
-/// It is the route of the whole tree: a walk of tight arcs to the target passes only vertices whose labels are best.
-pub fn route_between_up_to<A: PathAlgebra>(
-    alloc: Global,
-    algebra: A,
-    graph: &Graph,
-    source: Vertex,
-    target: Vertex,
-    labels: &Labels<A::Value>,
-) -> Result<Option<PairRoute>, Memory>
-    requires source { HasVertex graph.now source }
-    requires target { HasVertex graph.now target }
-    requires labels { AreBestUpTo (A.meaning algebra) graph.now (source ∷ []) target labels.now }
-    ensures { IfOk result (IsPairRoute (A.meaning algebra) graph.now source target) }
-{
     let mut finder = RouteFinder::new(alloc, graph.vertices());
-    finder.route_between(algebra, graph, labels, source, target)
-}
-
-/// The same, in a graph that has its arcs by tail alone, with `back`, which has them by head.
-pub fn route_outgoing_up_to<A: PathAlgebra>(
-    alloc: Global,
-    algebra: A,
-    graph: &OutGraph,
-    back: &InGraph,
-    source: Vertex,
-    target: Vertex,
-    labels: &Labels<A::Value>,
-) -> Result<Option<PairRoute>, Memory>
-    requires back { back.now ≡ graph.now }
-    requires source { HasVertex graph.now source }
-    requires target { HasVertex graph.now target }
-    requires labels { AreBestUpTo (A.meaning algebra) graph.now (source ∷ []) target labels.now }
-    ensures { IfOk result (IsPairRoute (A.meaning algebra) graph.now source target) }
-{
-    let mut finder = RouteFinder::new(alloc, graph.vertices());
-    finder.route(algebra, graph, back, labels, source, target)
+    finder.route(algebra, graph.outgoing(), graph, labels, source, target)
 }

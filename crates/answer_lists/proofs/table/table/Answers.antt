@@ -1,5 +1,7 @@
 use Rattle.std.proofs.Common.{rules, ◌≡◌, ◌+◌, ◌++◌, ◌<◌, List, ℕ, length, get_or, take, refl, ap, ◌∙◌, subst, sym}
+use Rattle.std.specs.Prelude.{IfSome}
 use Rattle.road_graph.specs.GraphData.{GraphData}
+use Rattle.route_tree.specs.Searchers.{IsSearcherOf}
 use Rattle.answer_lists.specs.Table.{AreTableCodes}
 use Rattle.answer_lists.proofs.Tabling.{table_more}
 use Rattle.answer_lists.proofs.table.table.Goals as goal
@@ -14,6 +16,7 @@ loop-source-preserved g c =
     c.loop-source.invariant.table c.in_ok-row.ensures.row in
     record {
       same = c.row.ensures.graph ∙ c.loop-source.invariant.same;
+      kept = subst (λ (x : GraphData). IfSome c.row.new.kept (IsSearcherOf a.algebra x)) (sym c.row.ensures.graph) c.in_ok-row.ensures.kept;
       table = subst (λ (x : GraphData). AreTableCodes A x (take (i + 1) a.sources.now) a.targets.now c.extend_from_slice.new.self.items) (sym c.row.ensures.graph)
           (subst (AreTableCodes A c.loop-source.shared (take (i + 1) a.sources.now) a.targets.now) (sym joined) more);
     }

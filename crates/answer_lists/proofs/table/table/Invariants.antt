@@ -1,9 +1,12 @@
 use Rattle.std.proofs.Common.{take, ◌≡◌}
+use Rattle.std.specs.Prelude.{IfSome}
+use Rattle.route_tree.specs.Searchers.{IsSearcherOf}
 use Rattle.answer_lists.specs.Table.{AreTableCodes}
 use Rattle.answer_lists.proofs.table.table.Given as goal
 
 abbrev pub invariant-loop-source : goal.invariant-loop-source
 invariant-loop-source g l = record {
   same : l.shared ≡ l.initial.shared;
+  kept : IfSome l.kept (IsSearcherOf l.algebra l.shared);
   table : AreTableCodes (g.A.PathAlgebra.meaning l.algebra) l.shared (take l.source-index l.sources) l.targets l.codes.items;
 }

@@ -2,6 +2,6 @@ use Rattle.std.proofs.Common.{[], ◌∷◌}
 use Rattle.path_plain.proofs.UpTo.{best_up_to}
 use Rattle.route_tree.proofs.routes.route_between.Goals as goal
 
-pub route_between_up_to-requires-clause-labels : goal.route_between_up_to-requires-clause-labels
-route_between_up_to-requires-clause-labels g c κs within =
-    best_up_to (g.A.PathAlgebra.meaning c.args.algebra) c.laws_hold.ensures.lawful c.args.graph.now c.holds.ensures (c.args.source ∷ []) c.args.target c.requires.target c.args.labels.now c.requires.labels
+pub route-requires-clause-labels : goal.route-requires-clause-labels
+route-requires-clause-labels g c κs within =
+    rw c.outgoing.ensures (best_up_to (g.A.PathAlgebra.meaning c.args.algebra) c.laws_hold.ensures.lawful c.args.graph.now c.holds.ensures (c.args.source ∷ []) c.args.target c.requires.target c.args.labels.now c.requires.labels)

@@ -1,6 +1,7 @@
 use Rattle.std.proofs.Common.{rules, subst}
-use Rattle.route_tree.specs.Told.{IsPairRoute}
+use Rattle.std.specs.Prelude.{IfOk}
+use Rattle.route_tree.specs.Found.{IsPairFound}
 use Rattle.route_tree.proofs.pair_searcher.PairSearcher.solve.Goals as goal
 
-pub returns-clause-route : goal.returns-clause-route
-returns-clause-route g c = subst (λ (a : g.row.A.Denot). IsPairRoute (g.A.PathAlgebra.meaning a) c.args.graph.now c.args.pair.0 c.args.pair.1 c.in_ok-route.route) (search rules) c.in_ok-route.ensures.route
+pub returns-clause-found : goal.returns-clause-found
+returns-clause-found g c = subst (λ (a : g.row.A.Denot). IfOk c.route.result (IsPairFound (g.A.PathAlgebra.meaning a) c.args.graph.now c.args.pair.0 c.args.pair.1)) (search rules) c.route.ensures.found

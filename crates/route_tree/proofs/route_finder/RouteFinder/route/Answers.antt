@@ -1,12 +1,12 @@
-use Rattle.std.proofs.Common.{◌≡◌, ◌∷◌, [], ◌∙◌, ap, sym, length, arith}
+use Rattle.std.proofs.Common.{◌≡◌, ◌∷◌, [], ◌∙◌, ap, sym, subst, length, arith}
 use Rattle.std.proofs.lemmas.List.Elements.{All-nil, All-cons}
 use Rattle.road_graph.specs.GraphData.{HasVertex}
 use Rattle.path_algebra.proofs.Walks.{all_inside}
-use Rattle.path_algebra.specs.Walks.{is_tight}
+use Rattle.path_algebra.specs.Walks.{IsBest, IsBestLabel, is_tight}
 use Rattle.route_tree.specs.Blank.{AreFound}
 use Rattle.route_tree.proofs.Blank.{same_region, marks_blank, hops_blank, parents_blank}
-use Rattle.route_tree.proofs.UpTo.{pair_told_up_to}
-use Rattle.route_tree.proofs.route_finder.RouteFinder.route_in.Goals as goal
+use Rattle.route_tree.proofs.UpTo.{pair_found_up_to}
+use Rattle.route_tree.proofs.route_finder.RouteFinder.route.Goals as goal
 
 pub put_back-requires-clause-marks : goal.put_back-requires-clause-marks
 put_back-requires-clause-marks g c =
@@ -55,13 +55,21 @@ invariant_of-self g c =
     let long = ap length same in
     omega (arith, c.put_back.ensures, long, count, c.requires.count, c.take_lists.ensures.same, c.self-2.view_is)
 
-pub returns-clause-route : goal.returns-clause-route
-returns-clause-route g c =
+pub returns-in_default-clause-found : goal.returns-in_default-clause-found
+returns-in_default-clause-found g c =
+    subst (IsBestLabel (g.A.PathAlgebra.meaning c.args.algebra) c.args.graph.now (c.args.source ∷ []) c.args.target) (sym c.of.ensures ∙ c.in_default.is) c.requires.labels.at_target
+
+pub returns-clause-found : goal.returns-clause-found
+returns-clause-found g c =
+    let A = g.A.PathAlgebra.meaning c.args.algebra in
     let G = c.args.graph.now in
+    let sources = c.args.source ∷ [] in
     let inside = All-cons (HasVertex G) c.args.source [] c.requires.source (All-nil (HasVertex G)) in
-    let whole = c.best_values_exist.ensures G c.holds.ensures (c.args.source ∷ []) inside in
-    pair_told_up_to (g.A.PathAlgebra.meaning c.args.algebra) c.laws_hold.ensures.lawful G c.holds.ensures c.args.source c.args.target inside (all_inside G (c.args.source ∷ []) inside) c.requires.target
+    let whole = c.best_values_exist.ensures G c.holds.ensures sources inside in
+    let best : IsBest A G sources c.args.target c.in-Some.value =
+    subst (IsBestLabel A G sources c.args.target) (sym c.of.ensures ∙ c.in-Some.is) c.requires.labels.at_target in
+    pair_found_up_to A c.laws_hold.ensures.lawful G c.holds.ensures c.args.source c.args.target inside (all_inside G sources inside) c.requires.target
     whole.0 whole.1 c.args.labels.now c.requires.labels c.in_ok-marks.marks.items (rw c.requires.back at c.in_ok-marks.ensures.covers)
     (rw c.requires.back at c.in_ok-marks.ensures.lead)
     c.in_ok-tree.tree.hops c.in_ok-tree.tree.parents (rw (c.marked-region.ensures) at c.in_ok-tree.ensures.hops) (rw (c.marked-region.ensures) at c.in_ok-tree.ensures.parents)
-    c.in_ok-route.route c.in_ok-route.ensures
+    c.code.result (c.in-Some.value, best, c.code.ensures) c.in_ok-pair.pair c.in_ok-pair.ensures

@@ -1,0 +1,10 @@
+use Rattle.std.proofs.Common.{take}
+use Rattle.route_tree.specs.Searchers.{IsSearcherOf}
+use Rattle.answer_lists.specs.Table.{AreRowCodes}
+use Rattle.answer_lists.proofs.table.searched_row.Given as goal
+
+abbrev pub invariant-loop-target : goal.invariant-loop-target
+invariant-loop-target g l = record {
+  searcher : IsSearcherOf l.algebra l.graph l.searcher;
+  row : AreRowCodes (g.A.PathAlgebra.meaning l.algebra) l.graph (take l.target-index l.targets) l.fn.source l.row.items;
+}

@@ -54,6 +54,7 @@ impl RequestParser {
         ensures vertices { result.questions.list.vertices ≡ vertices }
         ensures any { result.questions.only ≡ None }
         ensures ready { RequestSoFar result [] }
+        ensures fresh { result.refused ≡ false }
     {
         RequestParser {
             questions: QuestionParser::new(alloc, vertices, None),
@@ -153,6 +154,7 @@ impl RequestParser {
             (record { ended = ended_of result; next = parser_state self.new }) }
         ensures fit { EndFits self.old.questions.list.vertices result.ended }
         ensures ready { RequestSoFar self.new [] }
+        ensures fresh { self.new.refused ≡ false }
         ensures vertices { self.new.questions.list.vertices ≡ self.old.questions.list.vertices }
         ensures any { self.new.questions.only ≡ None }
     {

@@ -17,4 +17,5 @@ pub mod Opened
 mod Closing
 pub mod Carrying
 mod Quiet
-mod Still
+mod Shown
+pub mod Still

@@ -73,7 +73,7 @@ module _ {S V : Type 0} (meaning : S → Algebra V) (t : SetupData S) (s : State
       elim (cases_eq w empty) [ inl e ↦ inl e | inr ne ↦ inr (omega (arith, low, nf, nr, ne)) ]
 
   -- each shard's part has a view
-  record Found (j : ℕ) : Type 0 where
+  pub record Found (j : ℕ) : Type 0 where
     pub id : ℕ
     pub v : View S V
     pub p : PartData S V
@@ -92,7 +92,7 @@ module _ {S V : Type 0} (meaning : S → Algebra V) (t : SetupData S) (s : State
     reads = rests.next_read;
   }
 
-  find : (j : ℕ) → j < n → Found j
+  pub find : (j : ℕ) → j < n → Found j
   find j lt =
       let f : PartData S V → ℕ = λ p. is j p.shard in
       let one = r.whole j lt in let sum = flat_total f s.views in

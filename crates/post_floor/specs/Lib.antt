@@ -5,3 +5,4 @@ pub mod Claims
 pub mod Seats
 pub mod Data
 pub mod Closing
+pub mod Hints

@@ -1,17 +1,18 @@
 //! The floor of a diffusion: opened, used by seats step by step, and closed.
-ghost use Rattle.std.specs.Prelude.{◌≡◌, ◌≢◌, true, ◌<◌, map, IfOk, IfErr, IfSome, IsTrue};
+ghost use Rattle.std.specs.Prelude.{◌≡◌, ◌≢◌, ⊤, ℕ, true, ◌<◌, map, IfOk, IfErr, IfSome, IsTrue, Some};
 ghost use Rattle.shard_part.specs.Readings.{has_ended};
 ghost use Rattle.shard_part.specs.Weights.{All};
 ghost use Rattle.post_floor.specs.Boxes.{box_count};
 ghost use Rattle.post_floor.specs.Closing.{AllSeated, IsClosed};
 ghost use Rattle.post_floor.specs.Data.{IsAt, IsFresh, IsSameSeat, fill_box, read_box, seat_of};
 ghost use Rattle.post_floor.specs.Floor.{fill_claims, read_claims};
+ghost use Rattle.post_floor.specs.Hints.{IsLimit};
 ghost use Rattle.post_floor.specs.Plays.{FillOutcome, PublishOutcome, ReadOutcome, ClearOutcome, LookOutcome, published_to};
 
 use crate::claims::rotate_to;
 use crate::close::{Closed, all_seated, free, join_all, pass_of};
 use crate::exchange::{publish_batch, read_batch};
-use crate::hints::{Hints, Limit};
+use crate::hints::{Hints, Limit, limit_by};
 use crate::mailbox::{DONE, EMPTY, mailbox_count, next_slot, word_of};
 use crate::open::{batches, seat_all};
 use crate::seat::Seat;
@@ -82,23 +83,39 @@ impl<A: PathAlgebra> Floor<A> {
         ))
     }
 
-    /// From now on a shard takes no message that is worse than the best value that another one advertises, extended by an arc of this weight.
+    /// From now on a shard takes no message that is worse than the best value that another one advertises, or that waits for another one there, extended by an arc
+    /// of this weight.
     pub fn hold_back(&mut self, ahead: u32)
         ensures { self.new ≡ self.old }
     {
         self.hints.hold_back(ahead);
     }
 
-    /// How far a part may run ahead now, if shards are held back and another one advertises a value.
+    /// How far a part may run ahead now, if shards are held back and another one advertises a value. Of what they advertise nothing is promised.
     pub fn limit(&self, part: &Part<'_, A>) -> Option<Limit<A::Value>>
-        ensures { IfSome result (λ l. IsTrue (A.order l.best l.value)) }
+        ensures order { IfSome result (λ l. IsTrue (A.order l.best l.value)) }
+        ensures limit { IfSome result (λ l. (ahead : ℕ) ×
+            IsLimit (A.meaning part.now.setup.diffusion.algebra) (λ _ _. ⊤) self.now.setup.plan.shards
+            part.now.shard ahead (Some l)) }
     {
-        self.hints.limit(part.algebra(), part.shard())
+        let ahead = self.hints.ahead()?;
+        limit_by(
+            &self.hints,
+            part.algebra(),
+            part.shard(),
+            self.shards as u8,
+            ahead,
+        )
+    }
+
+    /// By what weight a part may run ahead of what it has sent, if shards are held back.
+    pub fn ahead(&self) -> Option<u32> {
+        self.hints.ahead()
     }
 
     /// Advertises the best value that waits at a part, if shards are held back.
     pub fn advertise(&self, part: &Part<'_, A>) {
-        if self.hints.holds_back() {
+        if self.hints.ahead().is_some() {
             self.hints
                 .advertise(part.algebra(), part.shard(), part.best_waiting());
         }
@@ -140,9 +157,23 @@ impl<A: PathAlgebra> Floor<A> {
         let slot = seat.next_fill[at];
         let word = word_of(shards, seat.own, to, slot);
         rotate_to(&mut seat.pass, &mut seat.claims, word);
+        let sent = self.best_to_send(part, to);
         publish_batch(&self.table.shared, &mut seat.pass, part, to, word);
         seat.claims.pop_front();
         seat.next_fill[at] = next_slot(slot);
+        if let Some(sent) = sent {
+            self.hints.lower(part.algebra(), to, sent);
+        }
+    }
+
+    /// The best value in an outbox, if shards are held back.
+    fn best_to_send(&self, part: &Part<'_, A>, to: Shard) -> Option<A::Value>
+        requires { to < part.now.setup.plan.shards }
+    {
+        if self.hints.ahead().is_none() {
+            return None;
+        }
+        part.best_outgoing(to)
     }
 
     /// Whether the next mailbox from a shard is full. If so, its batch goes into the queue, and the seat reads it.

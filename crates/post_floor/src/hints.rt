@@ -1,5 +1,7 @@
-//! What each shard advertises to the others of the best value that waits there. No promise rests on it.
-ghost use Rattle.std.specs.Prelude.{◌≡◌, IsTrue, IfSome};
+//! What each shard advertises to the others of the best value that waits for it, and how far they may run ahead of it.
+ghost use Rattle.std.specs.Prelude.{◌≡◌, ⊤, ℕ, ◌≢◌, IsTrue, IfSome, IfNone, None, Some};
+ghost use Rattle.path_algebra.specs.Walks.{better_label};
+ghost use Rattle.post_floor.specs.Hints.{StandsFor, IsShown, IsBestShown, IsLimit};
 
 use crossbeam_utils::CachePadded;
 use path_algebra::{PathAlgebra, laws_hold};
@@ -7,8 +9,11 @@ use shard_part::Shard;
 use std::alloc::{AllocError, Global};
 use std::sync::atomic::{AtomicU64, Ordering};
 
-/// Nothing waits, or nothing was advertised yet.
+/// The code that stands for no value: nothing waits, or nothing was advertised yet.
 const NOTHING: u64 = u64::MAX;
+
+/// How often it is tried to lower a word that others write at the same time.
+const TRIES: u32 = 4;
 
 /// How far a shard may run ahead of the others.
 #[derive(Clone, Copy)]
@@ -19,11 +24,32 @@ pub struct Limit<V> {
     pub value: V,
 }
 
+/// Shows of each shard the best value that waits for it, by its code: a hint, which may be late.
+pub trait HintSource {
+    /// The codes that it may show of the shard of this number.
+    ghost may_show: { Self → ℕ → ℕ → Type 0 };
+
+    /// The code of the best value that waits for a shard, or `u64::MAX` if there is none.
+    fn shown(&self, shard: Shard) -> u64
+        ensures { may_show self.now shard result };
+}
+
 /// A word for each shard, on a cache line of its own, with the code of the best value that waits there, and by what weight a shard may run ahead.
 #[derive(Drop)]
 pub(crate) struct Hints {
     words: Vec<CachePadded<AtomicU64>>,
     ahead: Option<u32>,
+}
+
+impl HintSource for Hints {
+    ghost may_show = { λ _ _ _. ⊤ };
+
+    fn shown(&self, shard: Shard) -> u64 {
+        match self.words.get(shard.0 as usize) {
+            Some(word) => word.load(Ordering::Relaxed),
+            None => NOTHING,
+        }
+    }
 }
 
 impl Hints {
@@ -41,9 +67,9 @@ impl Hints {
         self.ahead = Some(ahead);
     }
 
-    /// Whether shards are held back.
-    pub(crate) fn holds_back(&self) -> bool {
-        self.ahead.is_some()
+    /// By what weight a shard may run ahead, if shards are held back.
+    pub(crate) fn ahead(&self) -> Option<u32> {
+        self.ahead
     }
 
     /// Advertises the best value that waits at a shard.
@@ -57,54 +83,116 @@ impl Hints {
         }
     }
 
-    /// The best value that another shard advertises.
-    fn best_of_others<A: PathAlgebra>(&self, algebra: A, own: Shard) -> Option<A::Value>
-        ensures { IfSome result (λ x. IsTrue ((A.meaning algebra).is_value x)) }
-    {
-        let mut best = None;
-        for shard in 0..self.words.len() {
-            if shard != own.0 as usize {
-                let code = self.words[shard].load(Ordering::Relaxed);
-                best = better(algebra, best, code);
+    /// Advertises at a shard the best value that was sent to it, unless what it advertises is no worse. At its next turn it advertises what waits there again.
+    pub(crate) fn lower<A: PathAlgebra>(&self, algebra: A, to: Shard, sent: A::Value) {
+        if let Some(word) = self.words.get(to.0 as usize) {
+            for _ in 0..TRIES {
+                let code = word.load(Ordering::Relaxed);
+                if is_as_good(algebra, code, sent) {
+                    return;
+                }
+                let lowered = algebra.code(sent);
+                if word
+                    .compare_exchange(code, lowered, Ordering::Relaxed, Ordering::Relaxed)
+                    .is_ok()
+                {
+                    return;
+                }
             }
         }
-        best
     }
+}
 
-    /// How far a shard may run ahead now, if shards are held back and another one advertises a value.
-    pub(crate) fn limit<A: PathAlgebra>(&self, algebra: A, own: Shard) -> Option<Limit<A::Value>>
-        ensures { IfSome result (λ l. IsTrue (A.order l.best l.value)) }
-    {
-        let ahead = self.ahead?;
-        let best = self.best_of_others(algebra, own)?;
-        limit_after(algebra, best, ahead)
+/// How far a shard may run ahead of the first `shards` shards, by what a source shows of them.
+pub fn limit_by<A: PathAlgebra, H: HintSource>(
+    hints: &H,
+    algebra: A,
+    own: Shard,
+    shards: u8,
+    ahead: u32,
+) -> Option<Limit<A::Value>>
+    ensures limit { IsLimit (A.meaning algebra) (H.may_show hints.now) shards own ahead result }
+    ensures order { IfSome result (λ l. IsTrue (A.order l.best l.value)) }
+{
+    match best_of_others(hints, algebra, own, shards) {
+        Some(best) => limit_after(algebra, best, ahead),
+        None => None,
+    }
+}
+
+/// The best value that a source shows of the first `shards` shards but one.
+fn best_of_others<A: PathAlgebra, H: HintSource>(
+    hints: &H,
+    algebra: A,
+    own: Shard,
+    shards: u8,
+) -> Option<A::Value>
+    ensures value { IfSome result (λ x. IsTrue ((A.meaning algebra).is_value x)) }
+    ensures best { IsBestShown (A.meaning algebra) (H.may_show hints.now) shards own result }
+{
+    let mut best = None;
+    for shard in 0..shards {
+        if shard != own.0 {
+            best = better::<A>(best, value_shown(hints, algebra, Shard(shard)));
+        }
+    }
+    best
+}
+
+/// The value that a source shows of a shard, if there is one.
+fn value_shown<A: PathAlgebra, H: HintSource>(
+    hints: &H,
+    algebra: A,
+    shard: Shard,
+) -> Option<A::Value>
+    ensures value { IfSome result (λ x. IsTrue ((A.meaning algebra).is_value x)) }
+    ensures shown { IsShown (A.meaning algebra) (H.may_show hints.now) shard result }
+{
+    value_of(algebra, hints.shown(shard))
+}
+
+/// The value that a code stands for, if there is one.
+fn value_of<A: PathAlgebra>(algebra: A, code: u64) -> Option<A::Value>
+    ensures value { IfSome result (λ x. IsTrue ((A.meaning algebra).is_value x)) }
+    ensures stands { StandsFor (A.meaning algebra) code result }
+{
+    laws_hold(algebra);
+    if code == NOTHING {
+        return None;
+    }
+    algebra.value_of(code)
+}
+
+/// The better of two values, the only one, or none.
+fn better<A: PathAlgebra>(one: Option<A::Value>, other: Option<A::Value>) -> Option<A::Value>
+    ensures { result ≡ better_label A.order one other }
+{
+    match (one, other) {
+        (Some(y), Some(z)) => Some(if A::no_worse(y, z) { y } else { z }),
+        (None, Some(z)) => Some(z),
+        (one, None) => one,
     }
 }
 
 /// A value, and the same after one more arc of this weight, if the arc may be taken.
 fn limit_after<A: PathAlgebra>(algebra: A, best: A::Value, ahead: u32) -> Option<Limit<A::Value>>
     requires { IsTrue ((A.meaning algebra).is_value best) }
-    ensures { IfSome result (λ l. IsTrue (A.order l.best l.value)) }
+    ensures some { IfSome result (λ l. (l.best ≡ best) ×
+        ((A.meaning algebra).extend best ahead ≡ Some l.value)) }
+    ensures none { IfNone result ((A.meaning algebra).extend best ahead ≡ None) }
+    ensures order { IfSome result (λ l. IsTrue (A.order l.best l.value)) }
 {
     laws_hold(algebra);
-    let value = algebra.extend(best, ahead)?;
-    Some(Limit { best, value })
+    match algebra.extend(best, ahead) {
+        Some(value) => Some(Limit { best, value }),
+        None => None,
+    }
 }
 
-/// The better of a value, if there is one, and what a code stands for, if that is a value.
-fn better<A: PathAlgebra>(algebra: A, best: Option<A::Value>, code: u64) -> Option<A::Value>
-    requires { IfSome best (λ x. IsTrue ((A.meaning algebra).is_value x)) }
-    ensures { IfSome result (λ x. IsTrue ((A.meaning algebra).is_value x)) }
-{
-    laws_hold(algebra);
-    if code == NOTHING {
-        return best;
-    }
-    let Some(value) = algebra.value_of(code) else {
-        return best;
-    };
-    match best {
-        Some(best) if A::no_worse(best, value) => Some(best),
-        _ => Some(value),
+/// Whether a code stands for a value that is no worse than this one.
+fn is_as_good<A: PathAlgebra>(algebra: A, code: u64, sent: A::Value) -> bool {
+    match value_of(algebra, code) {
+        Some(value) => A::no_worse(value, sent),
+        None => false,
     }
 }

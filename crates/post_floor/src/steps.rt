@@ -1,4 +1,4 @@
-//! One atomic step each. `W` has the part, alone in a list, for the proof.
+//! The steps that a seat makes on words, each one atomic operation. The type `W` names the part that makes the step, for the proof alone.
 ghost use Rattle.std.specs.Prelude.{◌≡◌, ◌≢◌, true, ◌<◌, [], ◌∷◌};
 ghost use Rattle.shard_part.specs.Readings.{has_ended};
 ghost use Rattle.post_floor.specs.Boxes.{box_count, dest, origin};

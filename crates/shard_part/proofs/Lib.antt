@@ -25,6 +25,8 @@ mod Within
 mod TakenShown
 mod Opened
 mod Receiving
+mod Ahead
+mod WalkEnds
 mod BatchFits
 mod TablesOpen
 pub mod OpenedAll

@@ -1,5 +1,5 @@
 -- What a running part keeps, and what it does with the items that it takes.
-use Rattle.std.specs.Prelude.{◌≡◌, ◌≢◌, ◌⊎◌, ℕ, ◌+◌, Bool, Option, Some, None, IsTrue, List, [], ◌∷◌, length, map, ◌++◌}
+use Rattle.std.specs.Prelude.{◌≡◌, ◌≢◌, ◌⊎◌, ℕ, ◌+◌, Bool, Option, Some, None, IsTrue, List, [], ◌∷◌, length, map, ◌++◌, get_or, Contains}
 use Rattle.scholten_core.specs.declared.item.Item.{Item}
 use Rattle.scholten_core.specs.declared.item.Item.TheVariants.{Message as MessageOn, Signal as SignalOn}
 use Rattle.scholten_core.specs.declared.event.Event.{Event}
@@ -35,6 +35,23 @@ OwnIdleIsTold p = (b : ℕ) → place_in p.setup ((network_of p.setup).tail b) �
 abbrev pub IsHeldBack : {S V : Type 0} → (V → V → Bool) → Option V → PartData S V → Type 0
 IsHeldBack no_worse None p = ⊥
 IsHeldBack no_worse (Some x) p = IsHeldBy no_worse x p.queue
+
+-- a message of this value waits at the part for a shard
+abbrev pub IsOutgoingTo : {S V : Type 0} → ℕ → V → PartData S V → Type 0
+IsOutgoingTo to x p = (a : ℕ) × Contains (get_or p.outs to []) (MessageOn a x)
+
+-- one waits there for another shard
+abbrev pub IsOutgoing : {S V : Type 0} → V → PartData S V → Type 0
+IsOutgoing x p = (to : ℕ) × (to ≢ p.shard) × IsOutgoingTo to x p
+
+-- a message waits for another shard, and all that waits to be handled is messages worse than that one after one more arc of the weight w
+abbrev pub IsAheadOfSent : {S V : Type 0} → Algebra V → ℕ → PartData S V → Type 0
+IsAheadOfSent {S} {V} A w p = (x y : V) × IsOutgoing x p × (A.extend x w ≡ Some y) × IsHeldBy A.no_worse y p.queue
+
+-- there is a weight, and the part is ahead of what it has sent by more than that
+abbrev pub RunsAhead : {S V : Type 0} → Algebra V → Option ℕ → PartData S V → Type 0
+RunsAhead A None p = ⊥
+RunsAhead A (Some w) p = IsAheadOfSent A w p
 
 module _ {V : Type 0} (A : Algebra V) (N : Network) where
   -- the item is a message with a value no worse than x

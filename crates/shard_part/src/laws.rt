@@ -1,12 +1,12 @@
 //! Facts of every plan and part, and theorems over parts and mailboxes, each the contract of a function that computes
 //! nothing: a caller calls it if its own proof needs what it promises.
 ghost use Rattle.std.specs.Prelude.{◌≡◌, ◌↔◌, ◌⊎◌, ◌+◌, ◌<◌, ◌≤◌, suc, ℕ, Bool, true, IsTrue, IsSome, List, [], ◌++◌, ◌∷◌, map, set, get_or};
-ghost use Rattle.road_graph.specs.GraphData.{HasArc, arc_of};
+ghost use Rattle.road_graph.specs.GraphData.{GraphData, HasArc, HasVertex, IsGraph, arc_of};
 ghost use Rattle.scholten_core.specs.declared.item.Item.{Item};
 ghost use Rattle.scholten_core.specs.declared.event.Event.{Event};
 ghost use Rattle.scholten_core.specs.Network.{WellFormed};
 ghost use Rattle.scholten_core.specs.Accounts.{count_marked};
-ghost use Rattle.scholten_core.specs.BestFirst.{IsBestFirst};
+ghost use Rattle.scholten_core.specs.BestFirst.{AreMarksOfWalkEnds, IsBestFirst};
 ghost use Rattle.scholten_core.specs.Diffusion.{CoreState, opening, step, is_enabled, HasEnded};
 ghost use Rattle.shard_store.specs.Setup.{SetupData, network_of, place_in, IsPlanned};
 ghost use Rattle.shard_part.specs.PartState.{PartData, state_in, event_of};
@@ -24,6 +24,7 @@ use crate::closed::ClosedPart;
 use crate::part::Part;
 use crate::state::PartState;
 use path_algebra::PathAlgebra;
+use scholten_core::{ended_runs_are_best, every_diffusion_can_end};
 use shard_store::Plan;
 
 /// What holds of every plan: it has at least one shard and at most 64, and each of its entries is one of them.
@@ -138,3 +139,12 @@ pub fn one_part_takes_the_best<A: PathAlgebra>(_algebra: A)
         IsSome ((state_in q).label (arc_of t.diffusion.roads a).tail) → IsTrue (marked a)) →
         q.sent ≤ 1 + count_marked t.diffusion.roads marked }
 {}
+
+/// The arcs in which some walk with a value ends can be marked, for every graph and source.
+pub fn walk_ends_can_be_marked<A: PathAlgebra>(algebra: A)
+    ensures { (g : GraphData) (s : ℕ) → IsGraph g → HasVertex g s →
+        (marked : ℕ → Bool) × AreMarksOfWalkEnds (A.meaning algebra) g s marked }
+{
+    every_diffusion_can_end(algebra);
+    ended_runs_are_best(algebra);
+}

@@ -10,7 +10,7 @@ ghost use Rattle.shard_part.specs.Represents.{HoldsShare};
 ghost use Rattle.shard_part.specs.Opening.{opened_part};
 ghost use Rattle.shard_part.specs.Exchange.{Fits};
 ghost use Rattle.shard_store.specs.declared.queue_order.QueueOrder.TheVariants.{BestFirst};
-ghost use Rattle.shard_part.specs.Part.{HandledNext, HandledMany, HandledWithin, IsHeldBack, RunsOn};
+ghost use Rattle.shard_part.specs.Part.{HandledNext, HandledMany, HandledWithin, IsHeldBack, RunsAhead, RunsOn};
 
 mod readings;
 
@@ -80,19 +80,35 @@ impl<'g, A: PathAlgebra> Part<'g, A> {
         ensures shard { self.new.shard ≡ self.old.shard }
         ensures events { RunsOn A.meaning self.old result self.new }
     {
-        self.handle_within(budget, None)
+        self.handle_within(budget, None, None)
     }
 
     /// Takes items off the queue in its order and handles them, one after the other, until the budget is used up, the queue is empty or, best first, all that waits
-    /// is messages worse than the limit, and says how many. So best first no message that improves a label is worse than the limit.
+    /// is held back, and says how many. Held back are messages worse than the limit, and those worse than a message for another shard will be after one more arc
+    /// of the weight `ahead`. So best first no message that improves a label is worse than the limit.
     ///
     /// What an item makes goes to the back of the queue if it belongs to this shard, else to the back of the outbox to its shard.
     /// Whatever the other parts hold: if this part held its share of a state that some events lead to, the items are that many further events, each enabled in its turn,
     /// and the part holds its share of the state that they lead to. Its counters have grown by what these events sent, delivered, signalled and accepted, up to 2^64 - 1.
-    pub fn handle_within(&mut self, budget: u32, limit: Option<A::Value>) -> u32
+    pub fn handle_within(&mut self, budget: u32, limit: Option<A::Value>, ahead: Option<u32>) -> u32
         ensures budget { result ≤ budget }
         ensures all { (result ≡ budget) ⊎ ((self.new.queue ≡ []) ⊎
-            IsHeldBack A.order limit self.new) }
+            (IsHeldBack A.order limit self.new ⊎ RunsAhead (A.meaning self.old.setup.diffusion.algebra) ahead self.new)) }
+        ensures within { HandledWithin A.meaning limit self.old result self.new }
+        ensures taken { HandledMany A.meaning self.old result self.new }
+        ensures setup { self.new.setup ≡ self.old.setup }
+        ensures shard { self.new.shard ≡ self.old.shard }
+        ensures events { RunsOn A.meaning self.old result self.new }
+    {
+        self.state.note_outgoing();
+        self.go_on_within(budget, limit, ahead)
+    }
+
+    /// The same, once it is noted what waits for other shards.
+    fn go_on_within(&mut self, budget: u32, limit: Option<A::Value>, ahead: Option<u32>) -> u32
+        ensures budget { result ≤ budget }
+        ensures all { (result ≡ budget) ⊎ ((self.new.queue ≡ []) ⊎
+            (IsHeldBack A.order limit self.new ⊎ RunsAhead (A.meaning self.old.setup.diffusion.algebra) ahead self.new)) }
         ensures within { HandledWithin A.meaning limit self.old result self.new }
         ensures taken { HandledMany A.meaning self.old result self.new }
         ensures setup { self.new.setup ≡ self.old.setup }
@@ -102,6 +118,9 @@ impl<'g, A: PathAlgebra> Part<'g, A> {
         laws_hold(self.state.algebra());
         for taken in 0..budget {
             if self.is_held(limit) {
+                return taken;
+            }
+            if self.runs_ahead(ahead) {
                 return taken;
             }
             if !self.take_next() {
@@ -123,9 +142,15 @@ impl<'g, A: PathAlgebra> Part<'g, A> {
         }
     }
 
-    /// The best value that waits, best first: a hint to others.
-    pub fn best_waiting(&self) -> Option<A::Value> {
-        self.state.queue.best()
+    /// Whether the part is ahead of what it has sent by more than this weight, if there is one.
+    fn runs_ahead(&self, ahead: Option<u32>) -> bool
+        ensures { IsTrue result → RunsAhead (A.meaning self.now.setup.diffusion.algebra) ahead
+            self.now }
+    {
+        let Some(ahead) = ahead else {
+            return false;
+        };
+        self.state.is_ahead_of_sent(ahead)
     }
 }
 

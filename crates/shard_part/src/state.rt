@@ -7,6 +7,7 @@ ghost use Rattle.scholten_core.specs.Network.{WellFormed};
 ghost use Rattle.shard_part.specs.Moves.{IsTallied};
 ghost use Rattle.shard_part.specs.Part.{PartInvariant};
 
+mod ahead;
 mod events;
 mod exchange;
 mod opening;
@@ -31,6 +32,8 @@ pub(crate) struct PartState<'g, A: PathAlgebra> {
     pub(crate) tables: Tables<A::Value>,
     pub(crate) queue: Queue<A>,
     pub(crate) outs: Vec<Batch<A::Value>>,
+    /// No worse than what waits for other shards, since it was last noted: it spares most looks through the outboxes.
+    best_sent: Option<A::Value>,
     sent: u64,
     delivered: u64,
     signalled: u64,

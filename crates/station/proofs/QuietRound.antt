@@ -1,9 +1,9 @@
 -- A quiet round leaves the floor still.
-use Rattle.std.proofs.Common.{◌≡◌, ◌≢◌, ◌⊎◌, ℕ, zero, suc, ◌+◌, ◌<◌, ◌≤◌, Bool, true, List, [], ◌∷◌, ◌++◌, map, length, get_or, refl, sym, ap, ◌∙◌, subst, inl, inr, arith, append_assoc}
+use Rattle.std.proofs.Common.{◌≡◌, ◌≢◌, ◌⊎◌, ℕ, zero, suc, ◌+◌, ◌<◌, ◌≤◌, Bool, true, false, List, [], ◌∷◌, ◌++◌, map, length, get_or, refl, sym, ap, ◌∙◌, subst, inl, inr, arith, append_assoc}
 use Rattle.std.specs.Prelude.{Contains}
 use Rattle.std.proofs.lemmas.Bool.{cases_eq, cases_lt}
 use Rattle.std.proofs.lemmas.List.{append_cancel_left, nil_from_length}
-use mathlib.Core.Option.{some, some-injective}
+use mathlib.Core.Option.{some, some-injective, some-ne-none}
 use lib.ListN.{get_elem?}
 use Rattle.atomic_table.specs.Table.{State}
 use Rattle.path_algebra.specs.Algebra.{Algebra}
@@ -31,6 +31,7 @@ use Rattle.post_floor.specs.Floor.{Slot, fill_claims, read_claims, words_between
 use Rattle.post_floor.specs.Plays.{HoldsReachedShare}
 use Rattle.post_floor.proofs.Ordering.{box_below}
 use Rattle.post_floor.proofs.Parts.{flat_at}
+use Rattle.post_floor.proofs.Still.{Found, find}
 use Rattle.post_floor.proofs.Totals.{is_else, total_none}
 use Rattle.station.specs.Station.{ReportedEnd}
 use Rattle.station.specs.Tries.{at, AreTries, used}
@@ -41,6 +42,17 @@ use Rattle.station.proofs.QuietTries.{Missed, AllMissed, all_missed}
 contains_split : {A : Type 0} (y : A) (ys : List A) (x : A) → Contains (y ∷ ys) x → (y ≡ x) ⊎ Contains ys x
 contains_split y ys x (zero, l, e) = inl e
 contains_split y ys x (suc k, l, e) = inr (k, omega (arith, l), e)
+
+contains_map : {A B : Type 0} (f : A → B) (xs : List A) (y : B) → Contains (map f xs) y → (x : A) × Contains xs x × (f x ≡ y)
+contains_map f [] y c = absurd (let none = c.1 in omega (arith, none))
+contains_map f (x ∷ xs) y c = elim (contains_split (f x) (map f xs) y c) [
+  | inl e ↦ (x, (0, omega arith, refl), e)
+  | inr r ↦ (let m = contains_map f xs y r in (m.0, (suc m.1.0, (let l = m.1.1 in omega (arith, l)), m.1.2), m.2))
+]
+
+only_one : {A : Type 0} (x y : A) (k : ℕ) → get_elem? (x ∷ []) k ≡ some y → x ≡ y
+only_one x y zero e = some-injective x y e
+only_one x y (suc k) e = absurd (some-ne-none y (sym e))
 
 empty_or_not : {A : Type 0} (xs : List A) → (xs ≡ []) ⊎ (xs ≢ [])
 empty_or_not [] = inl refl
@@ -74,7 +86,7 @@ module _ {S V : Type 0} (meaning : S → Algebra V) where
         unsent,
         elim W.all [
           | inl all ↦ absurd (omega (arith, all, enough))
-          | inr rest ↦ elim rest [ inl none ↦ none | inr held ↦ absurd (let no = held.0 in cc) ]
+          | inr rest ↦ elim rest [ inl none ↦ ap (λ (r : PartData S V). r.queue) (sym left) ∙ none | inr held ↦ absurd (let no = held.0 in cc) ]
         ],
       )
 
@@ -341,3 +353,32 @@ module _ {S V : Type 0} (meaning : S → Algebra V) (f : FloorData S) (budget : 
         → ((v : View S V) → get_elem? s.views t.id ≡ some v → get_elem? v.parts 0 ≡ some t.before.part → has_ended t.before.part ≡ true) → ReportedEnd t.after
     turn_reports t c knows = let T = turn_of s end round.turns round.quiet t c in
         reports T.at_state t T.quiet (knows T.view T.is_there (ap (λ (ps : List (PartData S V)). get_elem? ps 0) T.parts))
+
+    -- a turn of the round by the station of a shard, which has not reported the end, and where its part was before
+    pub record TurnOfShard (j : ℕ) : Type 0 where
+      pub t : TurnAt S V
+      pub among : Contains round.turns t
+      pub here : t.before.part.shard ≡ j
+      pub unaware : t.before.ended ≡ false
+      pub view : View S V
+      pub at : get_elem? s.views t.id ≡ some view
+      pub has : get_elem? view.parts 0 ≡ some t.before.part
+
+    pub turn_of_shard : (j : ℕ) → j < n → TurnOfShard j
+    turn_of_shard j low =
+        let F : Found meaning f.setup s r still_before j = find meaning f.setup s r still_before j low in
+        let some_part : F.v.parts ≢ [] = λ e. some-ne-none F.p (sym (subst (λ (ps : List (PartData S V)). get_elem? ps F.seat.place ≡ some F.p) e F.seat.has)) in
+        let M = contains_map (λ t. t.id) round.turns F.id (round.each F.id F.v F.at some_part) in
+        let T = turn_of s end round.turns round.quiet M.0 M.1 in
+        let same : F.v ≡ T.view = some-injective F.v T.view (sym F.at ∙ ap (λ i. get_elem? s.views i) (sym M.2) ∙ T.is_there) in
+        let part : M.0.before.part ≡ F.p = only_one M.0.before.part F.p F.seat.place
+        (subst (λ (ps : List (PartData S V)). get_elem? ps F.seat.place ≡ some F.p) (ap (λ (v : View S V). v.parts) same ∙ T.parts) F.seat.has) in
+        record {
+          t = M.0;
+          among = M.1;
+          here = ap (λ (p : PartData S V). p.shard) part ∙ F.shard;
+          unaware = T.quiet.unaware;
+          view = T.view;
+          at = T.is_there;
+          has = ap (λ (ps : List (PartData S V)). get_elem? ps 0) T.parts;
+        }

@@ -7,13 +7,12 @@ use Rattle.path_algebra.specs.Walks.{IsWalkValue}
 use Rattle.scholten_core.specs.declared.event.Event.{Event}
 use Rattle.scholten_core.specs.Diffusion.{state_after}
 use Rattle.scholten_core.proofs.EveryRun.{labels_are_walk_values}
-use Rattle.shard_store.specs.Setup.{IsPlanned, network_of, place_in}
+use Rattle.shard_store.specs.Setup.{SetupData, IsPlanned, network_of, place_in}
 use Rattle.shard_part.specs.PartState.{PartData, state_in}
 use Rattle.shard_part.specs.Weights.{in_flight, part_weight}
 use Rattle.shard_part.specs.Represents.{HoldsShare, core_of}
-use Rattle.shard_part.specs.Part.{HandledMany, HandledWithin, IsHeldBack, IsRunOn, RunsOn}
+use Rattle.shard_part.specs.Part.{HandledMany, HandledWithin, IsRunOn, RunsOn}
 use Rattle.shard_part.specs.Readings.{IsOwn, has_ended}
-use Rattle.shard_store.specs.Queue.{IsHeldBy}
 use Rattle.shard_store.specs.Tallies.{top}
 use Rattle.shard_part.proofs.Showing.{AllLawful}
 use Rattle.post_floor.specs.declared.view.View.{View}
@@ -67,22 +66,6 @@ module _ {S V : Type 0} where
       all_steps (length c.knows.steps) (length t.read) (length t.filled) (length d.knows.steps) n reads fills
       (ap (λ (xs : List WordStep). length xs) t.looked ∙ length-append t.filled (at (box_count n) t.number ∷ []))
 
--- the order of the algebra is that of its meaning
-pub as_far_in : {S V : Type 0} (handled budget : ℕ) (held : Bool) (limit : Option V) (p : PartData S V) (order no_worse : V → V → Bool) → order ≡ no_worse
-    → IsAsFar order budget handled held limit p → IsAsFar no_worse budget handled held limit p
-as_far_in handled budget held limit p order no_worse e h = subst (λ w. IsAsFar w budget handled held limit p) e h
-
--- what is sent off leaves the queue as it is
-far_sent : {S V : Type 0} (no_worse : V → V → Bool) (budget handled : ℕ) (held : Bool) (limit : Option V) (p q : PartData S V) → q.queue ≡ p.queue
-    → IsAsFar no_worse budget handled held limit p → IsAsFar no_worse budget handled held limit q
-far_sent no_worse budget handled held limit p q e (inl h) = inl h
-far_sent no_worse budget handled held limit p q e (inr (inl z)) = inr (inl (e ∙ z))
-far_sent {S} {V} no_worse budget handled held limit p q e (inr (inr w)) = inr (inr (w.0, (held_in limit w.1.0, w.1.1, subst (IsHeldBy no_worse w.1.1) (sym e) w.1.2)))
-  where
-    held_in : (o : Option V) → IsHeldBack no_worse o p → IsHeldBack no_worse o q
-    held_in None b = absurd b
-    held_in (Some x) b = subst (IsHeldBy no_worse x) (sym e) b
-
 all_or_none : {S V : Type 0} (budget handled : ℕ) (p q : PartData S V) → q.queue ≡ p.queue → (handled ≡ budget) ⊎ (p.queue ≡ []) → (handled ≡ budget) ⊎ (q.queue ≡ [])
 all_or_none budget handled p q e (inl h) = inl h
 all_or_none budget handled p q e (inr z) = inr (e ∙ z)
@@ -126,6 +109,7 @@ module _ {S V : Type 0} (meaning : S → Algebra V) where
       within = omega arith;
       limit = None;
       in_limit = ([], refl, refl);
+      ahead = None;
       all = inr (inl (i.over e).part.queue);
       alone = λ _. inr (i.over e).part.queue;
     };
@@ -138,15 +122,15 @@ module _ {S V : Type 0} (meaning : S → Algebra V) where
   }
 
   -- a turn before the end
-  pub turned : AllLawful meaning → (f : FloorData S) (budget handled taken published : ℕ) (held : Bool) (limit : Option V) (s : StationData S V) (a b d : SeatData S V) (filled emptied q : PartData S V) (o : Bool) → s.ended ≡ false
+  pub turned : AllLawful meaning → (f : FloorData S) (budget handled taken published : ℕ) (held : Bool) (limit : Option V) (ahead : Option ℕ) (s : StationData S V) (a b d : SeatData S V) (filled emptied q : PartData S V) (o : Bool) → s.ended ≡ false
       → AllCameIn meaning taken s.part filled → emptied.setup ≡ filled.setup → emptied.shard ≡ filled.shard → HandledMany meaning filled handled emptied
       → RunsOn meaning filled handled emptied
-      → handled ≤ budget → HandledWithin meaning limit filled handled emptied → IsAsFar (meaning s.part.setup.diffusion.algebra).no_worse budget handled held limit emptied
+      → handled ≤ budget → HandledWithin meaning limit filled handled emptied → IsAsFar (meaning filled.setup.diffusion.algebra) budget handled held limit ahead emptied
       → (filled.setup.plan.shards ≡ 1 → (handled ≡ budget) ⊎ (emptied.queue ≡ []))
       → (has_ended q ≡ true → o ≡ true) → AreReady f d q → s.seat.shard < f.setup.plan.shards
       → AllTriedFrom f f.setup.plan.shards taken s.seat a → AllTriedTo f f.setup.plan.shards published emptied q a b → Looked f o b d
       → Turned meaning f budget s (record { handled = handled; taken = taken; published = published; held = held; ended = o }) (record { part = q; seat = d; ended = o })
-  turned L f budget handled taken published held limit s a b d filled emptied q o going (bs, bl, be, K) es ss T E within bounded all alone announced ready own from to look =
+  turned L f budget handled taken published held limit ahead s a b d filled emptied q o going (bs, bl, be, K) es ss T E within bounded all alone announced ready own from to look =
       let before : IsLike s.part filled = subst (λ p. IsLike s.part p) (sym be) (received_like bs s.part) in
       let after : IsLike emptied q = sent_like to.outboxes emptied q to.sent in
       let tried = all_tried f handled taken published held s.seat a b d emptied q o from to look in
@@ -170,7 +154,8 @@ module _ {S V : Type 0} (meaning : S → Algebra V) where
           within = within;
           limit = limit;
           in_limit = bounded;
-          all = far_sent (meaning s.part.setup.diffusion.algebra).no_worse budget handled held limit emptied q (sent_queue to.outboxes emptied q to.sent) all;
+          ahead = ahead;
+          all = subst (λ (t : SetupData S). IsAsFar (meaning t.diffusion.algebra) budget handled held limit ahead emptied) before.setup all;
           alone = λ one. all_or_none budget handled emptied q (sent_queue to.outboxes emptied q to.sent) (alone (ap (λ t. t.plan.shards) before.setup ∙ one));
         };
         labels = λ v own. labels_stay meaning L s.part filled emptied q handled v before T after own.1;

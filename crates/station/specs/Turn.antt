@@ -1,14 +1,15 @@
 -- What one turn does to a station.
-use Rattle.std.specs.Prelude.{◌≡◌, ◌≢◌, ◌⊎◌, ℕ, ◌+◌, ◌-◌, ◌*◌, ◌≤◌, Bool, true, false, eqb, Option, Some, IsTrue, List, [], ◌∷◌, ◌++◌, length, get_or}
+use Rattle.std.specs.Prelude.{◌≡◌, ◌≢◌, ◌⊎◌, ℕ, ◌+◌, ◌-◌, ◌*◌, ◌≤◌, Bool, true, false, eqb, ⊤, Option, Some, IsTrue, List, [], ◌∷◌, ◌++◌, length, get_or}
 use Rattle.path_algebra.specs.Algebra.{Algebra}
 use Rattle.scholten_core.specs.declared.item.Item.{Item}
 use Rattle.shard_store.specs.Queue.{IsHeldBy}
 use Rattle.shard_part.specs.Arriving.{joined}
 use Rattle.shard_part.specs.PartState.{PartData, state_in}
-use Rattle.shard_part.specs.Part.{HandledMany, HandledWithin, IsHeldBack, IsRunOn, RunsOn}
+use Rattle.shard_part.specs.Part.{HandledMany, HandledWithin, IsHeldBack, IsRunOn, RunsAhead, RunsOn}
 use Rattle.shard_part.specs.Readings.{IsOwn, has_ended}
 use Rattle.post_floor.specs.Boxes.{box_count}
 use Rattle.post_floor.specs.Data.{FloorData, SeatData, fill_box, read_box}
+use Rattle.post_floor.specs.Hints.{IsBestShown}
 use Rattle.post_floor.specs.Plays.{HoldsReachedShare, published_to}
 use Rattle.station.specs.declared.turn.Report.{Report}
 use Rattle.station.specs.Station.{StationData, BelongsTo, ReportedEnd}
@@ -20,14 +21,20 @@ abbrev pub StaysOrImproves : {V : Type 0} → Algebra V → Option V → Option 
 StaysOrImproves {V} A before after = (x : V) → before ≡ Some x → (y : V) × (after ≡ Some y) × IsTrue (A.no_worse y x)
 
 module _ {S V : Type 0} where
-  -- The limit holds back all that waits at the part, and some value, which another shard showed, is better than all of it: no signal waits there, and no
-  -- message with a value that is no worse.
-  abbrev pub IsBehindOthers : (V → V → Bool) → Option V → PartData S V → Type 0
-  IsBehindOthers no_worse limit p = IsHeldBack no_worse limit p × (x : V) × IsHeldBy no_worse x p.queue
+  -- The limit holds back all that waits at the part. It is the best value that is shown of the other shards, after one more arc of some weight, and all that
+  -- waits is worse than that best value: no signal waits there, and no message that is no worse. Which values may be shown of a shard is not promised.
+  pub record IsBehindOthers (A : Algebra V) (limit : Option V) (p : PartData S V) : Type 0 where
+    pub held : IsHeldBack A.no_worse limit p
+    pub best : V
+    pub shown : IsBestShown A (λ _ _. ⊤) p.setup.plan.shards p.shard (Some best)
+    pub ahead : ℕ
+    pub limit_is : A.extend best ahead ≡ limit
+    pub behind : IsHeldBy A.no_worse best p.queue
 
-  -- of the items of a part, with which it is p then, as many were handled as the budget allows, or all, or all that the limit does not hold back
-  abbrev pub IsAsFar : (V → V → Bool) → (budget handled : ℕ) → Bool → Option V → PartData S V → Type 0
-  IsAsFar no_worse budget handled held limit p = (handled ≡ budget) ⊎ ((p.queue ≡ []) ⊎ (IsTrue held × IsBehindOthers no_worse limit p))
+  -- Of the items of a part, which is p then, as many were handled as the budget allows, or all, or what is left is held back: by the limit, or since the part
+  -- is ahead of what it has sent by more than `ahead`.
+  abbrev pub IsAsFar : Algebra V → (budget handled : ℕ) → Bool → (limit : Option V) → (ahead : Option ℕ) → PartData S V → Type 0
+  IsAsFar A budget handled held limit ahead p = (handled ≡ budget) ⊎ ((p.queue ≡ []) ⊎ (IsTrue held × (IsBehindOthers A limit p ⊎ RunsAhead A ahead p)))
 
   -- batches were received, one after the other, each at the back of the queue
   abbrev pub received : PartData S V → List (List (Item V)) → PartData S V
@@ -74,7 +81,8 @@ module _ {S V : Type 0} (meaning : S → Algebra V) where
     pub within : r.handled ≤ budget
     pub limit : Option V  -- how far it might run ahead of the others
     pub in_limit : HandledWithin meaning limit filled r.handled emptied
-    pub all : IsAsFar (meaning p.setup.diffusion.algebra).no_worse budget r.handled r.held limit q
+    pub ahead : Option ℕ  -- and of what it had sent itself
+    pub all : IsAsFar (meaning p.setup.diffusion.algebra) budget r.handled r.held limit ahead emptied
     pub alone : p.setup.plan.shards ≡ 1 → (r.handled ≡ budget) ⊎ (q.queue ≡ [])  -- with one shard nothing is held back
 
   -- What one turn on the floor makes of a station, and reports. After the end it does nothing.

@@ -1,7 +1,8 @@
 //! The steps of one turn.
-ghost use Rattle.std.specs.Prelude.{◌≡◌, ◌⊎◌, ◌<◌, ◌≤◌, [], Option, None, length, true, IfSome, IsTrue};
+ghost use Rattle.std.specs.Prelude.{◌≡◌, ◌⊎◌, ⊤, ℕ, ◌<◌, ◌≤◌, [], Option, None, Some, length, true, IfSome, IsTrue};
 ghost use Rattle.shard_part.specs.Part.{HandledMany, HandledWithin, RunsOn};
 ghost use Rattle.shard_part.specs.Readings.{has_ended};
+ghost use Rattle.post_floor.specs.Hints.{IsLimit};
 ghost use Rattle.post_floor.specs.Plays.{HoldsEndedShare, HoldsReachedShare};
 ghost use Rattle.station.specs.Station.{IsOverPart};
 ghost use Rattle.station.specs.Steps.{AreReady, AreBehind, CameIn, AllCameIn, TriedFrom, AllTriedFrom, WentOff, TriedTo, AllTriedTo, Looked};
@@ -79,13 +80,28 @@ fn limit_of<A: PathAlgebra>(
     plan: &Plan,
     part: &Part<'_, A>,
 ) -> Option<Limit<A::Value>>
+    requires floor { floor.now.setup ≡ part.now.setup }
     ensures order { IfSome result (λ l. IsTrue (A.order l.best l.value)) }
+    ensures limit { IfSome result (λ l. (ahead : ℕ) ×
+        IsLimit (A.meaning part.now.setup.diffusion.algebra) (λ _ _. ⊤) part.now.setup.plan.shards
+        part.now.shard ahead (Some l)) }
     ensures alone { plan.now.shards ≡ 1 → result ≡ None }
 {
     if plan.shards() == 1 {
         return None;
     }
     floor.limit(part)
+}
+
+/// By what weight a part may run ahead of what it has sent; one that is alone may always go on.
+fn ahead_of<A: PathAlgebra>(floor: &Floor<A>, plan: &Plan) -> Option<u32>
+    ensures { plan.now.shards ≡ 1 → result ≡ None }
+{
+    if plan.shards() > 1 {
+        floor.ahead()
+    } else {
+        None
+    }
 }
 
 /// Handles items, at most `budget`, as far as the floor lets the part run ahead. Says how many, and whether others are held back.
@@ -95,6 +111,7 @@ pub(crate) fn handle_all<A: PathAlgebra>(
     part: &mut Part<'_, A>,
     budget: u32,
 ) -> (u32, bool)
+    requires floor { floor.now.setup ≡ part.old.setup }
     requires plan { plan.now ≡ part.old.setup.plan }
     ensures taken { HandledMany A.meaning part.old result.0 part.new }
     ensures setup { part.new.setup ≡ part.old.setup }
@@ -102,7 +119,8 @@ pub(crate) fn handle_all<A: PathAlgebra>(
     ensures events { RunsOn A.meaning part.old result.0 part.new }
     ensures budget { result.0 ≤ budget }
     ensures all { (limit : Option A.Value) × HandledWithin A.meaning limit part.old result.0
-        part.new × IsAsFar A.order budget result.0 result.1 limit part.new }
+        part.new × (ahead : Option ℕ) × IsAsFar (A.meaning part.old.setup.diffusion.algebra) budget
+        result.0 result.1 limit ahead part.new }
     ensures alone { part.old.setup.plan.shards ≡ 1 → (result.0 ≡ budget) ⊎ (part.new.queue ≡ []) }
 {
     let limit = limit_of(floor, plan, part);
@@ -110,7 +128,8 @@ pub(crate) fn handle_all<A: PathAlgebra>(
         Some(limit) => Some(limit.value),
         None => None,
     };
-    let handled = part.handle_within(budget, value);
+    let ahead = ahead_of(floor, plan);
+    let handled = part.handle_within(budget, value, ahead);
     floor.advertise(part);
     let held = is_held_back(part, handled, budget);
     (handled, held)

@@ -1,10 +1,10 @@
 //! What may be read of a part.
-ghost use Rattle.std.specs.Prelude.{◌≡◌, ◌≢◌, ◌+◌, ◌<◌, suc, [], get_or, length, IsTrue, ◌↔◌};
+ghost use Rattle.std.specs.Prelude.{◌≡◌, ◌≢◌, ◌+◌, ◌<◌, suc, [], get_or, length, IfSome, IsTrue, ◌↔◌};
 ghost use Rattle.scholten_core.specs.Deficit.{busy_out};
 ghost use Rattle.shard_part.specs.PartState.{state_in};
 ghost use Rattle.shard_part.specs.Exchange.{Fits};
 ghost use Rattle.shard_part.specs.Readings.{IsOwn, has_ended, tally_in};
-ghost use Rattle.shard_part.specs.Part.{PartInvariant};
+ghost use Rattle.shard_part.specs.Part.{PartInvariant, IsOutgoingTo};
 ghost use Rattle.shard_store.specs.Capacities.{queue_bound, outbox_bound};
 ghost use Rattle.shard_store.specs.Setup.{network_of, place_in};
 
@@ -83,6 +83,19 @@ impl<'g, A: PathAlgebra> Part<'g, A> {
         ensures { result ≡ length (get_or self.now.outs to []) }
     {
         self.state.outs[to.0 as usize].len()
+    }
+
+    /// The best value that waits to be handled, best first: a hint to other shards.
+    pub fn best_waiting(&self) -> Option<A::Value> {
+        self.state.queue.best()
+    }
+
+    /// The best value of the messages that wait for a shard: a hint to it.
+    pub fn best_outgoing(&self, to: Shard) -> Option<A::Value>
+        requires { to < self.now.setup.plan.shards }
+        ensures { IfSome result (λ x. IsOutgoingTo to x self.now) }
+    {
+        self.state.best_outgoing(to)
     }
 
     /// Whether the diffusion has ended: arc 0 is idle. False except at the source's part.

@@ -65,6 +65,7 @@ impl<'g, A: PathAlgebra> PartState<'g, A> {
             tables,
             queue,
             outs,
+            best_sent: None,
             sent: u64::from(first),
             delivered: 0,
             signalled: 0,

@@ -10,6 +10,7 @@ ghost use Rattle.shard_part.specs.LocalInvariant.{IsClear};
 ghost use Rattle.shard_part.specs.Moves.{IsPlace, IsArcRow, IsArcOut, MaySend, put_item, counted_made, with_item, with_message, offered, offered_all};
 
 use crate::state::PartState;
+use crate::state::ahead::better;
 use path_algebra::PathAlgebra;
 use road_graph::{ArcNo, OutRoad};
 use scholten_core::{Item, extended, is_same};
@@ -143,8 +144,20 @@ impl<'g, A: PathAlgebra> PartState<'g, A> {
         requires { MaySend self.old item to }
         ensures { self.new ≡ with_item item self.old }
     {
+        self.note_sent(item, to);
         self.send(item, to);
         self.count_made(item);
+    }
+
+    /// Notes the value of a message to another shard, if it is better than what was noted.
+    fn note_sent(&mut self, item: Item<A::Value>, to: Shard)
+        ensures { self.new ≡ self.old }
+    {
+        if let Item::Message { value, .. } = item {
+            if to != self.shard {
+                self.best_sent = better::<A>(self.best_sent, Some(value));
+            }
+        }
     }
 
     /// Puts an item into the queue or the outbox where it belongs.

@@ -40,3 +40,12 @@ returns-else-from-to g c = let q =
     c.capacity.ensures
     ∙ (λ i. outbox_bound (network_of (q.0 i)) (place_in (q.0 i)) (q.1 i) (c.args.k / 4 % c.args.shards))
     ∙ cap_other c.args.first.now.setup c.args.shards c.args.k c.requires.shards.0 c.if-from-to.false
+
+pub nonzero_div-from-2 : goal.nonzero_div-from-2
+nonzero_div-from-2 g c = let b = (pair_below c.args.shards c.args.k c.requires.word).0 in omega (arith, b)
+
+pub nonzero_rem-to : goal.nonzero_rem-to
+nonzero_rem-to g c = let b = (pair_below c.args.shards c.args.k c.requires.word).0 in omega (arith, b)
+
+pub overflow_cast-to : goal.overflow_cast-to
+overflow_cast-to g c = let b = (pair_below c.args.shards c.args.k c.requires.word).1 in let m = c.requires.shards.1 in omega (arith, b, m)

@@ -1,4 +1,8 @@
-use Rattle.station.proofs.QuietRound.{still_after, still_before, turn_reports}
+use Rattle.std.proofs.Common.{◌≡◌, ◌∙◌, true, false, sym}
+use Rattle.std.proofs.lemmas.Bool.{false≢true}
+use Rattle.shard_store.specs.Setup.{place_in}
+use Rattle.shard_store.proofs.Graphs.{place_below}
+use Rattle.station.proofs.QuietRound.{still_after, still_before, turn_of_shard, turn_reports}
 use Rattle.station.proofs.laws.quiet_rounds_are_still.Goals as goal
 
 pub returns-clause-still : goal.returns-clause-still
@@ -12,3 +16,9 @@ pub returns-clause-reported : goal.returns-clause-reported
 returns-clause-reported g c = λ f budget s end enough P r free round t among here.
     turn_reports g.A.PathAlgebra.meaning f budget enough P s end r free round t among (λ v at has. c.still_floors_have_ended.ensures.known f.setup s P r
     (still_before g.A.PathAlgebra.meaning f budget enough P s end r free round) t.id 0 v t.before.part at has here)
+
+pub returns-clause-goes_on : goal.returns-clause-goes_on
+returns-clause-goes_on g c = λ f budget s end enough P r free round told.
+    let T = turn_of_shard g.A.PathAlgebra.meaning f budget enough P s end r free round (place_in f.setup 0) (place_below f.setup 0 P 0) in
+    let known = c.still_floors_have_ended.ensures.known f.setup s P r (still_before g.A.PathAlgebra.meaning f budget enough P s end r free round) T.t.id 0 T.view T.t.before.part T.at T.has T.here in
+    false≢true (sym T.unaware ∙ told T.t T.among known)

@@ -1,4 +1,4 @@
-use Rattle.std.proofs.Common.{rules, ◌<◌, ◌+◌, [], length, map, ap, sym, ◌∙◌, subst, replicate}
+use Rattle.std.proofs.Common.{rules, arith, ◌<◌, ◌+◌, [], length, map, ap, sym, ◌∙◌, subst, replicate}
 use Rattle.shard_store.specs.Setup.{IsPlanned}
 use Rattle.shard_part.specs.Opening.{opened_parts}
 use Rattle.atomic_table.specs.Table.{opening}
@@ -8,7 +8,7 @@ use Rattle.post_floor.specs.Seats.{knows}
 use Rattle.post_floor.specs.Data.{seat_of}
 use Rattle.std.proofs.lemmas.List.{length-replicate}
 use Rattle.post_floor.proofs.Opening.{opens}
-use Rattle.post_floor.proofs.Opened.{opened_first, all_opened}
+use Rattle.post_floor.proofs.Opened.{opened_first, opened_long, all_opened}
 use Rattle.post_floor.proofs.floor.Floor.open.Goals as goal
 
 pub batches-requires-clause-parts : goal.batches-requires-clause-parts
@@ -91,3 +91,8 @@ returns-clause-seats g c =
     ∙ (λ i. map (seat_of c.in-Ok.table.shared.table_id (c.shards-shards.ensures.count i))
     (opened_parts (g.A.PathAlgebra.meaning (key i).diffusion.algebra) (key i) 0 c.shards-shards.result))
     ∙ ap (map (seat_of c.in-Ok.table.shared.table_id c.args.plan.now.shards)) (sym o0.1)
+
+pub bounds-parts-0 : goal.bounds-parts-0
+bounds-parts-0 g c = let f = c.requires.fresh in
+    let l = ap length f.1 ∙ opened_long (g.A.PathAlgebra.meaning f.0.diffusion.algebra) f.0 0 f.0.plan.shards ∙ ap (λ p. p.shards) f.2 in
+    let n = c.shards-shards.ensures.count in let one = c.shards-shards.ensures.within.0 in omega (arith, l, n, one)

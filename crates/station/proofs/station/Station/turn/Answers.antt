@@ -2,7 +2,7 @@ use Rattle.std.proofs.Common.{true, false, subst, sym, ap, ◌∙◌}
 use Rattle.station.specs.Station.{BelongsTo}
 use Rattle.station.specs.Turn.{Turned}
 use Rattle.station.proofs.Stepping.{went_on}
-use Rattle.station.proofs.Turns.{as_far_in, rested, turned}
+use Rattle.station.proofs.Turns.{rested, turned}
 use Rattle.station.proofs.station.Station.turn.Goals as goal
 
 pub returns-then-self-clause-turned : goal.returns-then-self-clause-turned
@@ -32,11 +32,10 @@ returns-clause-turned g c =
     })
     (record { part = c.fill_all-published.new.part; seat = c.look_for_end-self-inside.new.seat; ended = c.look_for_end-self-inside.result })) c.self.view_is
     (turned g.A.PathAlgebra.meaning laws.lawful c.args.floor.now c.args.budget c.handle_all-handled.result.0 c.read_all-taken.result
-    c.fill_all-published.result c.handle_all-handled.result.1 h.all.0 (record { part = i.part; seat = i.seat; ended = i.ended })
+    c.fill_all-published.result c.handle_all-handled.result.1 h.all.0 h.all.2 (record { part = i.part; seat = i.seat; ended = i.ended })
     c.read_all-taken.new.seat c.fill_all-published.new.seat c.look_for_end-self-inside.new.seat c.read_all-taken.new.part c.handle_all-handled.new.part
     c.fill_all-published.new.part c.look_for_end-self-inside.result c.if-self.false
-    c.read_all-taken.ensures.part h.setup h.shard h.taken h.events h.budget h.all.1 (as_far_in c.handle_all-handled.result.0 c.args.budget c.handle_all-handled.result.1 h.all.0 c.handle_all-handled.new.part g.A.PathAlgebra.order
-    (g.A.PathAlgebra.meaning i.part.setup.diffusion.algebra).no_worse (sym (laws.one_order i.part.setup.diffusion.algebra)) h.all.2) h.alone e.announced e.ready c.read_all-taken.ensures.own c.read_all-taken.ensures.tried c.fill_all-published.ensures.tried e.looked)
+    c.read_all-taken.ensures.part h.setup h.shard h.taken h.events h.budget h.all.1 h.all.3 h.alone e.announced e.ready c.read_all-taken.ensures.own c.read_all-taken.ensures.tried c.fill_all-published.ensures.tried e.looked)
 
 pub invariant_of-self : goal.invariant_of-self
 invariant_of-self g c = let e = c.look_for_end-self-inside.ensures in (

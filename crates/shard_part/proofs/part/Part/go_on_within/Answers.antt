@@ -1,8 +1,8 @@
-use Rattle.std.proofs.Common.{arith, ◌≡◌, refl, sym, subst}
-use Rattle.shard_part.specs.Part.{HandledMany, HandledWithin}
+use Rattle.std.proofs.Common.{arith, ◌≡◌, refl, sym, subst, inr}
+use Rattle.shard_part.specs.Part.{HandledMany, HandledWithin, RunsAhead}
 use Rattle.shard_part.proofs.TakenCounts.{handled_many_same, many_run}
 use Rattle.shard_part.proofs.Within.{many_of, next_within}
-use Rattle.shard_part.proofs.part.Part.handle_within.Goals as goal
+use Rattle.shard_part.proofs.part.Part.go_on_within.Goals as goal
 
 pub loop-taken-preserved : goal.loop-taken-preserved
 loop-taken-preserved g c =
@@ -51,3 +51,20 @@ returns-clause-shard g c = (handled_many_same g.A.PathAlgebra.meaning c.args.sel
 pub returns-clause-events : goal.returns-clause-events
 returns-clause-events g c = many_run g.A.PathAlgebra.meaning c.self.inside.state c.args.self.now c.loop-taken.self c.algebra.result c.args.budget c.self.view_is
     c.algebra.ensures.algebra c.laws_hold.ensures.lawful c.algebra.ensures.formed c.algebra.ensures.tallied (returns-clause-taken g c)
+
+pub returns-then-runs_ahead-clause-taken : goal.returns-then-runs_ahead-clause-taken
+returns-then-runs_ahead-clause-taken g c = many_of g.A.PathAlgebra.meaning c.args.limit c.args.self.now c.loop-taken.self c.loop-taken.taken c.loop-taken.invariant
+
+pub returns-then-runs_ahead-clause-setup : goal.returns-then-runs_ahead-clause-setup
+returns-then-runs_ahead-clause-setup g c = (handled_many_same g.A.PathAlgebra.meaning c.args.self.now c.loop-taken.self c.loop-taken.taken (returns-then-runs_ahead-clause-taken g c)).0
+
+pub returns-then-runs_ahead-clause-shard : goal.returns-then-runs_ahead-clause-shard
+returns-then-runs_ahead-clause-shard g c = (handled_many_same g.A.PathAlgebra.meaning c.args.self.now c.loop-taken.self c.loop-taken.taken (returns-then-runs_ahead-clause-taken g c)).1
+
+pub returns-then-runs_ahead-clause-events : goal.returns-then-runs_ahead-clause-events
+returns-then-runs_ahead-clause-events g c = many_run g.A.PathAlgebra.meaning c.self.inside.state c.args.self.now c.loop-taken.self c.algebra.result c.loop-taken.taken c.self.view_is
+    c.algebra.ensures.algebra c.laws_hold.ensures.lawful c.algebra.ensures.formed c.algebra.ensures.tallied (returns-then-runs_ahead-clause-taken g c)
+
+pub returns-then-runs_ahead-clause-all : goal.returns-then-runs_ahead-clause-all
+returns-then-runs_ahead-clause-all g c = inr (inr (inr (subst (λ t. RunsAhead (g.A.PathAlgebra.meaning t.diffusion.algebra) c.args.ahead c.loop-taken.self)
+    (returns-then-runs_ahead-clause-setup g c) (c.if-runs_ahead.ensures refl))))

@@ -7,6 +7,7 @@ mod Existing
 pub mod Prefixes
 mod OfInputs
 pub mod Stopped
+mod OneShard
 mod Together
 mod SourcesToCome
 mod NextDiffusions

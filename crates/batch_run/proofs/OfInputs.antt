@@ -17,6 +17,7 @@ use Rattle.batch_run.specs.InRange.{AreInRange}
 use Rattle.batch_run.specs.Ran.{BegunWhole, IsPassedOn}
 use Rattle.text_lines.specs.Streams.{Output}
 use Rattle.batch_run.specs.Runs.{Ran}
+use Rattle.batch_run.specs.Stopping.{HasEnoughTurns}
 use Rattle.batch_run.proofs.CauseCases.{gated_by_number, no_setting, numbered, other_by_number, stalled_by_number, write_by_number}
 
 -- what a batch that stopped for a cause leaves in its output
@@ -41,6 +42,7 @@ module _ {V W : Type 0} (A : Algebra V) (how : Settings) (answers : ℕ → ℕ 
     kinds = tt;
     placed = tt;
     stalled = tt;
+    unstalled = λ _. tt;
     gated = tt;
     nothing = tt;
     unwritten = tt;
@@ -52,7 +54,8 @@ module _ {V W : Type 0} (A : Algebra V) (how : Settings) (answers : ℕ → ℕ 
     stopped = tt;
   }
 
-  module _ (cause : Cause) (may : MayStop (without_diffusions how) (Says answers how.workers how.turns) cause) (leaves : Leaves A g asked cause out out_after) where
+  module _ (cause : Cause) (may : MayStop (without_diffusions how) (Says answers how.workers how.turns) cause) (leaves : Leaves A g asked cause out out_after)
+      (unstalled : HasEnoughTurns how IsRead → number_of cause ≢ 40) where
     begun_whole : number_of cause ≢ 42 → BegunWhole A IsRead out out_after
     begun_whole other = record { graph = g; asked = asked; read = read; wrote = leaves.whole (other_by_number cause other) }
 
@@ -68,6 +71,7 @@ module _ {V W : Type 0} (A : Algebra V) (how : Settings) (answers : ℕ → ℕ 
       kinds = inr (refl, refl, numbered cause);
       placed = λ _. refl;
       stalled = stalled_by_number (without_diffusions how) (Says answers how.workers how.turns) cause may;
+      unstalled = unstalled;
       gated = gated_by_number (without_diffusions how) (Says answers how.workers how.turns) cause may;
       nothing = λ other. absurd (other refl);
       unwritten = λ other. absurd (other refl);

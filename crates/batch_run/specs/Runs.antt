@@ -5,7 +5,7 @@ use Rattle.std.specs.Io.KnownBytes.{Keeps}
 use Rattle.road_graph.specs.GraphData.{GraphData}
 use Rattle.road_files.specs.Asked.{Asked}
 use Rattle.path_algebra.specs.Algebra.{Algebra}
-use Rattle.batch_run.specs.Stopping.{Stalls, Closes}
+use Rattle.batch_run.specs.Stopping.{Stalls, Closes, HasEnoughTurns}
 use Rattle.batch_run.specs.declared.faults.File.{File}
 use Rattle.batch_run.specs.declared.faults.File.TheVariants.{NoFile}
 use Rattle.batch_run.specs.declared.faults.RunFault.{RunFault}
@@ -35,6 +35,8 @@ pub record Ran {V W : Type 0} (A : Algebra V) (how : Settings) (answers : ℕ �
   pub placed : IfErr outcome (λ f. f.number ≤ 3 → f.line ≡ 0)
   -- 40 is reported only if stations answer, and some worker made each turn up to the limit
   pub stalled : IfErr outcome (λ f. f.number ≡ 40 → (without_diffusions how ≡ false) × Stalls answers how.workers how.turns)
+  -- with one shard, best first, it is not reported if the limit is enough for the arcs of the graph
+  pub unstalled : HasEnoughTurns how IsRead → IfErr outcome (λ f. f.number ≢ 40)
   -- 41 is reported only if stations answer, and the gate answered some worker false before a turn up to the limit
   pub gated : IfErr outcome (λ f. f.number ≡ 41 → (without_diffusions how ≡ false) × Closes answers how.workers how.turns)
   -- after a fault of an input nothing was written

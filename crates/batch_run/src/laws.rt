@@ -1,5 +1,5 @@
 //! Theorems over answers and accounts, the contracts of functions that compute nothing.
-ghost use Rattle.std.specs.Prelude.{◌≡◌, ◌+◌, ℕ, Bool, true, All};
+ghost use Rattle.std.specs.Prelude.{◌≡◌, ◌+◌, ◌≤◌, ℕ, Bool, true, All};
 ghost use Rattle.road_graph.specs.GraphData.{GraphData, IsGraph};
 ghost use Rattle.road_files.specs.Asked.{Asked};
 ghost use Rattle.answer_text.specs.AnswerData.{AnswerList};
@@ -10,6 +10,7 @@ ghost use Rattle.shard_store.specs.declared.tally.Tally.{Tally};
 ghost use Rattle.station.specs.Gather.{each_shows};
 ghost use Rattle.batch_run.specs.Answered.{AsksWithin};
 ghost use Rattle.batch_run.specs.Reports.{IsAccount};
+ghost use Rattle.batch_run.specs.Stopping.{IsEnoughFor};
 ghost use Rattle.batch_run.specs.declared.settings.Settings.{Settings};
 
 use path_algebra::PathAlgebra;
@@ -33,4 +34,10 @@ pub fn best_first_accounts_count_each_arc_once<A: PathAlgebra>(_algebra: A)
         how.best_first ≡ true → IsAccount (A.meaning _algebra) how g source tally →
         (marked : ℕ → Bool) → AreMarksOfWalkEnds (A.meaning _algebra) g source marked →
         tally ≡ each_shows (1 + count_marked g marked) }
+{}
+
+/// A limit of 17,179,869,376 turns, of which the usual one is more than fifty times as many, is enough for every graph with one shard, best first.
+pub fn usual_turns_are_enough()
+    ensures { (how : Settings) (g : GraphData) → IsGraph g → how.width ≤ 64 →
+        17179869376 ≤ how.turns → IsEnoughFor how g }
 {}

@@ -23,7 +23,7 @@ use road_graph::{Graph, OutGraph};
 use std::sync::Wait;
 use std::thread::Threads;
 use text_lines::RoadWrite;
-use worker_fleet::Gate;
+use worker_fleet::{Gate, one_shard_never_stalls};
 
 /// Reads the graph and the questions of a batch, and makes the solver that the settings choose.
 fn read_batch<A: PathAlgebra, I: BatchInput, R, T>(
@@ -66,12 +66,14 @@ fn read_batch<A: PathAlgebra, I: BatchInput, R, T>(
 /// fault in this order is reported. After a fault of an input nothing has been written; after a later one (3, 40 to 42) a prefix
 /// of the answers' text has.
 ///
-/// Questions are run in groups of `width` diffusions, each over its own shards, by workers on threads: worker w turns the
-/// stations of the shards whose number is w modulo `workers`. With `plain` the one-thread solver answers each question, one that
+/// Questions are run in groups of `width` diffusions, each over its own shards, by workers on threads: of n workers, worker w
+/// turns the station of shard k of diffusion q if k is w modulo n, or, dealt by questions, if q + k is. With `plain` the one-thread solver answers each question, one that
 /// was solved just before without a new search, and a pair goes on with the search from its source; `width` searches go side by
 /// side on all processors. With `factors` the graph is factored when the header is written, and its factors answer: pairs in
 /// `width` runs side by side, other questions one after the other. With either no
 /// worker is started, the gate is not asked, and the graph is kept with its arcs by tail alone; for pairs and factors by head too.
+///
+/// With one shard, best first, no worker reaches a limit of turns (40) that is enough for the arcs of the graph (`usual_turns_are_enough`).
 pub fn run_batch<
     A: PathAlgebra,
     I: BatchInput,
@@ -98,6 +100,7 @@ pub fn run_batch<
     if !run.settings.suit(algebra) {
         return Err(fault_of_run(SETTINGS));
     }
+    one_shard_never_stalls(algebra, run.gate);
     let (mut solver, questions) = match read_batch(run, input) {
         Ok(read) => read,
         Err(fault) => return Err(fault),

@@ -4,6 +4,7 @@ ghost use Rattle.shard_store.specs.declared.queue_order.QueueOrder.TheVariants.{
 
 use path_algebra::{Cost, PathAlgebra};
 use shard_part::QueueOrder;
+use worker_fleet::Dealing;
 
 /// How a batch is run. The plain solver and factors write the same bytes whatever settings in range are given.
 #[derive(Clone, Copy, Debug, PartialEq, Eq)]
@@ -25,9 +26,11 @@ pub struct Settings {
     pub factors: bool,
     /// Whether a part takes the best waiting message first, and not what came first.
     pub best_first: bool,
-    /// Best first, by what weight a shard may run ahead of the best message that waits at another: worse ones are held
-    /// back. The mean weight of the arcs, if it is not said.
+    /// Best first, by what weight a shard may run ahead of the best message that waits at another shard or was sent to one:
+    /// worse ones are held back. A fifth of the mean weight of the arcs, if it is not given.
     pub ahead: Option<u32>,
+    /// By which rule the workers are dealt the shards of the questions that are under way together.
+    pub dealing: Dealing,
 }
 
 /// What answers the questions of a batch.
@@ -111,8 +114,9 @@ impl Settings {
 
 impl Default for Settings {
     ghost use Rattle.std.specs.Prelude.{◌≡◌, false, None};
+    ghost use Rattle.worker_fleet.specs.declared.dealing.Dealing.TheVariants.{Shards};
 
-    ghost is_default = { λ s. s ≡ record { workers = 4; shards = 4; width = 1; budget = 1024; turns = 1000000000000; plain = false; factors = false; best_first = false; ahead = None } };
+    ghost is_default = { λ s. s ≡ record { workers = 4; shards = 4; width = 1; budget = 1024; turns = 1000000000000; plain = false; factors = false; best_first = false; ahead = None; dealing = Shards } };
 
     fn default() -> Settings {
         Settings {
@@ -125,6 +129,7 @@ impl Default for Settings {
             factors: false,
             best_first: false,
             ahead: None,
+            dealing: Dealing::Shards,
         }
     }
 }

@@ -10,15 +10,16 @@ use Rattle.clap.specs.declared.error.kind.ErrorKind.{ErrorKind}
 use Rattle.clap.specs.declared.error.kind.ErrorKind.TheVariants.{OutOfMemory}
 use Rattle.clap.specs.declared.parser.matches.ArgMatches.{ArgMatches}
 use Rattle.command_args.specs.declared.parsed.Subcommand.{Subcommand}
-use Rattle.command_args.specs.CommandLine.{Algebras, algebra_names, diffuse}
+use Rattle.command_args.specs.CommandLine.{Names, algebra_names, dealing_names, diffuse}
 use Rattle.command_args.specs.Asked.{AreRefused, IsNamed, IsParsedAs}
 
-module _ (words : List Text) (app : App) (names : Algebras) (is_ours : app ≡ diffuse names) (named : texts names.now ≡ algebra_names) where
+module _ (words : List Text) (app : App) (algebras dealings : Names) (is_ours : app ≡ diffuse algebras dealings) (algebras_are : texts algebras.now ≡ algebra_names)
+    (dealings_are : texts dealings.now ≡ dealing_names) where
   pub parsed : (m : ArgMatches) (s : Subcommand) → (is_simple_and_free app ≡ true → fault_of app words ≡ []) → HasMatchesOf app words m
       → IsNamed (subcommand_rows_of m) (Some s) → IsParsedAs words s
   parsed m s free matches found = record {
     app = app;
-    is_ours = (names, named, is_ours);
+    is_ours = (algebras, dealings, algebras_are, dealings_are, is_ours);
     faultless = free (ap is_simple_and_free is_ours);
     named = subst (λ it. IsNamed it (Some s)) (matches (ap is_simple is_ours)).1 found;
   }
@@ -26,12 +27,12 @@ module _ (words : List Text) (app : App) (names : Algebras) (is_ours : app ≡ d
   pub refused : (e : Error) → (is_simple_and_free app ≡ true → HasKind (fault_of app words) e) → (kind_of e ≡ OutOfMemory) ⊎ AreRefused words (kind_of e)
   refused e fails = elim (fails (ap is_simple_and_free is_ours)) [
     | inl memory ↦ inl memory
-    | inr among ↦ inr (record { app = app; is_ours = (names, named, is_ours); because = inl among })
+    | inr among ↦ inr (record { app = app; is_ours = (algebras, dealings, algebras_are, dealings_are, is_ours); because = inl among })
   ]
 
   pub unnamed : (m : ArgMatches) (kind : ErrorKind) → HasMatchesOf app words m → IsNamed (subcommand_rows_of m) None → AreRefused words kind
   unnamed m kind matches found = record {
     app = app;
-    is_ours = (names, named, is_ours);
+    is_ours = (algebras, dealings, algebras_are, dealings_are, is_ours);
     because = inr (subst (λ it. IsNamed it None) (matches (ap is_simple is_ours)).1 found);
   }

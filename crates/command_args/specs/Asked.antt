@@ -9,6 +9,8 @@ use Rattle.clap.specs.Simple.{App, subcommand_of}
 use Rattle.clap.specs.Walk.{Row, Text, all_of, first_of, one_of}
 use Rattle.clap.specs.declared.error.kind.ErrorKind.{ErrorKind}
 use Rattle.clap.specs.declared.error.kind.ErrorKind.TheVariants.{OutOfMemory}
+use Rattle.worker_fleet.specs.declared.dealing.Dealing.{Dealing}
+use Rattle.worker_fleet.specs.declared.dealing.Dealing.TheVariants.{Shards, Questions}
 use Rattle.batch_run.specs.declared.settings.Settings.{Settings}
 use Rattle.command_args.specs.declared.parsed.RunOptions.{RunOptions}
 use Rattle.command_args.specs.declared.parsed.WatchOptions.{WatchOptions}
@@ -34,6 +36,15 @@ ReadsOr usual text n = (given : Option ℕ) × Reads 64 text given × (n ≡ unw
 abbrev pub IsSet : Option Text → Bool → Type 0
 IsSet text set = (text ≡ Some (codes "true") → set ≡ true) × ((text ≡ None) ⊎ (text ≡ Some (codes "false")) → set ≡ false)
 
+-- the text of an argument
+abbrev pub text_of : Text → List Row → Text
+text_of name rows = unwrap_or (first_of name rows) []
+
+-- the rule of dealing that a text names: it is `questions`, or else they are dealt by shards
+abbrev pub IsDealing : Text → Dealing → Type 0
+IsDealing text Questions = text ≡ codes "questions"
+IsDealing text Shards = text ≢ codes "questions"
+
 -- the settings are those of the matches
 pub record AreSettings (rows : List Row) (s : Settings) : Type 0 where
   pub workers : ReadsOr 4 (one_of (codes "workers") rows) s.workers
@@ -45,10 +56,7 @@ pub record AreSettings (rows : List Row) (s : Settings) : Type 0 where
   pub factors : IsSet (one_of (codes "factors") rows) s.factors
   pub best_first : IsSet (one_of (codes "best-first") rows) s.best_first
   pub ahead : Reads 32 (one_of (codes "ahead") rows) s.ahead
-
--- the text of an argument
-abbrev pub text_of : Text → List Row → Text
-text_of name rows = unwrap_or (first_of name rows) []
+  pub dealing : IsDealing (text_of (codes "deal") rows) s.dealing
 
 -- so are the algebra, its limit, and the settings
 pub record AreOptions (rows : List Row) (o : RunOptions) : Type 0 where

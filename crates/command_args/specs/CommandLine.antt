@@ -27,27 +27,36 @@ usual_number name least greatest usual = record (number name least greatest) { d
 abbrev pub file : Text → Rule
 file name = record (new_rule name) { required = true; action = Some Set }
 
--- the texts that name an algebra
-abbrev pub Algebras : Type 0
-Algebras = Bor (List (Bor Text))
+-- the texts that an option may have
+abbrev pub Names : Type 0
+Names = Bor (List (Bor Text))
 
-abbrev pub algebra : Algebras → Rule
-algebra names = record (option (codes "algebra")) { parser = Some (parser.Names names); defaults = codes "shortest" ∷ [] }
+-- an option whose value is one of these names, with the one that it has if it is left out
+abbrev pub usual_name : Text → Names → Text → Rule
+usual_name name names usual = record (option name) { parser = Some (parser.Names names); defaults = usual ∷ [] }
+
+abbrev pub algebra : Names → Rule
+algebra names = usual_name (codes "algebra") names (codes "shortest")
+
+-- how shards are dealt to workers
+abbrev pub deal : Names → Rule
+deal names = usual_name (codes "deal") names (codes "shards")
 
 -- the limit of `within`
 abbrev pub limit : Rule
 limit = number (codes "limit") 0 (2 ^ 63)
 
 -- how questions are answered
-abbrev pub settings : Algebras → List Rule
-settings names =
+abbrev pub settings : (algebras dealings : Names) → List Rule
+settings algebras dealings =
     flag (codes "plain")
     ∷ flag (codes "factors")
-    ∷ algebra names
+    ∷ algebra algebras
     ∷ limit
     ∷ usual_number (codes "width") 1 64 (codes "1")
     ∷ usual_number (codes "workers") 1 64 (codes "4")
     ∷ usual_number (codes "shards") 1 64 (codes "4")
+    ∷ deal dealings
     ∷ usual_number (codes "budget") 1 65536 (codes "1024")
     ∷ usual_number (codes "turns") 0 1000000000000 (codes "1000000000000")
     ∷ flag (codes "best-first")
@@ -75,14 +84,14 @@ abbrev pub subcommand : Text → List Rule → Shape
 subcommand name rules = record (new_shape name) { rules = rules }
 
 -- the subcommands
-abbrev pub solve : Algebras → Shape
-solve names = subcommand (codes "solve") (file (codes "GRAPH") ∷ file (codes "QUESTIONS") ∷ settings names ++ watching)
+abbrev pub solve : (algebras dealings : Names) → Shape
+solve algebras dealings = subcommand (codes "solve") (file (codes "GRAPH") ∷ file (codes "QUESTIONS") ∷ settings algebras dealings ++ watching)
 
-abbrev pub bundle : Algebras → Shape
-bundle names = subcommand (codes "bundle") (settings names ++ watching)
+abbrev pub bundle : (algebras dealings : Names) → Shape
+bundle algebras dealings = subcommand (codes "bundle") (settings algebras dealings ++ watching)
 
-abbrev pub serve : Algebras → Shape
-serve names = subcommand (codes "serve") (file (codes "GRAPH") ∷ settings names)
+abbrev pub serve : (algebras dealings : Names) → Shape
+serve algebras dealings = subcommand (codes "serve") (file (codes "GRAPH") ∷ settings algebras dealings)
 
 abbrev pub check : Shape
 check = subcommand (codes "check") (file (codes "GRAPH") ∷ file (codes "QUESTIONS") ∷ file (codes "ANSWERS") ∷ limit ∷ [])
@@ -91,16 +100,20 @@ abbrev pub faults : Shape
 faults = subcommand (codes "faults") (fault_numbers ∷ [])
 
 -- the command line of the program. clap adds `help` and `--help`, and `--version`
-abbrev pub diffuse : Algebras → App
-diffuse names = record {
+abbrev pub diffuse : (algebras dealings : Names) → App
+diffuse algebras dealings = record {
   top = record (new_shape (codes "diffuse")) { is_leaf = false; has_version = true; subcommand_required = true };
-  subs = solve names ∷ bundle names ∷ serve names ∷ check ∷ faults ∷ [];
+  subs = solve algebras dealings ∷ bundle algebras dealings ∷ serve algebras dealings ∷ check ∷ faults ∷ [];
 }
 
 -- the names of the algebras
 abbrev pub algebra_names : List Text
 algebra_names = codes "shortest" ∷ codes "widest" ∷ codes "reach" ∷ codes "hops" ∷ codes "reliable" ∷ codes "within" ∷ []
 
+-- the names of the rules by which shards are dealt
+abbrev pub dealing_names : List Text
+dealing_names = codes "shards" ∷ codes "questions" ∷ []
+
 -- this is the command line of the program
 abbrev pub IsCommandLine : App → Type 0
-IsCommandLine app = (names : Algebras) × (texts names.now ≡ algebra_names) × (app ≡ diffuse names)
+IsCommandLine app = (algebras : Names) × (dealings : Names) × (texts algebras.now ≡ algebra_names) × (texts dealings.now ≡ dealing_names) × (app ≡ diffuse algebras dealings)

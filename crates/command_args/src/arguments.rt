@@ -1,9 +1,9 @@
 //! The kinds of arguments that a command line has.
 ghost use Rattle.std.specs.Prelude.{◌≡◌, false};
 ghost use Rattle.clap.specs.Words.{rule_of};
-ghost use Rattle.command_args.specs.CommandLine.{algebra, fault_numbers, file, flag, limit, number, option, usual_number};
+ghost use Rattle.command_args.specs.CommandLine.{algebra, deal, fault_numbers, file, flag, limit, number, option, usual_name, usual_number};
 
-use crate::help::{ALGEBRA, NUMBERS};
+use crate::help::{ALGEBRA, DEAL, NUMBERS};
 use clap::builder::ValueParser;
 use clap::{Arg, ArgAction};
 use std::alloc::Global;
@@ -72,21 +72,38 @@ pub(crate) fn limit<'a>(alloc: Global, long_help: &'a str) -> Arg<'a>
         .long_help(long_help)
 }
 
+/// One of these names, with the one that it is if it is left out.
+fn usual_name<'a>(
+    alloc: Global,
+    name: &'a str,
+    names: &'a [&'a str],
+    usual: &'a str,
+    help: &'a str,
+) -> Arg<'a>
+    ensures global { result.global ≡ false }
+    ensures rule { rule_of result ≡ usual_name name.now names.entry usual.now }
+{
+    option(alloc, name, "NAME", help)
+        .value_parser(names)
+        .default_value(usual)
+        .hide_possible_values(true)
+}
+
 /// What is best, by one of these names.
 pub(crate) fn algebra<'a>(alloc: Global, names: &'a [&'a str]) -> Arg<'a>
     ensures global { result.global ≡ false }
     ensures rule { rule_of result ≡ algebra names.entry }
 {
-    option(
-        alloc,
-        "algebra",
-        "NAME",
-        "What is best; the names are below",
-    )
-    .value_parser(names)
-    .default_value("shortest")
-    .hide_possible_values(true)
-    .long_help(ALGEBRA)
+    let help = "What is best; the names are below";
+    usual_name(alloc, "algebra", names, "shortest", help).long_help(ALGEBRA)
+}
+
+/// How shards are dealt to workers, by one of these names.
+pub(crate) fn deal<'a>(alloc: Global, names: &'a [&'a str]) -> Arg<'a>
+    ensures global { result.global ≡ false }
+    ensures rule { rule_of result ≡ deal names.entry }
+{
+    usual_name(alloc, "deal", names, "shards", DEAL)
 }
 
 /// A file that has to be named.

@@ -3,7 +3,9 @@ ghost use Rattle.std.specs.Prelude.{◌≡◌, [], IfOk};
 ghost use Rattle.clap.specs.Words.{app_of};
 ghost use Rattle.command_args.specs.CommandLine.{bundle, check, diffuse, faults, serve, settings, solve, watching, with_rules};
 
-use crate::arguments::{algebra, fault_numbers, file, flag, limit, option, usual_number, weight};
+use crate::arguments::{
+    algebra, deal, fault_numbers, file, flag, limit, option, usual_number, weight,
+};
 use crate::help::{
     ACCOUNTS, AHEAD, ANSWERS, BEST_FIRST, BUDGET, BUNDLE, EXPLAINED, FACTORS, GRAPH, JUDGED, LIMIT,
     LIMIT_OF_ANSWERS, NAMES, PLAIN, PROGRESS, PURPOSE, QUESTIONS, REPLIES, SERVE, SERVED_GRAPH,
@@ -17,8 +19,10 @@ fn with_settings<'a>(
     alloc: Global,
     command: Command<'a>,
     algebras: &'a [&'a str],
+    dealings: &'a [&'a str],
 ) -> Result<Command<'a>, AllocError>
-    ensures { IfOk result (λ r. app_of r ≡ with_rules (app_of command.entry) (settings algebras.entry)) }
+    ensures { IfOk result (λ r. app_of r ≡ with_rules (app_of command.entry) (settings
+        algebras.entry dealings.entry)) }
 {
     command
         .arg(flag(alloc, "plain", PLAIN))?
@@ -28,6 +32,7 @@ fn with_settings<'a>(
         .arg(usual_number(alloc, "width", (1, 64), "1", WIDTH))?
         .arg(usual_number(alloc, "workers", (1, 64), "4", WORKERS))?
         .arg(usual_number(alloc, "shards", (1, 64), "4", SHARDS))?
+        .arg(deal(alloc, dealings))?
         .arg(usual_number(alloc, "budget", (1, 65_536), "1024", BUDGET))?
         .arg(usual_number(
             alloc,
@@ -50,8 +55,15 @@ fn with_watching<'a>(alloc: Global, command: Command<'a>) -> Result<Command<'a>,
         .arg(flag(alloc, "times", TIMES))
 }
 
-fn solve<'a>(alloc: Global, algebras: &'a [&'a str]) -> Result<Command<'a>, AllocError>
-    ensures { IfOk result (λ r. app_of r ≡ record { top = solve algebras.entry; subs = [] }) }
+fn solve<'a>(
+    alloc: Global,
+    algebras: &'a [&'a str],
+    dealings: &'a [&'a str],
+) -> Result<Command<'a>, AllocError>
+    ensures { IfOk result (λ r. app_of r ≡ record {
+      top = solve algebras.entry dealings.entry;
+      subs = [];
+    }) }
 {
     let command = Command::new(alloc, "solve")
         .about("Answers the questions of a file over the graph of another")
@@ -64,22 +76,36 @@ fn solve<'a>(alloc: Global, algebras: &'a [&'a str]) -> Result<Command<'a>, Allo
             GRAPH,
         ))?
         .arg(file(alloc, "QUESTIONS", "A .ss, .p2p or .ms file", QUESTIONS))?;
-    with_watching(alloc, with_settings(alloc, command, algebras)?)
+    with_watching(alloc, with_settings(alloc, command, algebras, dealings)?)
 }
 
-fn bundle<'a>(alloc: Global, algebras: &'a [&'a str]) -> Result<Command<'a>, AllocError>
-    ensures { IfOk result (λ r. app_of r ≡ record { top = bundle algebras.entry; subs = [] }) }
+fn bundle<'a>(
+    alloc: Global,
+    algebras: &'a [&'a str],
+    dealings: &'a [&'a str],
+) -> Result<Command<'a>, AllocError>
+    ensures { IfOk result (λ r. app_of r ≡ record {
+      top = bundle algebras.entry dealings.entry;
+      subs = [];
+    }) }
 {
     let command = Command::new(alloc, "bundle")
         .about("Answers a graph and its questions from standard input")
         .long_about(BUNDLE)
         .after_help(NAMES)
         .after_long_help(ANSWERS);
-    with_watching(alloc, with_settings(alloc, command, algebras)?)
+    with_watching(alloc, with_settings(alloc, command, algebras, dealings)?)
 }
 
-fn serve<'a>(alloc: Global, algebras: &'a [&'a str]) -> Result<Command<'a>, AllocError>
-    ensures { IfOk result (λ r. app_of r ≡ record { top = serve algebras.entry; subs = [] }) }
+fn serve<'a>(
+    alloc: Global,
+    algebras: &'a [&'a str],
+    dealings: &'a [&'a str],
+) -> Result<Command<'a>, AllocError>
+    ensures { IfOk result (λ r. app_of r ≡ record {
+      top = serve algebras.entry dealings.entry;
+      subs = [];
+    }) }
 {
     let command = Command::new(alloc, "serve")
         .about("Replies to requests over a graph, each as soon as it is whole")
@@ -87,7 +113,7 @@ fn serve<'a>(alloc: Global, algebras: &'a [&'a str]) -> Result<Command<'a>, Allo
         .after_help(NAMES)
         .after_long_help(REPLIES)
         .arg(file(alloc, "GRAPH", "A road graph, a .gr file", SERVED_GRAPH))?;
-    with_settings(alloc, command, algebras)
+    with_settings(alloc, command, algebras, dealings)
 }
 
 fn check<'a>(alloc: Global) -> Result<Command<'a>, AllocError>
@@ -117,18 +143,22 @@ fn faults<'a>(alloc: Global) -> Result<Command<'a>, AllocError>
         .arg(fault_numbers(alloc))
 }
 
-/// The command line of the program, with algebras of these names.
-pub(crate) fn command<'a>(alloc: Global, algebras: &'a [&'a str]) -> Result<Command<'a>, AllocError>
-    ensures { IfOk result (λ r. app_of r ≡ diffuse algebras.entry) }
+/// The command line of the program, with algebras and rules of dealing of these names.
+pub(crate) fn command<'a>(
+    alloc: Global,
+    algebras: &'a [&'a str],
+    dealings: &'a [&'a str],
+) -> Result<Command<'a>, AllocError>
+    ensures { IfOk result (λ r. app_of r ≡ diffuse algebras.entry dealings.entry) }
 {
     Command::new(alloc, "diffuse")
         .version(VERSION)
         .about(PURPOSE)
         .after_help(STATUSES)
         .subcommand_required(true)
-        .subcommand(solve(alloc, algebras)?)?
-        .subcommand(bundle(alloc, algebras)?)?
-        .subcommand(serve(alloc, algebras)?)?
+        .subcommand(solve(alloc, algebras, dealings)?)?
+        .subcommand(bundle(alloc, algebras, dealings)?)?
+        .subcommand(serve(alloc, algebras, dealings)?)?
         .subcommand(check(alloc)?)?
         .subcommand(faults(alloc)?)
 }

@@ -85,8 +85,8 @@ pub const LIMIT_OF_ANSWERS: &str = concat!(
 pub const PLAIN: &str = concat!(
     "Answer each question by a search of its own, with a binary heap. Best\n",
     "for a few questions. With it, or with `--factors`, the options\n",
-    "`--workers`, `--shards`, `--budget`, `--turns`, `--best-first` and\n",
-    "`--ahead` have no effect, but must be in range.",
+    "`--workers`, `--shards`, `--deal`, `--budget`, `--turns`,\n",
+    "`--best-first` and `--ahead` have no effect, but must be in range.",
 );
 
 /// The solver by factors of the graph.
@@ -109,8 +109,8 @@ pub const WORKERS: &str = "Threads that run the diffusing computation, 1 to 64."
 
 /// How many parts the vertices are divided into.
 pub const SHARDS: &str = concat!(
-    "Shards that the vertices are divided into, 1 to 64. Worker k of n owns\n",
-    "every n-th shard, starting with the k-th.",
+    "Shards that the vertices are divided into, 1 to 64. `--deal` says which\n",
+    "worker owns which.",
 );
 
 /// How much a shard does before the next has its turn.
@@ -128,8 +128,17 @@ pub const BEST_FIRST: &str = concat!(
 /// How far a shard may run ahead of the others.
 pub const AHEAD: &str = concat!(
     "With `--best-first`: a message waits while it is worse than the best\n",
-    "one that waits at another shard, extended by an arc of weight W, 0 to\n",
-    "4294967295. Left out, W is the mean weight of the arcs.",
+    "one that waits at another shard or was sent to one, extended by an\n",
+    "arc of weight W, 0 to 4294967295. Left out, W is a fifth of the mean\n",
+    "weight of the arcs.",
+);
+
+/// How shards are dealt to workers.
+pub const DEAL: &str = concat!(
+    "How the workers share the questions in progress: by `shards`, worker k\n",
+    "of n has every n-th shard of each, starting with the k-th; by\n",
+    "`questions`, each question starts one worker further, so that with\n",
+    "one shard each worker has whole questions.",
 );
 
 /// How long a worker goes on.

@@ -1,20 +1,23 @@
 //! What the words of a command line ask for.
-ghost use Rattle.std.specs.Prelude.{◌≡◌, List, map, IfOk, IfErr, IsTrue, ◌↔◌, ◌⊎◌, [], Some, None, unwrap_or, string_bytes};
+ghost use Rattle.std.specs.Prelude.{◌≡◌, List, map, IfOk, IfErr, IsTrue, ◌↔◌, ◌⊎◌, [], Some, None, unwrap_or, codes, string_bytes};
 ghost use Rattle.std.specs.List.{AllZip};
 ghost use Rattle.clap.specs.Values.{kind_of};
 ghost use Rattle.clap.specs.Words.{found_of};
 ghost use Rattle.clap.specs.Simple.{subcommand_rows_of};
 ghost use Rattle.clap.specs.Walk.{all_of, one_of, rows_of};
-ghost use Rattle.command_args.specs.Asked.{AreOptions, AreSettings, AreWatched, AskForNone, AskFor, AskForTable, AreRefused, IsFaultNumber, IsNamed, IsParsedAs, IsSet, Reads, ReadsOr, text_of};
+ghost use Rattle.command_args.specs.Asked.{AreOptions, AreSettings, AreWatched, AskForNone, AskFor, AskForTable, AreRefused, IsDealing, IsFaultNumber, IsNamed, IsParsedAs, IsSet, Reads, ReadsOr, text_of};
 
 use crate::clap_command::command;
-use batch_run::Settings;
+use batch_run::{Dealing, Settings};
 use clap::error::ErrorKind;
 use clap::{ArgMatches, Error};
 use std::alloc::{AllocError, Global};
 
 /// The names of the algebras that the program has.
 const ALGEBRAS: &[&str] = &["shortest", "widest", "reach", "hops", "reliable", "within"];
+
+/// The names of the rules by which shards are dealt to workers.
+const DEALINGS: &[&str] = &["shards", "questions"];
 
 /// What is best, and how it is found, as the command line has it.
 #[derive(Clone, Copy, Debug)]
@@ -120,6 +123,16 @@ fn flag_of(matches: &ArgMatches<'_>, name: &str) -> bool
     matches.get_flag(name)
 }
 
+/// The rule by which shards are dealt to workers.
+fn dealing_of(matches: &ArgMatches<'_>) -> Dealing
+    ensures { IsDealing (text_of (codes "deal") (rows_of (found_of matches.now))) result }
+{
+    match text_of(matches, "deal") {
+        "questions" => Dealing::Questions,
+        _ => Dealing::Shards,
+    }
+}
+
 fn settings_of(matches: &ArgMatches<'_>) -> Settings
     ensures { AreSettings (rows_of (found_of matches.now)) result }
 {
@@ -134,6 +147,7 @@ fn settings_of(matches: &ArgMatches<'_>) -> Settings
         factors: flag_of(matches, "factors"),
         best_first: flag_of(matches, "best-first"),
         ahead: weight_of(matches, "ahead"),
+        dealing: dealing_of(matches),
     }
 }
 
@@ -253,7 +267,7 @@ fn parse_by_clap<'a>(alloc: Global, words: &'a [String]) -> Result<Subcommand<'a
     ensures refused { IfErr result (λ e. (kind_of e ≡ ErrorKind.OutOfMemory)
         ⊎ AreRefused (map (λ word. string_bytes word) words.entry.now) (kind_of e)) }
 {
-    let mut command = command(alloc, ALGEBRAS)?;
+    let mut command = command(alloc, ALGEBRAS, DEALINGS)?;
     let matches = match command.try_get_matches_from_mut(words) {
         Ok(matches) => matches,
         Err(error) => return Err(error),

@@ -6,7 +6,9 @@ use Rattle.std.proofs.lemmas.Grind.{common_steps}
 use Rattle.std.proofs.lemmas.List.{nil_from_length}
 use Rattle.station.specs.Station.{StationData}
 use Rattle.worker_fleet.specs.declared.driving.Driven.{Driven}
-use Rattle.worker_fleet.specs.Dealt.{following, dealt, share_of, of_group}
+use Rattle.worker_fleet.specs.declared.dealing.Dealing.{Dealing}
+use Rattle.worker_fleet.specs.declared.dealing.Dealing.TheVariants.{Shards, Questions}
+use Rattle.worker_fleet.specs.Dealt.{begins_at, following, dealt, share_of, of_group}
 use Rattle.worker_fleet.specs.Groups.{gathered, Some_of}
 
 pub Some_of-left : {X : Type 0} (P : X → Type 0) (xs ys : List X) → Some_of P xs → Some_of P (xs ++ ys)
@@ -25,6 +27,10 @@ below_following n at some = elim (nat_lt (at + 1) n) as (λ b. (nat_lt (at + 1) 
   | true ↦ λ e. grind (arith, common_steps)
   | false ↦ λ e. some
 ] refl
+
+pub begins_below : (rule : Dealing) (n q : ℕ) → 0 < n → begins_at rule n q < n
+begins_below Shards n q some = some
+begins_below Questions n q some = omega (arith, some)
 
 -- what is dealt holds what each thing does, and is some worker's
 module _ {X : Type 0} where
@@ -54,27 +60,27 @@ module _ {X : Type 0} where
       (found.0, found.1, later (λ p. (p.0 ≡ group) × Q p.1) (nat_eq at found.0) (group, x) (dealt n found.0 (following n at) group xs) found.2)
 
   module _ {Z : Type 0} where
-    pub share_all : (P : ℕ × X → Type 0) (n w first : ℕ) (groups : List (Vec X Z))
-        → ((q : ℕ) (d : Vec X Z) → q < length groups → All (λ x. P (first + q, x)) (get_or groups q d).items) → All P (share_of n w first groups)
+    pub share_all : (P : ℕ × X → Type 0) (rule : Dealing) (n w first : ℕ) (groups : List (Vec X Z))
+        → ((q : ℕ) (d : Vec X Z) → q < length groups → All (λ x. P (first + q, x)) (get_or groups q d).items) → All P (share_of rule n w first groups)
     unfolding share_of
-    share_all P n w first [] h = All-nil P
-    share_all P n w first (g ∷ gs) h =
-        All-append P (dealt n w 0 first g.items) (share_of n w (suc first) gs)
-        (dealt_all P n w 0 first g.items (let e : first + 0 ≡ first = omega arith in rw e at (h 0 g (omega arith))))
-        (share_all P n w (suc first) gs (λ q d low. let e : first + suc q ≡ suc first + q = omega arith in rw e at (h (suc q) d (omega arith))))
+    share_all P rule n w first [] h = All-nil P
+    share_all P rule n w first (g ∷ gs) h =
+        All-append P (dealt n w (begins_at rule n first) first g.items) (share_of rule n w (suc first) gs)
+        (dealt_all P n w (begins_at rule n first) first g.items (let e : first + 0 ≡ first = omega arith in rw e at (h 0 g (omega arith))))
+        (share_all P rule n w (suc first) gs (λ q d low. let e : first + suc q ≡ suc first + q = omega arith in rw e at (h (suc q) d (omega arith))))
 
-    pub share_some : (Q : X → Type 0) (n first : ℕ) (groups : List (Vec X Z)) (q : ℕ) (d : Vec X Z) → 0 < n → q < length groups → Some_of Q (get_or groups q d).items
-        → (w : ℕ) × (w < n) × Some_of (λ p. (p.0 ≡ first + q) × Q p.1) (share_of n w first groups)
+    pub share_some : (Q : X → Type 0) (rule : Dealing) (n first : ℕ) (groups : List (Vec X Z)) (q : ℕ) (d : Vec X Z) → 0 < n → q < length groups → Some_of Q (get_or groups q d).items
+        → (w : ℕ) × (w < n) × Some_of (λ p. (p.0 ≡ first + q) × Q p.1) (share_of rule n w first groups)
     unfolding share_of
-    share_some Q n first [] q d some low h = absurd (omega arith)
-    share_some Q n first (g ∷ gs) zero d some low h =
-        let found = dealt_some Q n 0 first g.items some h in
+    share_some Q rule n first [] q d some low h = absurd (omega arith)
+    share_some Q rule n first (g ∷ gs) zero d some low h =
+        let found = dealt_some Q n (begins_at rule n first) first g.items (begins_below rule n first some) h in
         let e : first + 0 ≡ first = omega arith in
-        rw e (found.0, found.1, Some_of-left (λ p. (p.0 ≡ first) × Q p.1) (dealt n found.0 0 first g.items) (share_of n found.0 (suc first) gs) found.2)
-    share_some Q n first (g ∷ gs) (suc q) d some low h =
-        let found = share_some Q n (suc first) gs q d some (omega arith) h in
+        rw e (found.0, found.1, Some_of-left (λ p. (p.0 ≡ first) × Q p.1) (dealt n found.0 (begins_at rule n first) first g.items) (share_of rule n found.0 (suc first) gs) found.2)
+    share_some Q rule n first (g ∷ gs) (suc q) d some low h =
+        let found = share_some Q rule n (suc first) gs q d some (omega arith) h in
         let e : first + suc q ≡ suc first + q = omega arith in
-        rw e (found.0, found.1, Some_of-right (λ p. (p.0 ≡ suc first + q) × Q p.1) (dealt n found.0 0 first g.items) (share_of n found.0 (suc first) gs) found.2)
+        rw e (found.0, found.1, Some_of-right (λ p. (p.0 ≡ suc first + q) × Q p.1) (dealt n found.0 (begins_at rule n first) first g.items) (share_of rule n found.0 (suc first) gs) found.2)
 
 -- what was put together
 module _ {X : Type 0} where

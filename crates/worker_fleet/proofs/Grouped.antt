@@ -7,6 +7,7 @@ use Rattle.post_floor.specs.Data.{FloorData}
 use Rattle.station.specs.Station.{StationData}
 use Rattle.worker_fleet.specs.declared.driving.Driven.{Driven}
 use Rattle.worker_fleet.specs.declared.driving.Outcome.TheVariants.{Ended}
+use Rattle.worker_fleet.specs.declared.dealing.Dealing.{Dealing}
 use Rattle.worker_fleet.specs.Dealt.{share_of}
 use Rattle.worker_fleet.specs.Drives.{Drives}
 use Rattle.worker_fleet.specs.declared.group.GroupFault.{GroupFault}
@@ -41,23 +42,23 @@ module _ {A V Z : Type 0} (meaning : A → Algebra V) (floors : List (FloorData 
     pub all_done : All (λ r. r.outcome ≡ Ended) rs → (q : ℕ) → All (IsDone floors q) (gathered q rs)
     all_done h q = gathered_all (λ p. IsOnItsFloor floors p × (p.1.ended ≡ true)) q rs (λ k r low j p below. (all_placed k r low j p below, all_ended h k r low j p below))
 
-  pub is_stop : {W : Type 0} (diffusions : List (Vec (StationData A V) W))
-      → ((w : ℕ) (d : Vec (ℕ × StationData A V) Z) → w < workers → (get_or shares w d).items ≡ share_of workers w 0 diffusions)
+  pub is_stop : {W : Type 0} (rule : Dealing) (diffusions : List (Vec (StationData A V) W))
+      → ((w : ℕ) (d : Vec (ℕ × StationData A V) Z) → w < workers → (get_or shares w d).items ≡ share_of rule workers w 0 diffusions)
       → length shares ≡ workers
-      → (fault : GroupFault) → IsFirstStop rs fault → IsStop meaning floors budget limit workers answers diffusions fault
-  is_stop diffusions dealt all fault first = record {
+      → (fault : GroupFault) → IsFirstStop rs fault → IsStop meaning floors rule budget limit workers answers diffusions fault
+  is_stop rule diffusions dealt all fault first = record {
     all = rs;
     count = count ∙ all;
     drove = λ w d low. rw (dealt w some low) at (each w some d (omega (arith, low, all)));
     first = first;
   }
 
-  pub none_lost : {W : Type 0} (diffusions : List (Vec (StationData A V) W))
-      → ((w : ℕ) (d : Vec (ℕ × StationData A V) Z) → w < workers → (get_or shares w d).items ≡ share_of workers w 0 diffusions)
+  pub none_lost : {W : Type 0} (rule : Dealing) (diffusions : List (Vec (StationData A V) W))
+      → ((w : ℕ) (d : Vec (ℕ × StationData A V) Z) → w < workers → (get_or shares w d).items ≡ share_of rule workers w 0 diffusions)
       → length shares ≡ workers → 0 < workers
       → (q k : ℕ) (d : Vec (StationData A V) W) → q < length diffusions → HasShard k (get_or diffusions q d).items → HasShard k (gathered q rs)
-  none_lost diffusions dealt all working q k d low h =
-      let found = share_some (λ s. s.part.shard ≡ k) workers 0 diffusions q d working low h in
+  none_lost rule diffusions dealt all working q k d low h =
+      let found = share_some (λ s. s.part.shard ≡ k) rule workers 0 diffusions q d working low h in
       let zero_more : 0 + q ≡ q = omega arith in
       let inside : found.0 < length rs = omega (arith, found.1, all, count) in
       let here : Some_of (λ (p : ℕ × StationData A V). (p.0 ≡ q) × (p.1.part.shard ≡ k)) (get_or shares found.0 some).items = rw (dealt found.0 some found.1) (rw zero_more at found.2) in
@@ -67,8 +68,8 @@ module _ {A V Z : Type 0} (meaning : A → Algebra V) (floors : List (FloorData 
       (MovesEach-some (NextOn meaning floors budget) (λ (p : ℕ × StationData A V). (p.0 ≡ q) × (p.1.part.shard ≡ k)) (λ a b n h. (n.place ∙ h.0, n.turned.shard ∙ h.1)) w.counts _ _ w.moved here)
 
 -- what is dealt are the diffusions' own stations
-pub shares_placed : {A V Z W : Type 0} (floors : List (FloorData A)) (workers : ℕ) (shares : List (Vec (ℕ × StationData A V) Z)) (diffusions : List (Vec (StationData A V) W))
-    → ((w : ℕ) (d : Vec (ℕ × StationData A V) Z) → w < workers → (get_or shares w d).items ≡ share_of workers w 0 diffusions) → length shares ≡ workers
+pub shares_placed : {A V Z W : Type 0} (floors : List (FloorData A)) (rule : Dealing) (workers : ℕ) (shares : List (Vec (ℕ × StationData A V) Z)) (diffusions : List (Vec (StationData A V) W))
+    → ((w : ℕ) (d : Vec (ℕ × StationData A V) Z) → w < workers → (get_or shares w d).items ≡ share_of rule workers w 0 diffusions) → length shares ≡ workers
     → ((q : ℕ) (d : Vec (StationData A V) W) → q < length diffusions → All (λ s. IsOnItsFloor floors (q, s)) (get_or diffusions q d).items) → All (λ s. All (IsOnItsFloor floors) s.items) shares
-shares_placed floors workers shares diffusions dealt all own = λ w d low. rw (dealt w d (omega (arith, all, low)))
-    (share_all (IsOnItsFloor floors) workers w 0 diffusions (λ q e below. let zero_more : 0 + q ≡ q = omega arith in rw zero_more (own q e below)))
+shares_placed floors rule workers shares diffusions dealt all own = λ w d low. rw (dealt w d (omega (arith, all, low)))
+    (share_all (IsOnItsFloor floors) rule workers w 0 diffusions (λ q e below. let zero_more : 0 + q ≡ q = omega arith in rw zero_more (own q e below)))

@@ -1,3 +1,4 @@
+mod NextOpen
 mod Moved
 mod Rounds
 pub mod Stopped

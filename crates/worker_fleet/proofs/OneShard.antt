@@ -7,13 +7,14 @@ use Rattle.std.proofs.lemmas.List.Elements.{All-head, All-tail, All-cons, All-fr
 use Rattle.std.proofs.lemmas.List.Sums.{sum_by-le}
 use Rattle.path_algebra.specs.Algebra.{Algebra}
 use Rattle.scholten_core.specs.declared.event.Event.{Event}
+use Rattle.shard_store.specs.declared.queue_order.QueueOrder.TheVariants.{BestFirst}
 use Rattle.shard_store.specs.Setup.{SetupData}
 use Rattle.post_floor.specs.Data.{FloorData}
 use Rattle.atomic_table.specs.Seated.{TableId}
 use Rattle.shard_part.specs.Opening.{opened_part}
 use Rattle.station.specs.declared.turn.Report.{Report}
 use Rattle.station.specs.Opened.{station_of}
-use Rattle.station.specs.OneShard.{HasOneShard, turns_suffice, HasAll, WentOn}
+use Rattle.station.specs.OneShard.{HasOneShard, turns_suffice, best_first_turns_suffice, AreEnoughTurns, HasAll, WentOn}
 use Rattle.station.specs.Station.{StationData}
 use Rattle.station.specs.Turn.{Turned}
 use Rattle.worker_fleet.specs.declared.driving.Driven.{Driven}
@@ -52,7 +53,15 @@ module _ {A V : Type 0} (meaning : A → Algebra V) (algebra : A) (floors : List
     (opens : (t : SetupData A) (id : TableId) → HasOneShard t → HasAll meaning t [] (station_of id t.plan.shards (opened_part (meaning t.diffusion.algebra) t 0)))
     (went : (f : FloorData A) (budget : ℕ) (events : List Event) (before after : StationData A V) (r : Report) → HasOneShard f.setup → HasAll meaning f.setup events before → before.ended ≡ false
     → Turned meaning f budget before r after → WentOn meaning f.setup budget events r after)
-    (few : (t : SetupData A) (events : List Event) (s : StationData A V) → t.diffusion.algebra ≡ algebra → HasOneShard t → HasAll meaning t events s → length events < turns_suffice t) where
+    (few : (t : SetupData A) (events : List Event) (s : StationData A V) → t.diffusion.algebra ≡ algebra → HasOneShard t → HasAll meaning t events s → length events < turns_suffice t)
+    (few_best : (t : SetupData A) (events : List Event) (s : StationData A V) → HasOneShard t → t.order ≡ BestFirst → HasAll meaning t events s → length events < best_first_turns_suffice t) where
+  -- by either number, so many turns are enough
+  fewer : (t : SetupData A) (events : List Event) (s : StationData A V) → t.diffusion.algebra ≡ algebra → HasOneShard t → HasAll meaning t events s → AreEnoughTurns t turns → length events < turns
+  fewer t events s is one all enough = elim enough [
+    | inl any ↦ (let l = few t events s is one all in omega (arith, l, any))
+    | inr best ↦ (let l = few_best t events s one best.0 all in let m = best.1 in omega (arith, l, m))
+  ]
+
   -- after so many turns there were as many events
   record Going (f : FloorData A) (n : ℕ) (s : StationData A V) : Type 0 where
     events : List Event
@@ -96,7 +105,7 @@ module _ {A V : Type 0} (meaning : A → Algebra V) (algebra : A) (floors : List
       let w = All-head (IsWhole meaning algebra floors turns) x xs h in
       let r = steps_reach w.floor w.brief.one x.0 w.is_floor n x y m.0 refl (start x w) in
       let g = r.1 (o y) in
-      let l = few w.floor.setup g.events y.1 w.brief.by w.brief.one g.all in let a = g.as_many in let e = w.brief.enough in omega (arith, l, a, e)
+      let l = fewer w.floor.setup g.events y.1 w.brief.by w.brief.one g.all w.brief.enough in let a = g.as_many in omega (arith, l, a)
   few_turns (n ∷ ns) (x ∷ xs) (y ∷ ys) m h (suc j) low o = few_turns ns xs ys m.1 (All-tail (IsWhole meaning algebra floors turns) x xs h) j (omega (arith, low)) (λ d. o d)
   few_turns [] [] (y ∷ ys) m h j low o = absurd m
   few_turns [] (x ∷ xs) ys m h j low o = absurd m

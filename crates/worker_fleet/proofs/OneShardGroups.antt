@@ -12,10 +12,11 @@ use Rattle.post_floor.specs.Data.{FloorData, first_parts}
 use Rattle.station.specs.OneShard.{HasOneShard}
 use Rattle.station.specs.Opened.{AreOpened, station_of}
 use Rattle.station.specs.Station.{StationData}
+use Rattle.worker_fleet.specs.declared.dealing.Dealing.{Dealing}
 use Rattle.worker_fleet.specs.declared.driving.Driven.{Driven}
 use Rattle.worker_fleet.specs.declared.group.GroupFault.TheVariants as faults
 use Rattle.worker_fleet.specs.declared.driving.Outcome.TheVariants.{Stalled}
-use Rattle.worker_fleet.specs.Dealt.{following, dealt, share_of}
+use Rattle.worker_fleet.specs.Dealt.{begins_at, following, dealt, share_of}
 use Rattle.worker_fleet.specs.Drives.{Drives}
 use Rattle.worker_fleet.specs.OneShard.{IsBrief, IsWhole}
 use Rattle.worker_fleet.specs.Stops.{StopsGroup}
@@ -33,13 +34,13 @@ module _ {X : Type 0} where
         | false ↦ omega (arith, rest)
       ]
 
-  share_few : {Z : Type 0} (n w first : ℕ) (groups : List (Vec X Z)) → ((q : ℕ) (d : Vec X Z) → q < length groups → length (get_or groups q d).items ≤ 1) → length (share_of n w first groups) ≤ length groups
+  share_few : {Z : Type 0} (rule : Dealing) (n w first : ℕ) (groups : List (Vec X Z)) → ((q : ℕ) (d : Vec X Z) → q < length groups → length (get_or groups q d).items ≤ 1) → length (share_of rule n w first groups) ≤ length groups
   unfolding share_of
-  share_few n w first [] h = omega arith
-  share_few n w first (g ∷ gs) h =
-      let rest = share_few n w (suc first) gs (λ q d low. h (suc q) d (omega (arith, low))) in
-      let mine = dealt_few n w 0 first g.items in let one = h 0 g (omega arith) in
-      let all = length-append (dealt n w 0 first g.items) (share_of n w (suc first) gs) in omega (arith, rest, mine, one, all)
+  share_few rule n w first [] h = omega arith
+  share_few rule n w first (g ∷ gs) h =
+      let rest = share_few rule n w (suc first) gs (λ q d low. h (suc q) d (omega (arith, low))) in
+      let mine = dealt_few n w (begins_at rule n first) first g.items in let one = h 0 g (omega arith) in
+      let all = length-append (dealt n w (begins_at rule n first) first g.items) (share_of rule n w (suc first) gs) in omega (arith, rest, mine, one, all)
 
 module _ {A V : Type 0} (meaning : A → Algebra V) (algebra : A) (turns : ℕ) where
   -- the one station of a diffusion that was opened
@@ -62,24 +63,24 @@ module _ {A V : Type 0} (meaning : A → Algebra V) (algebra : A) (turns : ℕ) 
         fresh = refl;
       }) (All-nil (λ s. IsWhole meaning algebra floors turns (q, s))))
 
-module _ {A V : Type 0} (meaning : A → Algebra V) (algebra : A) (workers width budget limit turns : ℕ) (answers : ℕ → ℕ → Bool → Type 0)
+module _ {A V : Type 0} (meaning : A → Algebra V) (algebra : A) (rule : Dealing) (workers width budget limit turns : ℕ) (answers : ℕ → ℕ → Bool → Type 0)
     (most : width * turns ≤ limit)
     (drives : (floors : List (FloorData A)) (worker : ℕ) (before : List (ℕ × StationData A V)) (r : Driven A V) → All (IsWhole meaning algebra floors turns) before → length before * turns ≤ limit
     → Drives meaning floors budget limit answers worker before r → r.outcome ≡ Stalled → ⊥) where
-  pub never_stall : StopsGroup meaning (IsBrief algebra turns) workers width budget limit answers faults.Stalled → ⊥
+  pub never_stall : StopsGroup meaning (IsBrief algebra turns) rule workers width budget limit answers faults.Stalled → ⊥
   never_stall S =
       let first = S.stop.first in
       let w = first.worker in
       let r = one_of S.stop.all (let l = first.inside in omega (arith, l)) in
       let low : w < workers = (let l = first.inside in let c = S.stop.count in omega (arith, l, c)) in
-      let share = share_of workers w 0 S.diffusions in
+      let share = share_of rule workers w 0 S.diffusions in
       let inside : (q : ℕ) → q < length S.diffusions → q < S.count = λ q l. (let c = S.diffusions_are in omega (arith, l, c)) in
       let on : (q : ℕ) → q < length S.diffusions → q < length S.floors = λ q l. (let c = S.diffusions_are in let d = S.floors_are in omega (arith, l, c, d)) in
       let floor : (q : ℕ) → q < length S.diffusions → FloorData A = λ q l. one_of S.floors (let o = on q l in omega (arith, o)) in
-      let whole : All (IsWhole meaning algebra S.floors turns) share = share_all (IsWhole meaning algebra S.floors turns) workers w 0 S.diffusions (λ q d l.
+      let whole : All (IsWhole meaning algebra S.floors turns) share = share_all (IsWhole meaning algebra S.floors turns) rule workers w 0 S.diffusions (λ q d l.
       let zero_more : 0 + q ≡ q = omega arith in
       rw zero_more (whole_station meaning algebra turns S.floors q (floor q l) (on q l) (S.setup q) (S.each q (inside q l)) (get_or S.diffusions q d).items (S.opened q (floor q l) d (inside q l)))) in
-      let short = share_few workers w 0 S.diffusions (λ q d l.
+      let short = share_few rule workers w 0 S.diffusions (λ q d l.
       let e = ap length (one_station meaning algebra turns (S.setup q) (S.each q (inside q l)).one (get_or S.floors q (floor q l)) (get_or S.diffusions q d).items (S.opened q (floor q l) d (inside q l))) in
       omega (arith, e)) in
       let few : length share ≤ width = (let c = S.diffusions_are in let m = S.few in omega (arith, short, c, m)) in

@@ -3,7 +3,8 @@ use Rattle.std.proofs.Common.{◌≡◌, ◌≢◌, ℕ, ◌<◌, suc, List, [],
 use Rattle.std.proofs.lemmas.Bool.{cases_eq}
 use Rattle.std.proofs.lemmas.Grind.{common_steps}
 use Rattle.std.proofs.lemmas.List.{nil_from_length}
-use Rattle.worker_fleet.specs.Dealt.{following, dealt, share_of, of_group, PushesAt}
+use Rattle.worker_fleet.specs.declared.dealing.Dealing.{Dealing}
+use Rattle.worker_fleet.specs.Dealt.{begins_at, following, dealt, share_of, of_group, PushesAt}
 
 module _ {X Z : Type 0} (i : ℕ) (x : X) (old new : List (Vec X Z)) (low : i < length old) (p : PushesAt i x old new) where
   pub pushed_here : (d : Vec X Z) → (get_or new i d).items ≡ (get_or old i d).items ++ x ∷ []
@@ -34,15 +35,15 @@ module _ {X Z : Type 0} where
   unfolding dealt
   deal_step n w at group x all rest old new d low put e = rw e (push_keeps at (group, x) old new low put w d (dealt n w (following n at) group rest))
 
-  pub share_none : (n w first : ℕ) (rest : List (Vec X Z)) → length rest ≡ 0 → share_of n w first rest ≡ []
+  pub share_none : (rule : Dealing) (n w first : ℕ) (rest : List (Vec X Z)) → length rest ≡ 0 → share_of rule n w first rest ≡ []
   unfolding share_of
-  share_none n w first rest e = ap (share_of n w first) (nil_from_length rest e)
+  share_none rule n w first rest e = ap (share_of rule n w first) (nil_from_length rest e)
 
   -- a group more is dealt
-  pub deal_more : (n w group : ℕ) (things : Vec X Z) (all rest : List (Vec X Z)) (before after : List (ℕ × X)) → all ≡ things ∷ rest → after ≡ before ++ dealt n w 0 group things.items
-      → after ++ share_of n w (group + 1) rest ≡ before ++ share_of n w group all
+  pub deal_more : (rule : Dealing) (n w group : ℕ) (things : Vec X Z) (all rest : List (Vec X Z)) (before after : List (ℕ × X)) → all ≡ things ∷ rest → after ≡ before ++ dealt n w (begins_at rule n group) group things.items
+      → after ++ share_of rule n w (group + 1) rest ≡ before ++ share_of rule n w group all
   unfolding share_of
-  deal_more n w group things all rest before after e pushed = rw (e, pushed, add-one) (append_assoc before (dealt n w 0 group things.items) (share_of n w (suc group) rest))
+  deal_more rule n w group things all rest before after e pushed = rw (e, pushed, add-one) (append_assoc before (dealt n w (begins_at rule n group) group things.items) (share_of rule n w (suc group) rest))
 
   -- a thing more is put to its group
   pub put_step : (q group : ℕ) (x : X) (all rest : List (ℕ × X)) (old new : List (Vec X Z)) (d : Vec X Z) → group < length old → PushesAt group x old new → all ≡ (group, x) ∷ rest

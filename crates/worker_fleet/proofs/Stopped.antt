@@ -4,14 +4,15 @@ use Rattle.path_algebra.specs.Algebra.{Algebra}
 use Rattle.shard_store.specs.Setup.{SetupData}
 use Rattle.post_floor.specs.Data.{FloorData}
 use Rattle.station.specs.Station.{StationData}
+use Rattle.worker_fleet.specs.declared.dealing.Dealing.{Dealing}
 use Rattle.worker_fleet.specs.declared.group.GroupFault.{GroupFault}
 use Rattle.worker_fleet.specs.declared.group.GroupFault.TheVariants.{Memory, Stalled, Gated}
 use Rattle.worker_fleet.specs.Drives.{LetsTurn}
 use Rattle.worker_fleet.specs.Stops.{IsStop, StopsGroup, Says}
 use Rattle.worker_fleet.proofs.Grouped.{one_of}
 
-module _ {A V Z : Type 0} (meaning : A → Algebra V) (floors : List (FloorData A)) (budget limit workers : ℕ) (answers : ℕ → ℕ → Bool → Type 0) (diffusions : List (Vec (StationData A V) Z)) where
-  pub IsStop-says : (fault : GroupFault) → IsStop meaning floors budget limit workers answers diffusions fault → Says answers workers limit fault
+module _ {A V Z : Type 0} (meaning : A → Algebra V) (floors : List (FloorData A)) (rule : Dealing) (budget limit workers : ℕ) (answers : ℕ → ℕ → Bool → Type 0) (diffusions : List (Vec (StationData A V) Z)) where
+  pub IsStop-says : (fault : GroupFault) → IsStop meaning floors rule budget limit workers answers diffusions fault → Says answers workers limit fault
   IsStop-says Memory s = tt
   IsStop-says Stalled s =
       let below : s.first.worker < workers = omega (arith, s.count, s.first.inside) in
@@ -37,6 +38,6 @@ module _ {A V Z : Type 0} (meaning : A → Algebra V) (floors : List (FloorData 
       }
 
 -- and so does that of diffusions that were run together
-pub StopsGroup-says : {A V : Type 0} (meaning : A → Algebra V) (IsOne : SetupData A → Type 0) (workers width budget limit : ℕ) (answers : ℕ → ℕ → Bool → Type 0) (fault : GroupFault)
-    → StopsGroup meaning IsOne workers width budget limit answers fault → Says answers workers limit fault
-StopsGroup-says meaning IsOne workers width budget limit answers fault s = IsStop-says meaning s.floors budget limit workers answers s.diffusions fault s.stop
+pub StopsGroup-says : {A V : Type 0} (meaning : A → Algebra V) (IsOne : SetupData A → Type 0) (rule : Dealing) (workers width budget limit : ℕ) (answers : ℕ → ℕ → Bool → Type 0) (fault : GroupFault)
+    → StopsGroup meaning IsOne rule workers width budget limit answers fault → Says answers workers limit fault
+StopsGroup-says meaning IsOne rule workers width budget limit answers fault s = IsStop-says meaning s.floors rule budget limit workers answers s.diffusions fault s.stop

@@ -7,6 +7,7 @@ use Rattle.shard_store.specs.Setup.{SetupData}
 use Rattle.post_floor.specs.Data.{FloorData}
 use Rattle.station.specs.Opened.{AreOpened}
 use Rattle.station.specs.Station.{StationData}
+use Rattle.worker_fleet.specs.declared.dealing.Dealing.{Dealing}
 use Rattle.worker_fleet.specs.declared.driving.Driven.{Driven}
 use Rattle.worker_fleet.specs.declared.driving.Outcome.TheVariants as outcomes
 use Rattle.worker_fleet.specs.declared.group.GroupFault.{GroupFault}
@@ -27,16 +28,16 @@ pub record IsFirstStop {A V : Type 0} (all : List (Driven A V)) (fault : GroupFa
   pub stopped : HoldsAt (StopsBy fault) all worker
   pub earlier : AllWithin (λ r. r.outcome ≡ outcomes.Ended) all 0 worker
 
--- each worker drove its share of the diffusions' stations, and the least numbered that stopped before the end did so by this fault
-pub record IsStop {A V Z : Type 0} (meaning : A → Algebra V) (floors : List (FloorData A)) (budget limit workers : ℕ) (answers : ℕ → ℕ → Bool → Type 0) (diffusions : List (Vec (StationData A V) Z)) (fault : GroupFault) : Type 0 where
+-- each worker drove the stations that it was dealt of the diffusions, by this rule, and the least numbered that stopped before the end did so by this fault
+pub record IsStop {A V Z : Type 0} (meaning : A → Algebra V) (floors : List (FloorData A)) (rule : Dealing) (budget limit workers : ℕ) (answers : ℕ → ℕ → Bool → Type 0) (diffusions : List (Vec (StationData A V) Z)) (fault : GroupFault) : Type 0 where
   pub all : List (Driven A V)
   pub count : length all ≡ workers
-  pub drove : (w : ℕ) (d : Driven A V) → w < workers → Drives meaning floors budget limit answers w (share_of workers w 0 diffusions) (slice_index_or all w d)
+  pub drove : (w : ℕ) (d : Driven A V) → w < workers → Drives meaning floors budget limit answers w (share_of rule workers w 0 diffusions) (slice_index_or all w d)
   pub first : IsFirstStop all fault
 
--- Some diffusions of these setups, at most `width`, were opened together, each worker drove its share of their stations, and the least numbered that stopped before
--- the end did so by this fault.
-pub record StopsGroup {A V : Type 0} (meaning : A → Algebra V) (IsOne : SetupData A → Type 0) (workers width budget limit : ℕ) (answers : ℕ → ℕ → Bool → Type 0) (fault : GroupFault) : Type 0 where
+-- Some diffusions of these setups, at most `width`, were opened together, each worker drove the stations that it was dealt of them, by this rule, and the least
+-- numbered that stopped before the end did so by this fault.
+pub record StopsGroup {A V : Type 0} (meaning : A → Algebra V) (IsOne : SetupData A → Type 0) (rule : Dealing) (workers width budget limit : ℕ) (answers : ℕ → ℕ → Bool → Type 0) (fault : GroupFault) : Type 0 where
   pub count : ℕ
   pub few : count ≤ width
   pub setup : ℕ → SetupData A
@@ -47,7 +48,7 @@ pub record StopsGroup {A V : Type 0} (meaning : A → Algebra V) (IsOne : SetupD
   pub diffusions_are : length diffusions ≡ count
   pub opened : (q : ℕ) (f : FloorData A) (stations : Vec (StationData A V) Global) → q < count →
       AreOpened meaning (setup q) (slice_index_or floors q f) (slice_index_or diffusions q stations).items
-  pub stop : IsStop meaning floors budget limit workers answers diffusions fault
+  pub stop : IsStop meaning floors rule budget limit workers answers diffusions fault
 
 -- some worker made each turn up to the limit
 pub record Stalls (answers : ℕ → ℕ → Bool → Type 0) (workers limit : ℕ) : Type 0 where

@@ -1,9 +1,33 @@
 //! Groups of things that are dealt to workers in turn, and put together again.
 ghost use Rattle.std.specs.Prelude.{◌≡◌, ℕ, ◌<◌, ◌++◌, [], length, IfOk, OnOk, vec_len, slice_index_or};
 ghost use Rattle.std.specs.List.{All};
-ghost use Rattle.worker_fleet.specs.Dealt.{following, dealt, share_of, of_group, PushesAt};
+ghost use Rattle.worker_fleet.specs.Dealt.{begins_at, following, dealt, share_of, of_group, PushesAt};
 
 use std::alloc::{AllocError, Global};
+
+/// To which workers the stations of a group of diffusions are dealt. Those of one diffusion go to the workers in turn.
+#[derive(Clone, Copy, PartialEq, Eq, Debug)]
+pub enum Dealing {
+    /// The first station of each diffusion goes to worker 0, so that a worker has the same shards of all.
+    Shards,
+    /// The first station of diffusion q goes to worker q modulo their number, so that with one shard a worker has whole
+    /// diffusions.
+    Questions,
+}
+
+impl Dealing {
+    /// The worker to whom the first station of a diffusion goes.
+    fn begins_at(self, workers: usize, diffusion: usize) -> usize
+        requires { 0 < workers }
+        ensures worker { result ≡ begins_at self workers diffusion }
+        ensures below { result < workers }
+    {
+        match self {
+            Dealing::Shards => 0,
+            Dealing::Questions => diffusion % workers,
+        }
+    }
+}
 
 /// Makes `count` empty lists.
 pub(crate) fn empty_lists<T: Drop>(alloc: Global, count: usize) -> Result<Vec<Vec<T>>, AllocError>
@@ -36,19 +60,20 @@ fn next_of(at: usize, count: usize) -> usize
     if at + 1 < count { at + 1 } else { 0 }
 }
 
-/// Deals the things of a group to the shares in turn, each with the number of its group.
+/// Deals the things of a group to the shares in turn, from this one on, each with the number of its group.
 fn deal<T: Drop>(
     shares: &mut Vec<Vec<(usize, T)>>,
+    first: usize,
     group: usize,
     things: Vec<T>,
 ) -> Result<(), AllocError>
-    requires { 0 < vec_len shares.old }
+    requires { first < vec_len shares.old }
     ensures len { vec_len shares.new ≡ vec_len shares.old }
     ensures dealt { OnOk result ((w : ℕ) (d : _) → w < vec_len shares.old →
         (slice_index_or shares.new.items w d).items ≡ (slice_index_or shares.old.items w d).items ++
-        dealt (vec_len shares.old) w 0 group things.items) }
+        dealt (vec_len shares.old) w first group things.items) }
 {
-    let mut worker = 0;
+    let mut worker = first;
     for thing in things {
         push_at(shares, worker, (group, thing))?;
         worker = next_of(worker, shares.len());
@@ -56,21 +81,22 @@ fn deal<T: Drop>(
     Ok(())
 }
 
-/// Deals the things of each group to the workers in turn, group by group.
+/// Deals the things of each group to the workers in turn, group by group, by this rule.
 pub(crate) fn deal_all<T: Drop>(
     alloc: Global,
     groups: Vec<Vec<T>>,
+    rule: Dealing,
     workers: usize,
 ) -> Result<Vec<Vec<(usize, T)>>, AllocError>
     requires { 0 < workers }
     ensures len { IfOk result (λ v. vec_len v ≡ workers) }
     ensures dealt { IfOk result (λ v. (w : ℕ) (d : _) → w < workers →
-        (slice_index_or v.items w d).items ≡ share_of workers w 0 groups.items) }
+        (slice_index_or v.items w d).items ≡ share_of rule workers w 0 groups.items) }
 {
     let mut shares = empty_lists(alloc, workers)?;
     let mut group = 0;
     for things in groups {
-        deal(&mut shares, group, things)?;
+        deal(&mut shares, rule.begins_at(workers, group), group, things)?;
         group += 1;
     }
     Ok(shares)

@@ -7,7 +7,7 @@ ghost use Rattle.worker_fleet.specs.Groups.{gathered, HasShard, IsDone};
 ghost use Rattle.worker_fleet.specs.Stops.{IsFirstStop, IsStop};
 
 use crate::call_off::CallOff;
-use crate::dealing::{deal_all, empty_lists, put_all};
+use crate::dealing::{Dealing, deal_all, empty_lists, put_all};
 use crate::driving::{Driven, Outcome, drive_unless};
 use crate::fleet::{Assignment, run_each};
 use crate::gate::Gate;
@@ -37,6 +37,19 @@ impl From<AllocError> for GroupFault {
     fn from(_error: AllocError) -> GroupFault {
         GroupFault::Memory
     }
+}
+
+/// How a group is run.
+#[derive(Clone, Copy, PartialEq, Eq, Debug)]
+pub struct GroupSettings {
+    /// How many workers there are.
+    pub workers: usize,
+    /// By which rule the stations are dealt to them.
+    pub dealing: Dealing,
+    /// How many items a station handles in one turn.
+    pub budget: u32,
+    /// How many turns each worker may make.
+    pub limit: u64,
 }
 
 /// What all workers of a group are given.
@@ -179,22 +192,20 @@ fn end_group<'g, A: PathAlgebra>(
     Ok(regroup(alloc, answers, width)?)
 }
 
-/// Runs the stations of a group of diffusions to their end, dealt in turn to workers on threads of their own.
+/// Runs the stations of a group of diffusions to their end, dealt to workers on threads of their own.
 ///
-/// Worker w has, of each diffusion, each of its stations whose number is w modulo `workers`, diffusion by diffusion and in
-/// their order. A lack of memory, or of a thread, is reported first; then why the least numbered worker of those that
-/// stopped before the end stopped.
+/// Of n workers, worker w has the station of shard k of diffusion q if k is w modulo n, or, dealt by questions, if q + k is:
+/// diffusion by diffusion, and in their order. A lack of memory, or of a thread, is reported first; then why the least
+/// numbered worker of those that stopped before the end stopped.
 pub fn run_group<'g, A: PathAlgebra, G: Gate, R: Threads + Wait>(
     rt: &R,
     alloc: Global,
     floors: &[Floor<A>],
     diffusions: Vec<Vec<Station<'g, A>>>,
-    workers: usize,
-    budget: u32,
-    limit: u64,
+    settings: GroupSettings,
     gate: &G,
 ) -> Result<Vec<Vec<Station<'g, A>>>, GroupFault>
-    requires some { 0 < workers }
+    requires some { 0 < settings.workers }
     requires width { length floors.now ≡ vec_len diffusions }
     requires own { (q : ℕ) (d : _) → q < vec_len diffusions →
         All (λ s. IsOnItsFloor floors.now (q, s)) (slice_index_or diffusions.items q d).items }
@@ -204,11 +215,18 @@ pub fn run_group<'g, A: PathAlgebra, G: Gate, R: Threads + Wait>(
         HasShard k (slice_index_or v.items q e).items) }
     ensures done { IfOk result (λ v. (q : ℕ) (d : _) → q < vec_len diffusions.entry →
         All (IsDone floors.now q) (slice_index_or v.items q d).items) }
-    ensures fault { IfErr result (λ f. (f ≡ GroupFault.Memory) ⊎ IsStop A.meaning floors.now budget
-        limit workers (G.may_answer gate.now) diffusions.entry.items f) }
+    ensures fault { IfErr result (λ f. (f ≡ GroupFault.Memory) ⊎ IsStop A.meaning floors.now
+        settings.dealing settings.budget settings.limit settings.workers (G.may_answer gate.now)
+        diffusions.entry.items f) }
 {
+    let GroupSettings {
+        workers,
+        dealing,
+        budget,
+        limit,
+    } = settings;
     let width = diffusions.len();
-    let shares = deal_all(alloc, diffusions, workers)?;
+    let shares = deal_all(alloc, diffusions, dealing, workers)?;
     let answers = drive_each(rt, alloc, floors, shares, budget, limit, gate)?;
     end_group(alloc, answers, width)
 }

@@ -10,7 +10,8 @@ mod group;
 mod one_shard;
 
 pub use call_off::CallOff;
+pub use dealing::Dealing;
 pub use driving::{Driven, Outcome, drive};
 pub use gate::{Gate, OpenGate};
-pub use group::{GroupFault, run_group};
+pub use group::{GroupFault, GroupSettings, run_group};
 pub use one_shard::one_shard_never_stalls;

@@ -14,12 +14,14 @@ use crate::solve::pace::Pace;
 use path_algebra::PathAlgebra;
 use post_floor::Floor;
 use road_graph::{Graph, Memory, Vertex};
+use scholten_core::roads_hold;
 use shard_part::Plan;
+use shard_part::laws::plan_holds;
 use station::{Gathered, Station, open_diffusion};
 use std::alloc::{AllocError, Global};
 use std::sync::Wait;
 use std::thread::Threads;
-use worker_fleet::{Gate, GroupFault, run_group};
+use worker_fleet::{Gate, GroupFault, GroupSettings, run_group};
 
 /// A floor, and its stations, for a diffusion from a source. Its shards are held back as the pace says.
 fn open_at_pace<'g, A: PathAlgebra>(
@@ -137,18 +139,18 @@ pub(crate) fn run_together<A: PathAlgebra, R: Threads + Wait, T: Gate>(
 {
     let (alloc, settings) = (batch.run.alloc, batch.run.settings);
     let (algebra, graph) = (batch.algebra, batch.graph);
+    roads_hold(graph);
+    plan_holds(plan);
     let pace = Pace::of(settings, graph);
     let (mut floors, opened) = open_all(alloc, algebra, graph, plan, sources, pace)?;
-    let mut lists = run_group(
-        batch.run.rt,
-        alloc,
-        floors.as_slice(),
-        opened,
-        settings.workers as usize,
-        settings.budget as u32,
-        settings.turns,
-        batch.run.gate,
-    )?;
+    let how = GroupSettings {
+        workers: settings.workers as usize,
+        dealing: settings.dealing,
+        budget: settings.budget as u32,
+        limit: settings.turns,
+    };
+    let (rt, gate) = (batch.run.rt, batch.run.gate);
+    let mut lists = run_group(rt, alloc, floors.as_slice(), opened, how, gate)?;
     let mut gathered = Vec::new(alloc);
     for k in 0..sources.len() {
         let source = sources[sources.len() - 1 - k];

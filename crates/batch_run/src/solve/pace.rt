@@ -14,14 +14,14 @@ pub(crate) struct Pace {
 }
 
 impl Pace {
-    /// The pace that settings ask for. Best first, a shard may run ahead by the mean weight of the arcs, unless they say by what.
+    /// The pace that settings ask for. Best first, a shard may run ahead by a fifth of the mean weight of the arcs, unless they say by what weight.
     pub(crate) fn of(settings: &Settings, graph: &Graph) -> Pace
         ensures { result.order ≡ order_of settings.now }
     {
         let ahead = match settings.ahead {
             _ if !settings.best_first => None,
             Some(ahead) => Some(ahead),
-            None => Some(mean_weight(graph)),
+            None => Some(mean_weight(graph) / 5),
         };
         Pace {
             order: settings.order(),

@@ -1,11 +1,10 @@
 //! Solves questions by workers, one diffusion for each source.
 ghost use Rattle.std.specs.Prelude.{◌≡◌, ◌+◌, ◌<◌, [], ◌∷◌, length, slice_index_or, false, IfOk, IfErr, OnOk, IfSome, IsSome};
-ghost use Rattle.road_graph.specs.GraphData.{HasVertex};
 ghost use Rattle.path_algebra.specs.Walks.{AreBest};
 ghost use Rattle.road_files.specs.Asked.{AreQuestionsOf, Question, asked_of, sources_of};
 ghost use Rattle.batch_run.specs.Batches.{AreNextAt, ReportedAccounts, StopsBatch, StopsOver};
 ghost use Rattle.batch_run.specs.Reports.{ReportedAllOrPrefix, accounts_due};
-ghost use Rattle.question_solvers.specs.Solved.{IsAnswerBetween, IsSolvedFor};
+ghost use Rattle.question_solvers.specs.Solved.{IsSolvedFor};
 ghost use Rattle.batch_run.specs.Solvers.{IsWorkerReady};
 
 use crate::batch::{Batch, BatchOver};
@@ -14,9 +13,9 @@ use crate::solve::queue::DiffusionQueue;
 use crate::watcher::Watcher;
 use answer_text::Answer;
 use path_algebra::{Labels, PathAlgebra};
-use question_solvers::{Solved, answer_by, code_at};
+use question_solvers::Solved;
 use road_files::Questions;
-use road_graph::{Graph, Memory, Vertex};
+use road_graph::{Graph, Memory};
 use route_tree::{route_between, tree_outgoing};
 use shard_part::Plan;
 use std::alloc::Global;
@@ -32,24 +31,6 @@ pub struct WorkerSolver<V: Copy> {
     pub(crate) queue: Option<DiffusionQueue<V>>,
     /// What was solved last.
     pub(crate) last: Option<Solved<V>>,
-}
-
-/// The answer to a pair, by best labels from its source.
-fn answer_between<A: PathAlgebra>(
-    alloc: Global,
-    algebra: A,
-    graph: &Graph,
-    pair: (Vertex, Vertex),
-    labels: &Labels<A::Value>,
-) -> Result<Answer, Memory>
-    requires source { HasVertex graph.now pair.0 }
-    requires target { HasVertex graph.now pair.1 }
-    requires labels { AreBest (A.meaning algebra) graph.now (pair.0 ∷ []) labels.now }
-    ensures { IfOk result (IsAnswerBetween (A.meaning algebra) graph.now pair.0 pair.1) }
-{
-    let (source, target) = pair;
-    let route = route_between(alloc, algebra, graph, source, target, labels)?;
-    Ok(answer_by(algebra, pair, code_at(algebra, labels, target), route))
 }
 
 /// Solves the question at a place by best labels from its sources.
@@ -68,8 +49,13 @@ fn solve_by_labels<A: PathAlgebra, R, T>(
     let (alloc, algebra, graph) = (batch.run.alloc, batch.algebra, batch.graph);
     match batch.questions {
         Questions::Pairs(pairs) => {
-            let answer = answer_between(alloc, algebra, graph, pairs[i], &labels)?;
-            Ok(Solved::Answer(answer))
+            let (source, target) = pairs[i];
+            let found = route_between(alloc, algebra, graph, source, target, &labels)?;
+            Ok(Solved::Answer(Answer::Pair {
+                source,
+                target,
+                found,
+            }))
         }
         _ => {
             let sources = batch.questions.sources(i);

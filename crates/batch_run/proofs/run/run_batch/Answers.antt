@@ -1,4 +1,4 @@
-use Rattle.std.proofs.Common.{refl, subst, Bool}
+use Rattle.std.proofs.Common.{refl, subst, Bool, Err}
 use Rattle.std.proofs.lemmas.Result.{err_from_is_err_and}
 use Rattle.road_files.specs.Asked.{asked_of}
 use Rattle.batch_run.specs.Causes.{MayStop, fault_of}
@@ -8,6 +8,7 @@ use Rattle.batch_run.specs.Stopping.{Stops}
 use Rattle.batch_run.specs.Factored.{MayTell}
 use Rattle.batch_run.specs.Solvers.{graph_of}
 use Rattle.batch_run.proofs.CauseCases.{no_setting}
+use Rattle.batch_run.proofs.OneShard.{not_stalled}
 use Rattle.batch_run.proofs.OfInputs.{ran_stopped, ran_whole}
 use Rattle.batch_run.proofs.Reporting.{watched_all, watched_first}
 use Rattle.batch_run.proofs.Stopped.{says_of_cause, stopped_for}
@@ -27,13 +28,16 @@ returns-in_err-answer_and_flush g c =
     let cause = c.in_err-answer_and_flush.field-0.0 in
     let fault = err_from_is_err_and c.from_residual.result c.from_residual.ensures.1 in
     let may = subst (λ (b : Bool). MayStop b (Stops g.A.PathAlgebra.meaning c.args.algebra roads how gate) cause) c.in-Ok.ensures.kind was.kind in
+    let in_range = c.suit.ensures.in_range c.if-not-suit.false in
+    let stopped = stopped_for g.A.PathAlgebra.meaning c.args.algebra roads how gate _ cause may is_read asked c.in-Ok.ensures.read in
     rw (fault.1, fault.2) (record {
       ran = ran_stopped A how gate is_read g.I.BatchInput.is_own (g.W.RoadWrite.seen c.args.out.now)
-          (g.W.RoadWrite.seen c.answer_and_flush.new.out) (c.suit.ensures.in_range c.if-not-suit.false) roads asked c.in-Ok.ensures.read cause
+          (g.W.RoadWrite.seen c.answer_and_flush.new.out) in_range roads asked c.in-Ok.ensures.read cause
           (says_of_cause g.A.PathAlgebra.meaning c.args.algebra roads how gate _ cause may)
-          (record { text = was.text; failed = was.failed; whole = was.whole; once = was.once; flushed = was.flushed });
+          (record { text = was.text; failed = was.failed; whole = was.whole; once = was.once; flushed = was.flushed })
+          (λ enough. not_stalled g.A.PathAlgebra.meaning c.args.algebra how gate is_read in_range.budget.0 c.one_shard_never_stalls.ensures.groups enough (Err (fault_of cause)) stopped);
       read = g.met.I.BatchInput.later c.args.input.now c.read_batch.new.input (fault_of cause) refl (no_setting cause) c.in-Ok.ensures.done;
-      stopped = stopped_for g.A.PathAlgebra.meaning c.args.algebra roads how gate _ cause may is_read asked c.in-Ok.ensures.read;
+      stopped = stopped;
       watched = watched_first A how is_read g.O.Watcher.may_become _ _ _ _ roads asked c.in-Ok.ensures.read cause
           (written_wider A how roads asked (without_diffusions how) (MayTell c.in-Ok.read.0) (IsTold how.factors) (told_by_kind c.in-Ok.read.0 how.factors c.in-Ok.ensures.factors) g.O.Watcher.may_become _ _ _ _
           (subst (λ (b : Bool). ReportedWritten A how roads asked b (MayTell c.in-Ok.read.0) g.O.Watcher.may_become c.args.watcher.now c.answer_and_flush.new.watcher (g.W.RoadWrite.seen c.args.out.now)

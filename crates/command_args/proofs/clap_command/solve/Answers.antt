@@ -9,5 +9,5 @@ returns c =
     let named = ap app_of_fields c.after_long_help.ensures ∙ ap app_of_fields c.after_help.ensures ∙ ap app_of_fields c.about.ensures ∙ c.new.ensures.app in
     let with_1 = c.in_ok-arg.ensures.shape c.file.ensures.global ∙ ap₂ with_rule named c.file.ensures.rule in
     let with_2 = c.in_ok-command.ensures.shape c.file-2.ensures.global ∙ ap₂ with_rule with_1 c.file-2.ensures.rule in
-    let set = c.in_ok-with_settings.ensures ∙ ap (λ a. with_rules a (settings c.args.algebras)) with_2 in
+    let set = c.in_ok-with_settings.ensures ∙ ap (λ a. with_rules a (settings c.args.algebras c.args.dealings)) with_2 in
     IfOk-weaker c.with_watching.result _ _ (λ r h. h ∙ ap (λ a. with_rules a watching) set) c.with_watching.ensures

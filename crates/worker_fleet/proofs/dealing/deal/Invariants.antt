@@ -11,5 +11,5 @@ invariant-loop-thing g l =
       worker : l.worker < n;
       len : vec_len l.shares ≡ n;
       dealt : (w : ℕ) (d : _) → w < n → (get_or l.shares.items w d).items ++ dealt n w l.worker l.group (into_iter_items l.thing-iterator)
-          ≡ (get_or l.initial.shares.items w d).items ++ dealt n w 0 l.group l.fn.things.items;
+          ≡ (get_or l.initial.shares.items w d).items ++ dealt n w l.first l.group l.fn.things.items;
     }

@@ -25,12 +25,12 @@ loop-things-preserved g c =
       counted = search rules;
       len = c.deal.ensures.len ∙ was.len;
       dealt = λ w d h.
-          let pushed = rw was.len at (dealt w d (search rules)) in
-          deal_more c.args.workers w c.loop-things.group c.in-Some.things _ _ _ _ step.0 pushed ∙ was.dealt w d h;
+          let pushed = rw (was.len, c.begins_at.ensures.worker) at (dealt w d (search rules)) in
+          deal_more c.args.rule c.args.workers w c.loop-things.group c.in-Some.things _ _ _ _ step.0 pushed ∙ was.dealt w d h;
     }
 
 pub returns-clause-dealt : goal.returns-clause-dealt
 returns-clause-dealt g c = λ w d h.
-    let none = share_none c.args.workers w c.loop-things.group (into_iter_items c.loop-things.things-iterator)
+    let none = share_none c.args.rule c.args.workers w c.loop-things.group (into_iter_items c.loop-things.things-iterator)
     (let e = c.in-None.ensures.steps in let o = c.loop-things.things-iterator.rest.ok in search rules) in
     sym (append-nil _) ∙ (rw none at (c.loop-things.invariant.dealt w d h))

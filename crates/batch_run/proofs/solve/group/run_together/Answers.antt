@@ -101,7 +101,9 @@ returns-in_err-lists-clause-stops g c =
         each = λ q low. record {
           source = get_or c.args.sources.now q 0;
           is_vertex = c.requires.sources q 0 low;
+          roads = c.roads_hold.ensures;
           plan = c.args.plan.now;
+          is_plan = c.plan_holds.ensures.plan;
           cut = c.requires.plan;
           setup_is = ap (λ o. setup_of batch.algebra batch.graph.now (get_or c.args.sources.now q 0) c.args.plan.now o) c.of-pace.ensures;
         };

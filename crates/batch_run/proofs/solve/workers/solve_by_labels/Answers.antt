@@ -5,13 +5,11 @@ use Rattle.road_files.specs.Asked.{FromSource, Question}
 use Rattle.road_files.proofs.QuestionLaws.{asked_within, pair_at}
 use Rattle.path_algebra.specs.Walks.{AreBest}
 use Rattle.route_tree.specs.Tree.{IsTree}
-use Rattle.answer_text.specs.AnswerData.{answer_data}
-use Rattle.answer_text.specs.IsAnswer.{IsAnswer}
-use Rattle.question_solvers.proofs.QuestionKinds.{no_pairs, pair_asked}
+use Rattle.question_solvers.proofs.QuestionKinds.{no_pairs, pair_answered}
 use Rattle.batch_run.proofs.solve.workers.solve_by_labels.Goals as goal
 
-pub answer_between-requires-clause-labels : goal.answer_between-requires-clause-labels
-answer_between-requires-clause-labels g c κs within =
+pub route_between-requires-clause-labels : goal.route_between-requires-clause-labels
+route_between-requires-clause-labels g c κs within =
     subst (λ (vs : List ℕ). AreBest (g.A.PathAlgebra.meaning c.args.batch.now.algebra) c.args.batch.now.graph.now vs c.args.labels)
     (pair_at c.args.batch.now.questions.now c.args.i c.in-Pairs.pairs c.index.result.now c.in-Pairs.is c.requires.place c.index.ensures (FromSource 0)) (c.requires.labels (FromSource 0))
 
@@ -25,9 +23,10 @@ tree_outgoing-requires-clause-labels g c κs within =
     rw c.outgoing.ensures (subst (λ (vs : List ℕ). AreBest (g.A.PathAlgebra.meaning c.args.batch.now.algebra) c.args.batch.now.graph.now vs c.args.labels)
     (sym (c.sources-sources.ensures (FromSource 0))) (c.requires.labels (FromSource 0)))
 
-pub returns-in_ok-answer-in-Pairs : goal.returns-in_ok-answer-in-Pairs
-returns-in_ok-answer-in-Pairs g c = λ d. subst (λ (q : Question). IsAnswer (g.A.PathAlgebra.meaning c.args.batch.now.algebra) c.args.batch.now.graph.now q (answer_data c.in_ok-answer-in-Pairs.answer))
-    (sym (pair_asked c.args.batch.now.questions.now c.args.i c.in-Pairs.pairs c.index.result.now c.in-Pairs.is c.requires.place c.index.ensures d)) c.in_ok-answer-in-Pairs.ensures
+pub returns-in_ok-found-in-Pairs : goal.returns-in_ok-found-in-Pairs
+returns-in_ok-found-in-Pairs g c =
+    pair_answered (g.A.PathAlgebra.meaning c.args.batch.now.algebra) c.args.batch.now.graph.now c.args.batch.now.questions.now c.args.i c.in-Pairs.pairs c.index.result.now
+    c.in_ok-found-in-Pairs.found c.in-Pairs.is c.requires.place c.index.ensures c.in_ok-found-in-Pairs.ensures
 
 pub returns-in_ok-tree-in_default : goal.returns-in_ok-tree-in_default
 returns-in_ok-tree-in_default g c = λ d. record {

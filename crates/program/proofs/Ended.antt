@@ -32,7 +32,7 @@ module _ {W A E : Type 0} (chosen : AlgebraChoice) (settings : Settings) (p q : 
       EndsWatched chosen settings q IsRead inputs HasRead' out out_after accounts accounts_after errors errors_after result
   ends_as e read ends = record {
     outcome = ends.outcome;
-    ran = record { run = ends.ran.run; read = read ends.outcome ends.ran.read; ungated = ends.ran.ungated };
+    ran = record { run = ends.ran.run; read = read ends.outcome ends.ran.read; ungated = ends.ran.ungated; unstalled = ends.ran.unstalled };
     reports = ends.reports;
     reported = ends.reported;
     kept = ends.kept;

@@ -1,6 +1,7 @@
 mod Said
 mod Among
 mod Ungated
+mod Unstalled
 mod AccountLines
 mod Adding
 mod Noted

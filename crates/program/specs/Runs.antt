@@ -1,5 +1,5 @@
 -- What answering leaves under the algebra that was chosen, between two moments of its inputs and its output.
-use Rattle.std.specs.Prelude.{◌≡◌, ◌≢◌, ℕ, Bool, true, Result, IfErr}
+use Rattle.std.specs.Prelude.{◌≡◌, ◌≢◌, ◌≤◌, ℕ, Bool, true, Result, IfErr}
 use Rattle.road_graph.specs.GraphData.{GraphData}
 use Rattle.road_files.specs.Asked.{Asked}
 use Rattle.path_algebra.specs.declared.choice.AlgebraChoice.{AlgebraChoice}
@@ -22,3 +22,5 @@ pub record RanUnder {W : Type 0} (chosen : AlgebraChoice) (settings : Settings) 
   pub read : HasRead outcome
   -- and no gate stopped it
   pub ungated : IfErr outcome (λ f. f.number ≢ 41)
+  -- with one shard, best first, a limit of turns that is enough for every graph stopped none either; the usual one, 1,000,000,000,000, is
+  pub unstalled : settings.shards ≡ 1 → settings.best_first ≡ true → 17179869376 ≤ settings.turns → IfErr outcome (λ f. f.number ≢ 40)

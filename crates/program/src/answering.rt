@@ -17,6 +17,7 @@ use crate::times::{FilePhases, Phases, Unmeasured};
 use crate::watch::CommandWatcher;
 use batch_run::{
     BatchInput, OpenGate, PairInput, Run, RunFault, WRITE, Watcher, fault_of_run, run_batch,
+    usual_turns_are_enough,
 };
 use fault_reports::end_with;
 use path_algebra::with_algebra;
@@ -131,6 +132,7 @@ pub(crate) fn answer_in_phases<
         phases: measured.phases,
     };
     let batch = run_chosen(task, input, out, &mut watch);
+    usual_turns_are_enough();
     let lost = watch.lost;
     let kept = end_accounts(&mut watching.accounts, lost);
     end_with(errors, outcome_of(batch, kept))

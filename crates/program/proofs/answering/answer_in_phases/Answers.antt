@@ -3,11 +3,13 @@ use Rattle.std.proofs.Math.Path.{subst⁻¹}
 use Rattle.path_algebra.specs.Choices.{name_of}
 use Rattle.program.specs.Accounts.{accounts_text}
 use Rattle.fault_reports.specs.Reports.{EndsAs}
+use Rattle.program.specs.Runs.{gate_is_open}
 use Rattle.program.specs.Watching.{HasAccounts, Notes, outcome_of}
 use Rattle.program.proofs.Adding.{account}
 use Rattle.program.proofs.Ended.{shown_as}
 use Rattle.program.proofs.Noted.{noted_all, under_told}
 use Rattle.program.proofs.Ungated.{never_gated_under}
+use Rattle.program.proofs.Unstalled.{never_stalled_under}
 use Rattle.program.proofs.answering.answer_in_phases.Goals as goal
 
 pub shape_of-watching : goal.shape_of-watching
@@ -26,6 +28,7 @@ returns g c =
     let noted = noted_all g.A.RoadWrite.seen g.E.RoadWrite.seen told.0.0 _ _ told.0.1 in
     let accounts_same = noted.same.0 in
     let errors_same = noted.same.1 in
+    let how = c.args.measured.now.task.now.settings.now in
     let errors_are : c.run_chosen-batch.new.watcher.errors.now ≡ c.errors-1.given.0 = search rules in
     record {
       outcome = c.run_chosen-batch.result;
@@ -34,6 +37,8 @@ returns g c =
         read = c.run_chosen-batch.ensures.read;
         ungated = never_gated_under c.args.measured.now.task.now.chosen c.args.measured.now.task.now.settings.now (g.I.BatchInput.is_read c.args.input.now) g.I.BatchInput.is_own _ _
             c.run_chosen-batch.result c.run_chosen-batch.ensures.run;
+        unstalled = λ one best turns. never_stalled_under how gate_is_open (g.I.BatchInput.is_read c.args.input.now) g.I.BatchInput.is_own _ _ c.run_chosen-batch.result
+            (λ roads graph few enough. c.usual_turns_are_enough.ensures how roads graph few enough) one best turns c.args.measured.now.task.now.chosen c.run_chosen-batch.ensures.run;
       };
       reports = told.0.0;
       reported = told.1;

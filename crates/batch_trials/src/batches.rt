@@ -1,4 +1,5 @@
 //! Worked questions with their answers, and what stops a batch.
+mod dealing;
 mod factors;
 mod faults;
 mod gates;
@@ -11,7 +12,8 @@ mod workers;
 use crate::texts::joined;
 use crate::tolls::Tolls;
 use batch_run::{
-    BatchInput, Gate, OpenGate, PairInput, Run, RunFault, Settings, Unwatched, run_bundle, run_pair,
+    BatchInput, Dealing, Gate, OpenGate, PairInput, Run, RunFault, Settings, Unwatched, run_bundle,
+    run_pair,
 };
 use path_algebra::{Hops, PathAlgebra, Reach, Reliable, Shortest, Widest, Within};
 use road_files::Questions;
@@ -314,6 +316,7 @@ fn any_settings_in_range(rt: HostRuntime) {
             factors: false,
             best_first: false,
             ahead: None,
+            dealing: Dealing::Shards,
         };
         assert_both_ways(&rt, Shortest, &settings, FIVE, FROM_ONE, SHORTEST);
     }

@@ -1,7 +1,7 @@
 //! What the words of a command line ask for; what commands do, the built program shows (`system_tests/commands`).
 
 use crate::texts::joined;
-use batch_run::{Settings, fault_of_run};
+use batch_run::{Dealing, Settings, fault_of_run};
 use program::{Refusal, RunOptions, Subcommand, WatchOptions, choose, parse_args};
 use std::alloc::{AllocError, Global};
 use std::process::Abort;
@@ -161,11 +161,16 @@ fn settings_said(alloc: Global, settings: &Settings) -> Result<String, AllocErro
         factors,
         best_first,
         ahead,
+        dealing,
     } = *settings;
     let plain = if plain { " plain" } else { "" };
     let factors = if factors { " factors" } else { "" };
     let best_first = if best_first { " best-first" } else { "" };
-    let flags = format!(in alloc; "{plain}{factors}{best_first}")?;
+    let deal = match dealing {
+        Dealing::Shards => "",
+        Dealing::Questions => " by questions",
+    };
+    let flags = format!(in alloc; "{plain}{factors}{best_first}{deal}")?;
     match ahead {
         Some(ahead) => format!(in alloc;
             "{workers} {shards} {width} {budget} {turns}{flags} ahead {ahead}"
@@ -210,6 +215,10 @@ fn settings_of_a_command_line(rt: HostRuntime) {
             "4 4 1 1024 1000000000000 ahead 4294967295",
         ),
         ("--ahead 4294967296", "wrong"),
+        ("--deal shards", "4 4 1 1024 1000000000000"),
+        ("--deal questions", "4 4 1 1024 1000000000000 by questions"),
+        ("--deal workers", "wrong"),
+        ("--deal", "wrong"),
         (
             "--factors --plain",
             "4 4 1 1024 1000000000000 plain factors",

@@ -16,11 +16,15 @@ mod factors;
 #[cfg(test)]
 mod graphs;
 #[cfg(test)]
+mod orders;
+#[cfg(test)]
 mod pairs;
 #[cfg(test)]
 mod plain_solver;
 #[cfg(test)]
 mod queues;
+#[cfg(test)]
+mod reweighed;
 #[cfg(test)]
 mod road_factors;
 #[cfg(test)]

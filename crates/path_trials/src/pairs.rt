@@ -3,12 +3,9 @@
 use crate::graphs::{FIVE, graph_of};
 use crate::trees::{assert_vertices, tree_from};
 use path_algebra::{Hops, PathAlgebra, Reach, Reliable, Shortest, Widest, Within};
-use path_plain::{solve_one, solve_outgoing, solve_to};
+use path_plain::{solve_one, solve_to};
 use road_graph::{Graph, InGraph, OutGraph, Vertex};
-use route_tree::{
-    PairRoute, Tree, route, route_between, route_between_up_to, route_outgoing,
-    route_outgoing_up_to,
-};
+use route_tree::{Found, RouteFinder, Tree, route, route_between};
 use std::process::Abort;
 
 /// The route between two vertices, or none.
@@ -18,28 +15,12 @@ fn found_between<A: PathAlgebra>(
     graph: &Graph,
     source: u32,
     target: u32,
-) -> Option<PairRoute> {
+) -> Option<Found> {
     let (source, target) = (Vertex(source), Vertex(target));
     assert!(rt; graph.has(source));
     assert!(rt; graph.has(target));
     let labels = solve_one(rt.alloc(), algebra, graph, source).expect(rt, "memory");
     route_between(rt.alloc(), algebra, graph, source, target, &labels).expect(rt, "memory")
-}
-
-/// The same, over rows by tail and rows by head alone.
-fn found_outgoing<A: PathAlgebra>(
-    rt: &(impl Abort + AllocGlobal),
-    algebra: A,
-    graph: &OutGraph,
-    source: u32,
-    target: u32,
-) -> Option<PairRoute> {
-    let (source, target) = (Vertex(source), Vertex(target));
-    assert!(rt; graph.has(source));
-    assert!(rt; graph.has(target));
-    let back = InGraph::of(rt.alloc(), graph).expect(rt, "memory");
-    let labels = solve_outgoing(rt.alloc(), algebra, graph, &[source]).expect(rt, "memory");
-    route_outgoing(rt.alloc(), algebra, graph, &back, source, target, &labels).expect(rt, "memory")
 }
 
 /// The same, by labels of a search that stops past the target.
@@ -49,31 +30,35 @@ fn found_up_to<A: PathAlgebra>(
     graph: &Graph,
     source: u32,
     target: u32,
-) -> Option<PairRoute> {
+) -> Option<Found> {
     let (source, target) = (Vertex(source), Vertex(target));
     assert!(rt; graph.has(source));
     assert!(rt; graph.has(target));
     let rows = graph.outgoing();
     let labels = solve_to(rt.alloc(), algebra, rows, &[source], target).expect(rt, "memory");
-    route_between_up_to(rt.alloc(), algebra, graph, source, target, &labels).expect(rt, "memory")
+    let mut finder = RouteFinder::new(rt.alloc(), rows.vertices());
+    finder
+        .route(algebra, rows, graph, &labels, source, target)
+        .expect(rt, "memory")
 }
 
 /// The same, over rows by tail and rows by head alone.
-fn found_outgoing_up_to<A: PathAlgebra>(
+fn found_outgoing<A: PathAlgebra>(
     rt: &(impl Abort + AllocGlobal),
     algebra: A,
     graph: &OutGraph,
     source: u32,
     target: u32,
-) -> Option<PairRoute> {
+) -> Option<Found> {
     let (source, target) = (Vertex(source), Vertex(target));
     assert!(rt; graph.has(source));
     assert!(rt; graph.has(target));
     let back = InGraph::of(rt.alloc(), graph).expect(rt, "memory");
     let labels = solve_to(rt.alloc(), algebra, graph, &[source], target).expect(rt, "memory");
-    route_outgoing_up_to(rt.alloc(), algebra, graph, &back, source, target, &labels).expect(
-        rt, "memory",
-    )
+    let mut finder = RouteFinder::new(rt.alloc(), graph.vertices());
+    finder
+        .route(algebra, graph, &back, &labels, source, target)
+        .expect(rt, "memory")
 }
 
 /// Asserts that the route between two vertices goes through these; through none if no walk has a value.
@@ -88,7 +73,7 @@ fn assert_between<A: PathAlgebra>(
     match found_between(rt, algebra, graph, source, target) {
         Some(found) => {
             assert!(rt; wanted.len() as u64 == found.hops as u64 + 1);
-            assert_vertices(rt, &found.vertices, wanted);
+            assert_vertices(rt, &found.route, wanted);
         }
         None => assert!(rt; wanted.is_empty()),
     }
@@ -99,7 +84,7 @@ fn assert_of_tree(
     rt: &(impl Abort + AllocGlobal),
     tree: &Tree,
     target: Vertex,
-    found: &Option<PairRoute>,
+    found: &Option<Found>,
 ) {
     assert!(rt; 1 <= target.0);
     assert!(rt; target.0 as usize <= tree.vertices());
@@ -110,7 +95,7 @@ fn assert_of_tree(
     };
     let wanted = wanted.expect(rt, "a route in the tree");
     assert!(rt; tree.hops(target) == Some(found.hops));
-    assert!(rt; found.vertices.as_slice() == wanted.as_slice());
+    assert!(rt; found.route.as_slice() == wanted.as_slice());
 }
 
 /// Asserts that the routes from a vertex to all are those of its tree.
@@ -127,8 +112,6 @@ fn assert_all_from<A: PathAlgebra>(
         let found = found_outgoing(rt, algebra, graph.outgoing(), source, target);
         assert_of_tree(rt, &tree, Vertex(target), &found);
         let found = found_up_to(rt, algebra, graph, source, target);
-        assert_of_tree(rt, &tree, Vertex(target), &found);
-        let found = found_outgoing_up_to(rt, algebra, graph.outgoing(), source, target);
         assert_of_tree(rt, &tree, Vertex(target), &found);
     }
 }

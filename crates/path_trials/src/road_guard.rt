@@ -63,14 +63,13 @@ fn refusal<A: PathAlgebra>(
     }
 }
 
-/// The squares of the degrees may add up to 64 for each vertex and each neighbour of one.
+/// There may be 64 links for each vertex, and 4,096 more. A star has one for each ray.
 #[test]
 fn dense_graphs_are_refused(rt: HostRuntime) {
     let dense = Some(Unfactored::Dense);
-    assert!(rt; refusal(&rt, Shortest, &star(&rt, 191)).is_none());
-    assert!(rt; refusal(&rt, Shortest, &star(&rt, 192)) == dense);
-    assert!(rt; refusal(&rt, Hops, &complete(&rt, 65)).is_none());
-    assert!(rt; refusal(&rt, Hops, &complete(&rt, 66)) == dense);
+    assert!(rt; refusal(&rt, Shortest, &star(&rt, 5000)).is_none());
+    assert!(rt; refusal(&rt, Hops, &complete(&rt, 175)).is_none());
+    assert!(rt; refusal(&rt, Hops, &complete(&rt, 176)) == dense);
     assert!(rt; refusal(&rt, Hops, &random(&rt, 3000, 1)).is_none());
     assert!(rt; refusal(&rt, Hops, &random(&rt, 3000, 10)) == dense);
 }
@@ -83,19 +82,19 @@ fn assert_pair<A: PathAlgebra>(
     wanted: Option<(u64, u32)>,
 ) {
     let found = roads.ask(rt, source, target).expect(rt, "memory");
-    let found = found.map(|(code, route)| (code, route.hops));
+    let found = found.map(|found| (found.code, found.hops));
     assert!(rt; found == wanted);
 }
 
 /// A ray leads to another through the hub, and each vertex of a complete graph straight to each.
 #[test]
 fn the_densest_that_are_factored(rt: HostRuntime) {
-    let mut hub = Roads::new(&rt, Shortest, &star(&rt, 191)).expect(&rt, "factors");
-    assert_pair(&rt, &mut hub, (2, 192), Some((5, 2)));
-    assert_pair(&rt, &mut hub, (192, 1), Some((3, 1)));
-    let mut all = Roads::new(&rt, Shortest, &complete(&rt, 65)).expect(&rt, "factors");
-    assert_pair(&rt, &mut all, (1, 65), Some((5, 1)));
-    assert_pair(&rt, &mut all, (65, 1), Some((7, 1)));
+    let mut hub = Roads::new(&rt, Shortest, &star(&rt, 5000)).expect(&rt, "factors");
+    assert_pair(&rt, &mut hub, (2, 5001), Some((5, 2)));
+    assert_pair(&rt, &mut hub, (5001, 1), Some((3, 1)));
+    let mut all = Roads::new(&rt, Shortest, &complete(&rt, 175)).expect(&rt, "factors");
+    assert_pair(&rt, &mut all, (1, 175), Some((5, 1)));
+    assert_pair(&rt, &mut all, (175, 1), Some((7, 1)));
 }
 
 /// A vertex needs 16 bits for its hops, from 2^15 vertices to 2^16 - 1: that leaves 2^47 for the sums.

@@ -5,7 +5,7 @@ ghost use Rattle.std.specs.Prelude.{◌≤◌};
 use factor_routes::{RoadFactors, RouteAsker, Unfactored};
 use path_algebra::{Labels, PathAlgebra};
 use road_graph::{Graph, InGraph, Memory, Vertex};
-use route_tree::{PairRoute, Tree};
+use route_tree::{Found, Tree};
 use std::marker::Model;
 use std::process::Abort;
 
@@ -88,27 +88,20 @@ impl<A: PathAlgebra> Roads<A> {
             .solve_with_tree(rt.alloc(), self.algebra, &self.rows, &sources)
     }
 
-    /// The code and the route of a pair.
+    /// What is found of a pair.
     pub(crate) fn ask(
         &mut self,
         rt: &(impl Abort + AllocGlobal),
         source: u32,
         target: u32,
-    ) -> Result<Option<(u64, PairRoute)>, Memory> {
+    ) -> Result<Option<Found>, Memory> {
         self.assert_has(rt, source);
         self.assert_has(rt, target);
         let (source, target) = (Vertex(source), Vertex(target));
         let (alloc, algebra) = (rt.alloc(), self.algebra);
         let asker = &mut self.asker;
-        self.factors.begin(asker, source);
-        let value = self.factors.best_value(algebra, asker, target)?;
-        let route = self
-            .factors
-            .route(alloc, algebra, &self.rows, asker, (source, target))?;
-        let Some(value) = value else {
-            return Ok(None);
-        };
-        Ok(route.map(|route| (algebra.code(value), route)))
+        self.factors
+            .find(alloc, algebra, &self.rows, asker, (source, target))
     }
 }
 
@@ -155,13 +148,13 @@ fn tail_of(rt: &impl Abort, wanted: &[Option<Reached>], v: Vertex) -> u32 {
 /// Asserts that a route goes from its source to its target, and that each arc is the wanted one.
 fn assert_route(
     rt: &impl Abort,
-    route: &PairRoute,
+    found: &Found,
     wanted: &[Option<Reached>],
     source: u32,
     target: u32,
 ) {
-    let vertices = route.vertices.as_slice();
-    assert!(rt; vertices.len() as u64 == u64::from(route.hops) + 1);
+    let vertices = found.route.as_slice();
+    assert!(rt; vertices.len() as u64 == u64::from(found.hops) + 1);
     assert!(rt; 1 <= vertices.len());
     assert!(rt; vertices[0] == Vertex(source));
     assert!(rt; vertices[vertices.len() - 1] == Vertex(target));
@@ -184,9 +177,9 @@ fn assert_pair<A: PathAlgebra>(
     };
     assert!(rt; 1 <= target && target as usize <= wanted.len());
     match (found, wanted[target as usize - 1]) {
-        (Some((value, route)), Some((code, hops, _))) => {
-            assert!(rt; value == code && route.hops == hops);
-            assert_route(rt, &route, wanted, source, target);
+        (Some(found), Some((code, hops, _))) => {
+            assert!(rt; found.code == code && found.hops == hops);
+            assert_route(rt, &found, wanted, source, target);
         }
         (found, wanted) => assert!(rt; found.is_none() && wanted.is_none()),
     }

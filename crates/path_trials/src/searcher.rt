@@ -5,9 +5,8 @@ ghost use Rattle.std.specs.Prelude.{◌≡◌};
 use crate::graphs::{FIVE, graph_of};
 use crate::trees::assert_vertices;
 use path_algebra::{Hops, PathAlgebra, Reach, Reliable, Shortest, Widest, Within};
-use path_plain::Searcher;
 use road_graph::{Graph, InGraph, Memory, OutGraph, Vertex};
-use route_tree::{PairRoute, RouteFinder};
+use route_tree::{Found, PairSearcher};
 use std::marker::Model;
 use std::process::Abort;
 
@@ -28,11 +27,9 @@ type Known<'k> = (u32, u32, u64, &'k [u32]);
 /// A graph with what answers its pairs.
 #[derive(Drop)]
 struct Asker<'g, A: PathAlgebra> {
-    algebra: A,
     graph: &'g OutGraph,
-    back: InGraph,
-    searcher: Searcher<A>,
-    finder: RouteFinder,
+    rows: InGraph,
+    searcher: PairSearcher<A>,
 }
 
 impl<'g, A: PathAlgebra> Model for Asker<'g, A> {
@@ -42,45 +39,30 @@ impl<'g, A: PathAlgebra> Model for Asker<'g, A> {
 
     ghost view = { λ a. a.graph.now.vertices };
 
-    ghost invariant = { λ a. (a.back ≡ a.graph.now) × (a.searcher.roads ≡ a.graph.now) × (a.searcher.algebra ≡ a.algebra) × (a.finder ≡ a.graph.now.vertices) };
+    ghost invariant = { λ a. (a.rows ≡ a.graph.now) × (a.searcher.roads ≡ a.graph.now) };
 }
 
 impl<'g, A: PathAlgebra> Asker<'g, A> {
     fn new(rt: &(impl Abort + AllocGlobal), algebra: A, graph: &'g Graph) -> Self {
         let graph = graph.outgoing();
         Asker {
-            algebra,
             graph,
-            back: InGraph::of(rt.alloc(), graph).expect(rt, "memory"),
-            searcher: Searcher::new(rt.alloc(), algebra, graph).expect(rt, "memory"),
-            finder: RouteFinder::new(rt.alloc(), graph.vertices()),
+            rows: InGraph::of(rt.alloc(), graph).expect(rt, "memory"),
+            searcher: PairSearcher::new(rt.alloc(), algebra, graph).expect(rt, "memory"),
         }
     }
 
-    /// The code and the route of a pair.
+    /// What is found of a pair.
     fn ask(
         &mut self,
         rt: &impl Abort,
         source: Vertex,
         target: Vertex,
-    ) -> Result<Option<(u64, PairRoute)>, Memory> {
+    ) -> Result<Option<Found>, Memory> {
         assert!(rt; self.graph.has(source));
         assert!(rt; self.graph.has(target));
-        self.searcher.solve_to(self.graph, source, target)?;
-        let labels = self.searcher.labels();
-        let Some(value) = labels.of(target) else {
-            return Ok(None);
-        };
-        let code = self.algebra.code(value);
-        let route = self.finder.route(
-            self.algebra,
-            self.graph,
-            &self.back,
-            labels,
-            source,
-            target,
-        )?;
-        Ok(route.map(|route| (code, route)))
+        self.searcher
+            .solve(self.graph, &self.rows, (source, target))
     }
 }
 
@@ -93,10 +75,10 @@ fn assert_pair<A: PathAlgebra>(rt: &impl Abort, asker: &mut Asker<A>, known: &Kn
         Err(_) => asker.ask(rt, source, target).expect(rt, "memory"),
     };
     match found {
-        Some((value, route)) => {
-            assert!(rt; value == code);
-            assert!(rt; vertices.len() as u64 == route.hops as u64 + 1);
-            assert_vertices(rt, &route.vertices, vertices);
+        Some(found) => {
+            assert!(rt; found.code == code);
+            assert!(rt; vertices.len() as u64 == found.hops as u64 + 1);
+            assert_vertices(rt, &found.route, vertices);
         }
         None => assert!(rt; vertices.is_empty()),
     }

@@ -3,12 +3,13 @@ ghost use Rattle.std.specs.Prelude.{◌≡◌, ◌<◌, ◌≤◌, Some, length,
 
 use crate::pages::Page;
 use answer_text::{
-    Answer, Answers, Found, Reached, VertexLine, read_answers, write_answer, write_answers,
-    write_header, write_source_line, write_sources_line, write_vertex_line,
+    Answer, Answers, Reached, VertexLine, read_answers, write_answer, write_answers, write_header,
+    write_source_line, write_sources_line, write_vertex_line,
 };
 use path_algebra::AlgebraName;
 use road_files::Kind;
 use road_graph::Vertex;
+use route_tree::Found;
 use std::alloc::Global;
 use std::process::Abort;
 use std::test::Fail;

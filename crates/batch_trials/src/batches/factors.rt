@@ -109,26 +109,28 @@ fn factors_are_reported_once(rt: HostRuntime) {
     assert_reports(&rt, Hops, "p aux sp ss 0\n", &settings, &none);
 }
 
-/// A hub, vertex 1, with so many rays, both ways.
-fn star(rt: &(impl Abort + AllocGlobal), rays: u32) -> String {
-    let (vertices, arcs) = (rays.saturating_add(1), rays.saturating_mul(2));
-    let mut text = format!(in rt.alloc(); "p sp {vertices} {arcs}\n").expect(rt, "memory");
+/// So many vertices, each joined to each, both ways.
+fn complete(rt: &(impl Abort + AllocGlobal), vertices: u32) -> String {
+    let pairs = vertices.saturating_mul(vertices.saturating_sub(1));
+    let mut text = format!(in rt.alloc(); "p sp {vertices} {pairs}\n").expect(rt, "memory");
     for v in 2..=vertices {
-        let both = format!(in rt.alloc(); "a 1 {v} 2\na {v} 1 3\n").expect(rt, "memory");
-        text.push_str(both.as_str()).expect(rt, "memory");
+        for u in 1..v {
+            let both = format!(in rt.alloc(); "a {u} {v} 2\na {v} {u} 3\n").expect(rt, "memory");
+            text.push_str(both.as_str()).expect(rt, "memory");
+        }
     }
     text
 }
 
-/// The squares of the degrees may add up to 64 for each vertex and each neighbour of one.
+/// There may be 64 links for each vertex, and 4,096 more.
 #[test]
 fn a_graph_that_is_too_dense_is_reported(rt: HostRuntime) {
     let settings = factored(false, 1);
-    for &(rays, became) in &[
-        (191, Factoring::Made),
-        (192, Factoring::Refused(Refusal::Dense)),
+    for &(vertices, became) in &[
+        (175, Factoring::Made),
+        (176, Factoring::Refused(Refusal::Dense)),
     ] {
-        let graph = star(&rt, rays);
+        let graph = complete(&rt, vertices);
         let inputs = (graph.as_str(), FROM_ONE);
         let (ended, notes) = watch_pair(&rt, rt.alloc(), Shortest, inputs, &settings, &OpenGate);
         assert_eq!(rt; ended, Ok(()));

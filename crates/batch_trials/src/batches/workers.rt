@@ -5,7 +5,7 @@ use super::{
     assert_answered, assert_ended, run_at,
 };
 use crate::texts::joined;
-use batch_run::{Gate, RunFault, Settings};
+use batch_run::{Dealing, Gate, RunFault, Settings};
 use crossbeam_utils::CachePadded;
 use path_algebra::{Reach, Shortest, Widest};
 use std::process::Abort;
@@ -51,6 +51,7 @@ pub const SLOW: Settings = Settings {
     factors: false,
     best_first: false,
     ahead: None,
+    dealing: Dealing::Shards,
 };
 
 /// Asserts that each of two workers has made its mark.
@@ -75,7 +76,10 @@ pub fn assert_ends<T: Gate>(
 }
 
 /// Asserts that settings change no answer: of an algebra, from one source, from several, or to pairs.
-fn assert_unchanged(rt: &(impl Abort + AllocGlobal + Threads + Wait + Sync), settings: &Settings) {
+pub fn assert_unchanged(
+    rt: &(impl Abort + AllocGlobal + Threads + Wait + Sync),
+    settings: &Settings,
+) {
     assert_answered(rt, Shortest, settings, FIVE, FROM_ONE, SHORTEST);
     assert_answered(rt, Shortest, settings, CYCLE, FROM_ONE, AROUND);
     assert_answered(rt, Widest, settings, WALK, FROM_ONE, WIDEST);

@@ -66,8 +66,11 @@ class Answers(unittest.TestCase):
                 graph.factor(algebra)
 
     def test_what_is_not_factored(self):
+        complete = Graph(200, [(v, w, 1) for v in range(1, 201) for w in range(1, 201)])
+        self.assertRaises(diffuse.TooDense, complete.factor)
+        self.assertEqual(complete.route(1, 200).value, 1)
         star = Graph(1000, [(1, v, 1) for v in range(2, 1001)])
-        self.assertRaises(diffuse.TooDense, star.factor)
+        star.factor()
         self.assertEqual(star.route(1, 1000).value, 1)
         chain = Graph(65536, [(v, v + 1, 2**32 - 1) for v in range(1, 65536)])
         self.assertRaises(diffuse.TooHeavy, chain.factor)
@@ -98,7 +101,7 @@ class Answers(unittest.TestCase):
 
     def test_graphs_of_columns(self):
         tails, heads, weights = zip(*ARCS)
-        for columns in ((tails, heads, weights), (array("q", tails), array("B", heads), array("I", weights)), (iter(tails), iter(heads), iter(weights))):
+        for columns in ((tails, heads, weights), (array("q", tails), array("B", heads), array("I", weights)), (bytes(tails), bytearray(heads), bytes(weights)), (iter(tails), iter(heads), iter(weights))):
             graph = Graph.from_columns(*columns)
             self.assertEqual((graph.vertices, graph.arcs, graph.route(1, 4).value), (5, 7, 8))
 
@@ -148,6 +151,35 @@ class Checks(unittest.TestCase):
             Graph(5, ARCS).check(Tree([0, 3, 1, 8, NONE], [0, 2, 1, 3], [0, 3, 1, 2, 0], [1]))
 
 
+class ForeignTrees(unittest.TestCase):
+    """A tree of another origin may lead anywhere; its routes are refused if its own lists do not lead to a source."""
+
+    def wrong(self, vertex, reason, tree, asked):
+        with self.assertRaises(diffuse.WrongTree) as caught:
+            tree.route(asked)
+        self.assertEqual((caught.exception.vertex, caught.exception.reason.name), (vertex, reason))
+
+    def test_steps_off_the_lists_and_rounds(self):
+        self.wrong(3, "OTHER_HOPS", Tree([0, 5, 12], [0, 1, 9], [0, 1, 2], [1]), 3)
+        self.wrong(2, "NO_PARENT", Tree([0, 5, 12], [0, 1, 2], [0, 9, 2], [1]), 3)
+        self.wrong(2, "NO_PARENT", Tree([0, 5, 12], [0, 1, 2], [0, -1, 2], [1]), 3)
+        self.wrong(2, "OTHER_HOPS", Tree([0, 5, 12], [0, 2**31, 2**31 + 1], [0, 3, 2], [1]), 3)
+        self.wrong(1, "NO_PARENT", Tree([0, 5, 12], [3, 4, 5], [0, 1, 2], [1]), 3)
+        self.wrong(2, "OTHER_HOPS", Tree([0, 5], [-1, 0], [0, 1], [1]), 2)
+        self.assertEqual(Tree([0, 5, 12], [0, 1, 2], [0, 1, 2], [1]).route(3), Route(12, 2, [1, 2, 3]))
+
+
+    def test_lists_of_another_kind(self):
+        for tree, kind, message in ((Tree(5, [0, 1], [0, 1], [1]), diffuse.BadShape, "values: a list of whole numbers is needed, not 5"),
+                                    (Tree([0, 5], [0, 1], [0], [1]), diffuse.BadShape, "parents: a list with a number for vertex 2 is needed"),
+                                    (Tree([0, 5], None, [0, 1], [1]), diffuse.BadShape, "hops: a list with a number for vertex 2 is needed"),
+                                    (Tree([0, 5.0], [0, 1], [0, 1], [1]), diffuse.NotANumber, "values[1]: 5.0 is no whole number"),
+                                    (Tree([0, 5], [0, 1], "01", [1]), diffuse.NotANumber, "parents[1]: '1' is no whole number")):
+            with self.assertRaises(kind) as caught:
+                tree.route(2)
+            self.assertEqual(str(caught.exception), message)
+
+
 class Refusals(unittest.TestCase):
     def refused(self, kind, message, call):
         with self.assertRaises(kind) as caught:
@@ -190,7 +222,7 @@ class Refusals(unittest.TestCase):
         graph = Graph(5, ARCS)
         self.refused(diffuse.NoAlgebra, "there is no algebra 'fast'; there are shortest, widest, reach, hops, reliable, within", lambda: graph.tree(1, "fast"))
         self.refused(diffuse.NoAlgebra, "only within has a limit, and hops was given 5", lambda: graph.tree(1, "hops", 5))
-        for limit in (None, -1, 2**63 + 1, 2.5, True):
+        for limit in (None, -1, 2**63 + 1, 2.5, True, [1], "5", 10**5000):
             self.assertRaises(diffuse.NoAlgebra, graph.route, 1, 4, "within", limit)
         self.assertEqual(graph.route(1, 4, "within", 2**63).value, 8)
 
@@ -210,6 +242,50 @@ class Refusals(unittest.TestCase):
                 with self.assertRaises(diffuse.TextFault) as caught:
                     Graph.from_gr(text.encode())
                 self.assertEqual((type(caught.exception).__name__, caught.exception.line), (name, line))
+
+    def test_faults_of_texts_name_file_line_and_field(self):
+        rows = [
+            ("a 1 2 3\n", "line 1: there is no problem line `p sp VERTICES ARCS` before it"),
+            ("p sp 2 0\np sp 2 0\n", "line 2: a second problem line"), ("p max 2 1\r\n", "line 1: 'p max 2 1' is not `p sp VERTICES ARCS`"),
+            ("p sp 2 1\nx 1 2 3\n", "line 2: 'x 1 2 3' begins with none of c, p and a"),
+            ("p sp 2 1\na 1 2\n", "line 2: `a TAIL HEAD WEIGHT` has 4 fields, and 'a 1 2' has 3"),
+            ("p sp 2 1\na 1  2 -3\n", "line 2, WEIGHT: '-3' is no whole number"), ("p sp x 1\n", "line 1, VERTICES: 'x' is no whole number"),
+            ("p sp 2 1\na 1 2 4294967296\n", "line 2, WEIGHT: 4294967296 is not from 0 to 4294967295"),
+            ("p sp 33554433 1\n", "line 1, VERTICES: 33554433 is not from 0 to 33554432"),
+            ("p sp 2 1\nc\na\t1 0003 2\n", "line 3, HEAD: 0003 is not from 1 to 2"), ("p sp 2 1\na 0 2 2\n", "line 2, TAIL: 0 is not from 1 to 2"),
+            ("p sp 2 0\na 1 2 3\n", "line 2: more arc lines than the 0 that are announced"),
+            ("p sp 2 1\n", "line 2: the text ends, with fewer arc lines than the 1 that are announced")]
+        with tempfile.TemporaryDirectory() as room:
+            path = Path(room, "bad.gr")
+            for text, message in rows:
+                path.write_bytes(text.encode())
+                with self.subTest(text):
+                    self.refused_softly(f"text, {message}", lambda: Graph.from_gr(text.encode()))
+                    self.refused_softly(f"{path}, {message}", lambda: Graph.read(path))
+
+    def refused_softly(self, message, call):
+        """Refused by any kind of InputError."""
+        with self.assertRaises(diffuse.InputError) as caught:
+            call()
+        self.assertEqual(str(caught.exception), message)
+
+    def test_arguments_of_a_wrong_kind(self):
+        graph = Graph(5, ARCS)
+        for call, message in (
+                (lambda: graph.tree(None), "sources: a vertex or a list of vertices is needed, not None"),
+                (lambda: graph.tree(1.0), "sources: a vertex or a list of vertices is needed, not 1.0"),
+                (lambda: graph.table(1, 2.5), "targets: a vertex or a list of vertices is needed, not 2.5"),
+                (lambda: graph.tree(True), "sources[0]: True is no whole number"), (lambda: graph.tree("12"), "sources: a vertex or a list of vertices is needed, not '12'"),
+                (lambda: Graph(3, None), "arcs: a list of arcs (tail, head, weight) is needed, not None"),
+                (lambda: Graph(3, memoryview(bytes(6)).cast("B", (2, 3))), "arcs[0], tail: 0 is not from 1 to 3"),
+                (lambda: Graph.from_columns([1], [1], 5), "weights: a list of whole numbers is needed, not 5"),
+                (lambda: Graph.from_columns(None, [1], [5]), "tails: a list of whole numbers is needed, not None"),
+                (lambda: Graph.from_gr("p sp 1 0\n"), "text: bytes are needed, not 'p sp 1 0\\n'"), (lambda: Graph.from_gr(5), "text: bytes are needed, not 5"),
+                (lambda: graph.route(10**5000, 1), "source: a whole number of 16610 bits is not from 1 to 5"),
+                (lambda: graph.tree([10**5000]), "sources[0]: a whole number of 16610 bits is not from 1 to 5"),
+                (lambda: graph.route("x" * 1000, 1), f"source: '{'x' * 76}... is no whole number")):
+            with self.subTest(message):
+                self.refused_softly(message, call)
 
     def test_classes_by_status(self):
         from diffuse.errors import BY_STATUS

@@ -36,6 +36,12 @@ class WithFiles(unittest.TestCase):
         words = {"tail": "from", "head": "to", "both_ways": "both_ways", **words}
         return Network.read_csv(self.file("roads.csv", roads), costs=costs, places=places and self.file("places.csv", places), **words)
 
+    def refused_softly(self, message, call):
+        """Refused by any kind of InputError."""
+        with self.assertRaises(diffuse.InputError) as caught:
+            call()
+        self.assertEqual(str(caught.exception), message)
+
     def refused(self, kind, message, call):
         with self.assertRaises(kind) as caught:
             call()
@@ -56,6 +62,10 @@ class Questions(WithFiles):
         self.assertEqual(route.cells("road"), ["Tunnel", "Lane", "Spur"])
         self.assertEqual((route.cost, route.total("euro"), route.total("lanes")), (12.45, 3.2, 4.0))
         self.assertEqual(str(route), "A - B - C - D: 12.45 minutes")
+
+    def test_great_costs_are_printed_with_all_digits(self):
+        network = Network.from_table({"a": ["A"], "b": ["B"], "m": ["12345678.5"]}, tail="a", head="b", costs={"m": 10})
+        self.assertEqual(str(network.route("A", "B", by="m")), "A - B: 12345678.5 m")
 
     def test_parallel_roads(self):
         network = self.network()
@@ -120,6 +130,27 @@ class Questions(WithFiles):
         self.assertEqual([back.band(place) for place in "ABCD"], [3, 3, 5, None])
         self.refused(diffuse.InputError, "limits: at least one is needed", lambda: self.network().isochrone("A", by="minutes", limits=[]))
 
+    def test_limits_that_are_refused(self):
+        """a to b 1, b to c 2: beyond the greatest limit an isochrone knows nothing."""
+        network = Network.from_table({"from": ["a", "b"], "to": ["b", "c"], "m": [1, 2]}, tail="from", head="to", costs={"m": 10})
+        self.assertEqual(network.isochrone("a", "m", [1]).within("1.0"), ["a", "b"])
+        self.assertEqual(network.isochrone("a", "m", [1]).within(0.99), ["a"])
+        self.refused(diffuse.InputError, "within: 100 is above the greatest limit of this isochrone, 1", lambda: network.isochrone("a", "m", [1]).within(100))
+        self.refused(diffuse.NotANumber, "within: None is no number", lambda: network.isochrone("a", "m", [1]).within(None))
+        for limits, kind, message in ((b"12", diffuse.BadShape, "limits: a list of numbers is needed, not b'12'"), ("12", diffuse.BadShape, "limits: a list of numbers is needed, not '12'"), (5, diffuse.BadShape, "limits: a list of numbers is needed, not 5"),
+                                      ([-1, 3], diffuse.NoAlgebra, "limits[0]: -1 is not from 0 to 2^63 divided by the scale"), ([3, "3.0"], diffuse.InputError, "limits[1]: 3.0 comes twice"),
+                                      ([1, True], diffuse.NotANumber, "limits[1]: True is no number"), (["1e9999999999"], diffuse.NoAlgebra, "limits[0]: 1E+9999999999 is not from 0 to 2^63 divided by the scale")):
+            self.refused(kind, message, lambda: network.isochrone("a", "m", limits))
+        self.refused(diffuse.NoAlgebra, "limit: 1e9999999999 is not from 0 to 2^63 divided by the scale", lambda: network.route("a", "b", "m", "within", "1e9999999999"))
+
+    def test_factors_of_questions_towards(self):
+        network = self.network()
+        before = network.tree("C", by="minutes", towards=True)
+        network.factor("minutes", towards=True)
+        self.assertEqual(network.graph("minutes", True)._handles._factored, {diffuse.Algebra.SHORTEST})
+        self.assertEqual(network.graph("minutes")._handles._factored, set())
+        self.assertEqual(network.tree("C", by="minutes", towards=True), before)
+
     def test_a_sum_of_costs_is_one_more_cost(self):
         network = self.network().with_sum("general", {"minutes": 1, "euro": "0.5"}, scale=100)
         route = network.route("A", "B", by="general")
@@ -128,13 +159,33 @@ class Questions(WithFiles):
 
     def test_a_sum_that_is_not_whole(self):
         network = self.network()
-        self.refused(diffuse.InputError, "general of the road in row 0: 83.25 is not whole by the scale 100; "
+        self.refused(diffuse.InputError, "roads.csv, line 2, general: 83.25 is not whole by the scale 100; "
                      "take a larger scale, or rounding=True", lambda: network.with_sum("general", {"minutes": "0.333"}, scale=100))
         rounded = network.with_sum("general", {"minutes": "0.333"}, scale=100, rounding=True)
         self.assertEqual(rounded.route("C", "D", by="general").cost, 3.41)  # 3.41325
         self.assertEqual(rounded.route("A", "C", by="general").cost, 0.73)  # 0.4995 and 0.2331
-        self.refused(diffuse.OutOfRange, "general of the road in row 1: -3200 is not from 0 to 4294967295",
+        self.refused(diffuse.OutOfRange, "roads.csv, line 3, general: -3200 is not from 0 to 4294967295",
                      lambda: network.with_sum("general", {"euro": -10}, scale=100))
+
+    def test_a_half_is_rounded_upwards_everywhere(self):
+        """Costs .5, 1.5, 2.5 and 3.5 are the weights 1, 2, 3 and 4, from a table as from a sum; 0.49 is 0."""
+        table = {"a": "ABCDE", "b": "BCDEF", "m": [0.5, "1.5", Decimal("2.5"), 3.5, "0.4" + 120 * "9"]}
+        table = {name: list(column) for name, column in table.items()}
+        network = Network.from_table(table, tail="a", head="b", costs={"m": 1}, rounding=True)
+        self.assertEqual(list(network.costs["m"].weights), [1, 2, 3, 4, 0])
+        finer = Network.from_table({**table, "m": [0.5, 1.5, 2.5, 3.5, 0.4]}, tail="a", head="b", costs={"m": 10})
+        self.assertEqual(list(finer.with_sum("n", {"m": 1}, scale=1, rounding=True).costs["n"].weights), [1, 2, 3, 4, 0])
+
+    def test_sums_that_are_refused(self):
+        network = self.network()
+        for scale, shown in ((-1, "-1"), (0, "0"), (1.5, "1.5"), (None, "None"), ("1", "'1'"), (True, "True")):
+            self.refused(diffuse.InputError, f"the scale of n is a whole number from 1 on, not {shown}", lambda: network.with_sum("n", {"minutes": -1}, scale=scale))
+        self.refused(diffuse.InputError, "there is a cost 'euro' already", lambda: network.with_sum("euro", {"minutes": 1}, scale=100))
+        self.refused(diffuse.NotANumber, "the factor of minutes: 'x' is no number", lambda: network.with_sum("n", {"minutes": "x"}, scale=1))
+        self.refused(diffuse.OutOfRange, "the factor of minutes: '1e999999' has digits more than 50 places from the point",
+                     lambda: network.with_sum("n", {"minutes": "1e999999"}, scale=1))
+        self.refused(diffuse.InputError, "name: a text is needed, not ['n']", lambda: network.with_sum(["n"], {"minutes": 1}, scale=1))
+        self.refused(diffuse.InputError, "parts: costs with their factors are needed, as in {'minutes': 1}, not ['minutes']", lambda: network.with_sum("n", ["minutes"], scale=1))
 
     def test_unknown_names(self):
         network = self.network()
@@ -142,6 +193,12 @@ class Questions(WithFiles):
         self.refused(diffuse.NoVertex, "there is no place 'Z'", lambda: network.tree(["A", "Z"], by="minutes"))
         self.refused(diffuse.InputError, "there is no cost 'hours'; there are minutes, euro, lanes", lambda: network.route("A", "B", by="hours"))
         self.refused(diffuse.NoRoute, "no route leads from A to Island", lambda: network.route("A", "Island", by="minutes"))
+
+    def test_numbers_and_texts_as_names(self):
+        texts = Network.from_table({"a": ["426"], "b": ["7"], "m": [1]}, tail="a", head="b", costs={"m": 1})
+        self.refused(diffuse.NoVertex, "there is no place 426; but there is '426'", lambda: texts.route(426, "7", by="m"))
+        numbers = Network.from_table({"a": [426], "b": [7], "m": [1]}, tail="a", head="b", costs={"m": 1})
+        self.refused(diffuse.NoVertex, "there is no place '426'; but there is 426", lambda: numbers.route("426", 7, by="m"))
 
 
 class Tables(WithFiles):
@@ -193,11 +250,61 @@ class Tables(WithFiles):
         route = network.route("A", "Ça", by="minutes")
         self.assertEqual((route.cost, route.cells("road")), (2.2, ["Tunnel", "Lane"]))
 
+    def test_only_the_decimal_sign_is_in_a_number(self):
+        text = "f;t;m\nA;B;{}\n"
+        def read(cell, **words):
+            return Network.read_csv(self.file("r.csv", text.format(cell)), tail="f", head="t", costs={"m": 1000}, delimiter=";", **words)
+
+        self.assertEqual(read("1,5", decimal=",").route("A", "B", by="m").cost, 1.5)
+        self.refused(diffuse.NotANumber, "r.csv, line 2, column m: '1.500' is no number with the decimal sign ','", lambda: read("1.500", decimal=","))
+        for cell in ("1_0", "\u0661\u0660", "1,5", "--1", "0x1", ""):
+            self.refused(diffuse.NotANumber, f"r.csv, line 2, column m: {cell!r} is no number", lambda: read(cell))
+        for sign in ("", ",,", "1", "-", None):
+            self.refused(diffuse.InputError, f"decimal: one sign such as ',' is needed, not {sign!r}", lambda: read("1", decimal=sign))
+
+    def test_encodings(self):
+        text = "f,t,m\nA,B,1\nB,Stra\u00dfe,2\n"
+        for encoding in ("cp1252", "utf-16", "latin-1", "utf-8"):
+            path = self.file("r.csv", text, encoding)
+            self.assertEqual(Network.read_csv(path, tail="f", head="t", costs={"m": 1}, encoding=encoding).route("A", "Stra\u00dfe", by="m").cost, 3)
+        def read(written, **words):
+            return lambda: Network.read_csv(self.file("r.csv", text, written), tail="f", head="t", costs={"m": 1}, **words)
+
+        self.refused(diffuse.InputError, "r.csv, line 3: not utf-8; encoding= names another, such as cp1252 or utf-16", read("cp1252"))
+        self.refused(diffuse.InputError, "r.csv, line 1: not utf-8; encoding= names another, such as cp1252 or utf-16", read("utf-16"))
+        for name in ("runes", "hex", None):
+            self.refused(diffuse.InputError, f"encoding: there is none of the name {name!r}", read("utf-8", encoding=name))
+
+    def test_texts_that_are_no_tables(self):
+        def read(text, **words):
+            return lambda: Network.read_csv(self.file("r.csv", text), tail="f", head="t", costs={"m": 1}, **words)
+
+        self.refused(diffuse.InputError, "r.csv, line 2: field larger than field limit (131072)", read("f,t,m\nA," + "B" * 140000 + ",1\n"))
+        self.assertRaisesRegex(diffuse.InputError, "delimiter: ',,' can't be used", read("f,t,m\n", delimiter=",,"))
+        self.assertRaisesRegex(diffuse.InputError, "delimiter: None can't be used", read("f,t,m\n", delimiter=None))
+
     def test_all_or_no_roads_lead_back(self):
         self.assertEqual(len(self.network(both_ways=True).roads.tails), 12)
         self.assertEqual(len(self.network(both_ways=False).roads.tails), 6)
 
     def test_columns(self):
+        words = {"tail": "a", "head": "b"}
+        table = {"a": ["A"], "b": ["B"], "m": [1]}
+        for data, more, message in (
+                ([{"a": 1}], {}, "roads: a DataFrame or a mapping from names to columns is needed, not [{'a': 1}]"),
+                (table, {"costs": ["m"]}, "costs: columns with their scales are needed, as in {'minutes': 10}, not ['m']"),
+                (table, {"costs": "m"}, "costs: columns with their scales are needed, as in {'minutes': 10}, not 'm'"),
+                (table, {"both_ways": None}, "both_ways: True, False or the name of a column is needed, not None"),
+                (table, {"both_ways": 2}, "both_ways: True, False or the name of a column is needed, not 2"),
+                (table, {"both_ways": -1}, "both_ways: True, False or the name of a column is needed, not -1"),
+                ({**table, "m": 5}, {}, "roads, column m: a list is needed, not 5"), ({**table, "m": "5"}, {}, "roads, column m: a list is needed, not '5'"),
+                ({**table, 1: [1], "1": [2]}, {}, "roads: two columns have the name 1"),
+                ({**table, "a": [["A"]]}, {}, "roads, row 0, column a: ['A'] can't be a name, since it can be changed")):
+            self.refused_softly(message, lambda: Network.from_table(data, **{**words, "costs": {"m": 1}, **more}))
+        network = Network.from_table(table, **words, costs={"m": 1})
+        self.refused(diffuse.InputError, "there is no cost ['m']; there are m", lambda: network.route("A", "B", by=["m"]))
+        self.refused(diffuse.NoAlgebra, "there is no algebra []; there are shortest, widest, reach, hops, reliable, within", lambda: network.route("A", "B", "m", []))
+        self.refused(diffuse.NoVertex, "there is no place ['A']", lambda: network.vertex(["A"]))
         self.refused(diffuse.BadShape, "roads: its columns have 1, 2 rows", lambda: Network.from_table({"a": [1], "b": [1, 2]}, tail="a", head="b", costs={}))
         network = Network.from_table({"a": [1, (2, 3)], "b": [(2, 3), "x"], "m": [1, 2]}, tail="a", head="b", costs={"m": 1})
         self.assertEqual(network.tree((2, 3), by="m").cost("x"), 2)
@@ -220,6 +327,11 @@ class OtherSources(WithFiles):
         rows = [("p aux sp co 1\nv 1 x 2\n", diffuse.NotANumber, "line 2"), ("p aux sp co 1\nv 2 1 2\n", diffuse.InputError, "line 2"),
                 ("p aux sp co 1\n", diffuse.BadShape, "0 lines of vertices, and 1"), ("v 1 1 2\n", diffuse.BadShape, "line 1"),
                 ("p aux sp co 2\nv 1 1 2\nv 1 1 2\n", diffuse.InputError, "line 3"),
+                ("c nothing\n", diffuse.BadShape, "bad.co: there is no line `p aux sp co VERTICES`"),
+                ("p aux sp co 1\nv 1 999999999 20\n", diffuse.OutOfRange, "line 2: LONGITUDE: 999999999 is not from -180000000 to 180000000"),
+                ("p aux sp co 1\nv 1 0 90000001\n", diffuse.OutOfRange, "line 2: LATITUDE: 90000001 is not from -90000000 to 90000000"),
+                ("p aux sp co 1\nv 1 1_0 2\n", diffuse.NotANumber, "line 2: LONGITUDE: '1_0' is no whole number"),
+                ("p aux sp co 1\nv 1 1 \u0662\n", diffuse.NotANumber, "line 2: LATITUDE: '\u0662' is no whole number"),
                 ("p aux sp co 6\n" + "".join(f"v {v} 1 2\n" for v in range(1, 7)), diffuse.InputError, "6 vertices, and the graph 5"), ("p sp 2 1\n", diffuse.BadShape, "line 1")]
         for text, kind, message in rows:
             with self.subTest(text), self.assertRaisesRegex(kind, message):
@@ -240,11 +352,35 @@ class OtherSources(WithFiles):
         streets.add_edge("B", "C")
         self.refused(diffuse.InputError, "graph, edge B to C: there is no minutes", lambda: Network.from_networkx(streets, costs={"minutes": 1}))
 
+    @unittest.skipUnless(networkx, "networkx is not installed")
+    def test_attributes_of_networkx_may_have_any_name(self):
+        """A cost head is no end of an edge, and a coordinate node is no name of one; other attributes are columns."""
+        graph = networkx.DiGraph()
+        graph.add_edge(1, 2, head=3, tail=5, name="Pipe Lane")
+        graph.add_edge(2, 4, head=4, tail=6)
+        network = Network.from_networkx(graph, costs={"head": 1, "tail": 1})
+        self.assertEqual(list(network.names), [1, 2, 4])
+        route = network.route(1, 4, by="head")
+        self.assertEqual((route.places, route.cost, route.total("tail"), route.cells("name")), ([1, 2, 4], 7, 11, ["Pipe Lane", None]))
+        self.assertRaises(diffuse.NoVertex, network.route, 1, 3, "head")
+        graph.nodes[1].update(node=10.5, y=50)
+        self.assertEqual(Network.from_networkx(graph, costs={"head": 1}, x="node").places.points, {1: (10.5, 50.0)})
+        self.refused(diffuse.InputError, "graph: a graph of networkx is needed, not [(1, 2)]", lambda: Network.from_networkx([(1, 2)], costs={}))
+
+    @unittest.skipUnless(numpy, "numpy is not installed")
+    def test_scales_and_flags_of_numpy(self):
+        table = {"a": ["A"], "b": ["B"], "m": [1.5]}
+        network = Network.from_table(table, tail="a", head="b", costs={"m": numpy.int64(10)}, both_ways=numpy.bool_(True))
+        self.assertEqual(network.route("B", "A", by="m").cost, 1.5)
+
     @unittest.skipUnless(pandas, "pandas is not installed")
     def test_pandas(self):
         roads, places = pandas.read_csv(self.file("roads.csv", ROADS)), pandas.read_csv(self.file("places.csv", PLACES))
         network = Network.from_table(roads, tail="from", head="to", costs=COSTS, both_ways="both_ways", places=places)
         self.assertEqual(network.route("A", "D", by="minutes").cost, 12.45)
+        missing = roads.astype({"from": "string"})
+        missing.loc[2, "from"] = pandas.NA
+        self.refused(diffuse.InputError, "roads, row 2, column from: a name is missing", lambda: Network.from_table(missing, tail="from", head="to", costs=COSTS))
         roads.loc[3, "minutes"] = numpy.nan
         self.refused(diffuse.NotANumber, "roads, row 3, column minutes: nan is no number",
                      lambda: Network.from_table(roads, tail="from", head="to", costs=COSTS))

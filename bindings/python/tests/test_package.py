@@ -20,6 +20,8 @@ class Package(unittest.TestCase):
 
     def test_version(self):
         self.assertRegex(diffuse.version(), r"^1\.\d+\.\d+$")
+        backend = Path(__file__).resolve().parents[1] / "backend" / "wheel_of_library.py"
+        self.assertIn(f'VERSION, TAG = "diffuse", "{diffuse.__version__}"', backend.read_text())
 
     def test_a_library_that_is_not_there(self):
         said = self.said("import diffuse; print('imported'); diffuse.Graph(1, [])", DIFFUSE_LIBRARY="/nowhere/libdiffuse.so")
@@ -29,7 +31,7 @@ class Package(unittest.TestCase):
     def test_numbers_of_the_header(self):
         """Each status, algebra and reason of include/diffuse.h has a name here, and no other number has."""
         header = (Path(__file__).resolve().parents[3] / "include" / "diffuse.h").read_text()
-        numbers = {kind: set(map(int, re.findall(r" = (\d+)", re.search(rf"enum diffuse_{kind} {{(.*?)}};", header, re.S)[1])))
+        numbers = {kind: set(map(int, re.findall(r" = (\d+)", re.search(rf"^enum diffuse_{kind}\b[^{{;(]*{{(.*?)}};", header, re.M | re.S)[1])))
                    for kind in ("status", "algebra", "reason")}
         self.assertEqual(numbers["status"], {0, *diffuse.errors.BY_STATUS})
         self.assertEqual(numbers["algebra"], {int(algebra) for algebra in diffuse.Algebra})

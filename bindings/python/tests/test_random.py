@@ -1,4 +1,4 @@
-"""Random graphs in all algebras, beside networkx and the definitions of docs/DEFINITIONS.md."""
+"""Random graphs in all algebras, beside networkx and the definitions of docs/WORDS.md."""
 import random
 import unittest
 

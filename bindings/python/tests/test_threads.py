@@ -66,7 +66,7 @@ class Threads(unittest.TestCase):
             future.result()
         found += [(source, listed(graph.tree(source))) for source in wanted]
         self.assertTrue(all(wanted[source] == tree for source, tree in found))
-        self.assertTrue(all(handle.origin is graph._handles._first for handle in graph._handles._free))
+        self.assertEqual({handle.generation for handle in graph._handles._free}, {2})
 
     def test_closing_while_others_ask(self):
         for _ in range(20):

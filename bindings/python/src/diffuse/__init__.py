@@ -1,7 +1,8 @@
 """Best values, routes, trees and tables in road graphs, by a library that is proved right for every input.
 
-`Graph` takes numbered vertices and whole weights; `Network` takes names, decimals and several costs, and writes CSV, GeoJSON
-and pictures. docs/PLANNING.md is a walk through `Network`, docs/EMBEDDING.md says what is proved.
+`Graph` takes numbered vertices and whole weights; `Network` takes maps of OpenStreetMap and tables with names, decimals and
+several costs, and writes CSV, GeoJSON and pictures. docs/PLANNING.md is a walk through `Network`, docs/EMBEDDING.md says what
+is proved.
 """
 from ._library import version
 from .algebras import ALGEBRAS, UNREACHED, Algebra
@@ -12,14 +13,19 @@ from .errors import (
     TooHeavy, TooManyArcs, UnknownLine, WrongFields, WrongTree,
 )
 from .graph import Graph
-from .named import Isochrone, NamedRoute, NamedTree
+from .distances import NamedTable
 from .network import Network
 from .places import Places
+from .routes import NamedRoute, Step
+from .streets import DRIVING, WALKING
+from .trees import Isochrone, NamedTree
+
+__version__ = "1.1.0"
 
 __all__ = [
-    "Algebra", "ALGEBRAS", "AlreadyOpen", "BadProblemLine", "BadShape", "Closed", "DiffuseError", "Graph", "InputError",
-    "Isochrone", "NamedRoute", "NamedTree", "Network", "NoAlgebra", "NoFactors", "NoProblemLine", "NoRoom", "NoRoute",
-    "NotANumber", "NotFactored", "NoVertex", "OutOfMemory", "OutOfRange", "Places", "Reason", "Route", "SecondProblemLine",
-    "TextFault", "TooDense", "TooFewArcs", "TooHeavy", "TooManyArcs", "Tree", "UnknownLine", "UNREACHED", "version",
-    "WrongFields", "WrongTree",
+    "Algebra", "ALGEBRAS", "AlreadyOpen", "BadProblemLine", "BadShape", "Closed", "DiffuseError", "DRIVING", "Graph",
+    "InputError", "Isochrone", "NamedRoute", "NamedTable", "NamedTree", "Network", "NoAlgebra", "NoFactors", "NoProblemLine",
+    "NoRoom", "NoRoute", "NotANumber", "NotFactored", "NoVertex", "OutOfMemory", "OutOfRange", "Places", "Reason", "Route",
+    "SecondProblemLine", "Step", "TextFault", "TooDense", "TooFewArcs", "TooHeavy", "TooManyArcs", "Tree", "UnknownLine",
+    "UNREACHED", "version", "WALKING", "WrongFields", "WrongTree",
 ]

@@ -3,10 +3,10 @@ from __future__ import annotations
 
 from contextlib import contextmanager
 from ctypes import byref
-from threading import Lock
-from typing import Iterator
+from typing import Iterable, Iterator
 
 from ._library import DONE, Handle, library
+from ._locks import ForkLock
 from .errors import Closed, refusal
 
 
@@ -14,11 +14,15 @@ class Handles:
     """A first handle, of which others are made by diffuse_graph_share as threads need them.
 
     Only one call at a time may use a handle. A lock guards the list of those that are free, and the first handle. When the
-    graph is factored another handle becomes the first, and those that were made of the one before are closed as their calls end.
+    graph is factored another handle becomes the first, with a new generation, and those of the one before are closed as their
+    calls end. A forked child has the first handle and the free ones; those that calls of other threads used are lost to it.
     """
 
-    def __init__(self, first: Handle) -> None:
-        self._lock, self._factoring, self._first = Lock(), Lock(), first
+    def __init__(self, first: Handle, factored: Iterable[int] = ()) -> None:
+        self.vertices = int(library().diffuse_graph_vertices(byref(first)))
+        self.arcs = int(library().diffuse_graph_arcs(byref(first)))
+        self._lock, self._factoring = ForkLock(waits=True), ForkLock()
+        self._first, self._generation, self._factored = first, 0, set(factored)
         self._free: list[Handle] = []
         self._closed = False
 
@@ -26,11 +30,20 @@ class Handles:
     def borrowed(self) -> Iterator[Handle]:
         """A handle that no other call uses. Raises Closed, or OutOfMemory."""
         with self._lock:
-            handle = self._free.pop() if self._free else self._shared()
+            handle = self._unused()
         try:
             yield handle
         finally:
             self._give_back(handle)
+
+    def copied(self) -> Handles:
+        """Handles of the same graph in memory, which are closed by themselves. Raises Closed, or OutOfMemory."""
+        with self._lock:
+            return Handles(self._shared(), self._factored)
+
+    def _unused(self) -> Handle:
+        """A free handle, or a new one, under the lock."""
+        return self._free.pop() if self._free else self._shared()
 
     def _shared(self) -> Handle:
         """A handle made of the first, under the lock."""
@@ -40,34 +53,54 @@ class Handles:
         status = library().diffuse_graph_share(byref(self._first), byref(handle))
         if status != DONE:
             raise refusal(status)
-        handle.origin = self._first
+        handle.generation = self._generation
         return handle
 
     def _give_back(self, handle: Handle) -> None:
         with self._lock:
-            if not self._closed and handle.origin is self._first:
+            if not self._closed and handle.generation == self._generation:
                 self._free.append(handle)
                 return
         library().diffuse_graph_close(byref(handle))
 
     def factor(self, algebra: int) -> int:
-        """The status of factoring the graph for an algebra. Other calls go on meanwhile. Raises Closed, or OutOfMemory."""
+        """The status of factoring the graph for an algebra, once. Other calls go on meanwhile. Raises Closed, or OutOfMemory."""
         with self._factoring:
             with self._lock:
-                handle = self._shared()
+                if algebra in self._factored and not self._closed:
+                    return DONE
+                handle = self._unused()
             status: int = library().diffuse_graph_factor(byref(handle), algebra)
-            with self._lock:
-                if status == DONE and not self._closed:
-                    handle, self._first = self._first, handle
-                old, self._free = [handle, *self._free], []
+            if status == DONE:
+                self._begin_with(handle, algebra)
+            else:
+                self._give_back(handle)
+        return status
+
+    def _begin_with(self, handle: Handle, algebra: int) -> None:
+        """Makes a handle with new factors the first, and closes those that calls do not use."""
+        with self._lock:
+            old = [handle]
+            if not self._closed:
+                old = [self._first, *self._free]
+                self._first, self._free = handle, []
+                self._generation = handle.generation = self._generation + 1
+                self._factored.add(algebra)
         for handle in old:
             library().diffuse_graph_close(byref(handle))
-        return status
 
     def close(self) -> None:
         """Closes all handles; those that calls use, when the calls end."""
         with self._lock:
-            self._closed = True
-            handles, self._free = [*self._free, self._first], []
+            handles = self._taken()
         for handle in handles:
             library().diffuse_graph_close(byref(handle))
+
+    def drop(self) -> None:
+        """The same when nothing else can ask any more: without the lock, since collecting may begin while one is held."""
+        for handle in self._taken():
+            library().diffuse_graph_close(byref(handle))
+
+    def _taken(self) -> list[Handle]:
+        handles, self._free, self._closed = [*self._free, self._first], [], True
+        return handles

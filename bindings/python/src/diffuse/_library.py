@@ -17,8 +17,8 @@ class Handle(ctypes.Structure):
     """A handle, which begins closed: all zero."""
 
     _fields_ = [("at", c_void_p), ("is_open", c_bool)]
-    origin: Optional["Handle"] = None
-    """The handle that it was made of by diffuse_graph_share."""
+    generation: int = 0
+    """How often the graph was factored before the handle was made."""
     _places: Optional["ctypes.Array[c_uint32]"] = None
 
     def places(self, vertices: int) -> "ctypes.Array[c_uint32]":

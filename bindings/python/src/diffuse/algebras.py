@@ -4,7 +4,8 @@ from __future__ import annotations
 from enum import IntEnum
 from typing import Optional, Union
 
-from .errors import NoAlgebra
+from .columns import index_of
+from .errors import NoAlgebra, shown
 
 MOST_LIMIT = 2**63
 UNREACHED = 2**64 - 1
@@ -12,7 +13,7 @@ UNREACHED = 2**64 - 1
 
 
 class Algebra(IntEnum):
-    """What is best, and what a value is. docs/DEFINITIONS.md has them in full."""
+    """What is best, and what a value is. docs/WORDS.md has them in full."""
 
     SHORTEST = 0
     """The least sum of weights; the value is the sum, in the unit of the weights."""
@@ -32,6 +33,11 @@ class Algebra(IntEnum):
         """Whether the value is a sum of weights."""
         return self in (Algebra.SHORTEST, Algebra.WITHIN)
 
+    @property
+    def factored_as(self) -> Algebra:
+        """The algebra that has the same factors: shortest for within, and else itself."""
+        return Algebra.SHORTEST if self is Algebra.WITHIN else self
+
 
 ALGEBRAS = {algebra.name.lower(): algebra for algebra in Algebra}
 """The algebras by the names that the program and its answers have."""
@@ -43,8 +49,8 @@ def algebra_of(algebra: AnyAlgebra) -> Algebra:
     """The algebra of a name, as the program writes it. Raises NoAlgebra."""
     if isinstance(algebra, Algebra):
         return algebra
-    if algebra not in ALGEBRAS:
-        raise NoAlgebra(f"there is no algebra {algebra!r}; there are {', '.join(ALGEBRAS)}")
+    if not isinstance(algebra, str) or algebra not in ALGEBRAS:
+        raise NoAlgebra(f"there is no algebra {shown(algebra)}; there are {', '.join(ALGEBRAS)}")
     return ALGEBRAS[algebra]
 
 
@@ -53,8 +59,9 @@ def question_of(algebra: AnyAlgebra, limit: Optional[int]) -> tuple[Algebra, int
     found = algebra_of(algebra)
     if found is not Algebra.WITHIN:
         if limit is not None:
-            raise NoAlgebra(f"only within has a limit, and {found.name.lower()} was given {limit!r}")
+            raise NoAlgebra(f"only within has a limit, and {found.name.lower()} was given {shown(limit)}")
         return found, 0
-    if limit is None or isinstance(limit, bool) or not hasattr(limit, "__index__") or not 0 <= limit <= MOST_LIMIT:
-        raise NoAlgebra(f"within needs a limit, a whole number from 0 to 2^63, not {limit!r}")
-    return found, int(limit)
+    bound = index_of(limit)
+    if bound is None or not 0 <= bound <= MOST_LIMIT:
+        raise NoAlgebra(f"within needs a limit, a whole number from 0 to 2^63, not {shown(limit)}")
+    return found, bound

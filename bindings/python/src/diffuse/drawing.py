@@ -1,70 +1,107 @@
 """A network and answers about it as one SVG, which stays readable with a hundred thousand places."""
 from __future__ import annotations
 
+import re
 from bisect import bisect_left
 from math import isfinite, sqrt
-from typing import TYPE_CHECKING, Hashable, Iterable, Iterator, Optional, Sequence, Union
-from xml.sax.saxutils import escape
+from typing import TYPE_CHECKING, Container, Hashable, Iterable, Iterator, Mapping, Optional, Sequence, Union
+from xml.sax.saxutils import escape as escaped
 
-from .frame import MARGIN, SIZE, Frame, Labels
-from .named import Isochrone, NamedRoute, NamedTree, unit_of
+from .columns import Argument, listed
+from .errors import InputError, shown
+from .frame import MARGIN, SIZE, Boxes, Frame
+from .geometry import Line
+from .routes import NamedRoute, unit_of
 from .tables import Path
+from .trees import Isochrone, NamedTree
 
 if TYPE_CHECKING:
-    from .network import Network
+    from .questions import Questions
 
 ROAD, ROUTE, INK = "#c4c4c4", "#d7301f", "#222222"
 BANDS = ["#440154", "#3b528b", "#21918c", "#5ec962", "#d9b400"]
 """From near to far, told apart also by those who do not see red and green apart."""
 
 FEW, LEGEND = 60, 28
-Pair = tuple[Hashable, Hashable]
+LABELS = Argument("labels", needed="a list of places, or places with words,")
+Labels = Union[Iterable[Hashable], Mapping[Hashable, str]]
 
 
-def draw(network: Network, path: Path, answers: Sequence[Union[NamedRoute, NamedTree]], labels: Optional[Iterable[Hashable]],
+def draw(network: Questions, path: Path, answers: Sequence[Union[NamedRoute, NamedTree]], labels: Optional[Labels],
          title: str, width: int) -> None:
-    """Writes the picture. Raises InputError without coordinates, NoVertex for a label that is no place; OSError."""
-    frame = Frame(network.places, network.names, width)
+    """Writes the picture. Raises InputError without coordinates or for what can't be drawn, NoVertex for a label that is no place;
+    OSError."""
+    check(network, answers)
+    frame = Frame(network.places, network.names, width, (point for shape in network.roads.shapes or () for point in shape))
+    words = words_of(network, labels)
     routes = [answer for answer in answers if isinstance(answer, NamedRoute)]
     trees = [answer for answer in answers if isinstance(answer, NamedTree)]
     thin = min(3.0, max(0.5, 40 / sqrt(len(network.names))))
-    body = [lines(frame, pairs_of(network, range(len(network.roads.tails))), ROAD, thin)]
+    body = [paths(frame, lines_of(network, range(len(network.roads.tails))), ROAD, thin)]
     legend: list[tuple[str, str]] = []
     for found in map(bands, trees):
-        body += [lines(frame, pairs, colour, 1.6 * thin) for colour, _, pairs in reversed(found)]
-        legend += [(colour, words) for colour, words, _ in found]
+        body += [paths(frame, lines, colour, 1.6 * thin) for colour, _, lines in reversed(found)]
+        legend += [(colour, meaning) for colour, meaning, _ in found]
     for route in routes:
-        pairs = list(zip(route.places, route.places[1:]))
-        body += [lines(frame, pairs, "white", thin + 5), lines(frame, pairs, ROUTE, thin + 2)]
-        legend.append((ROUTE, f"{route.places[0]} to {route.places[-1]}: {route.cost:g} {unit_of(route.algebra, route.by)}"))
+        body += [paths(frame, [route.line()], "white", thin + 5), paths(frame, [route.line()], ROUTE, thin + 2)]
+        both = (words.get(place, str(place)) for place in (route.places[0], route.places[-1]))
+        legend.append((ROUTE, f"{' to '.join(both)}: {route.cost:.12g} {unit_of(route.algebra, route.by)}"))
     ends = [place for tree in trees for place in tree.sources] + [route.places[end] for route in routes for end in (0, -1)]
-    body += marks(network, frame, list(dict.fromkeys(ends)), labels)
-    write(path, frame, body, legend, title)
+    few = list(network.names) if len(network.names) <= FEW else []
+    body += dots(frame, list(dict.fromkeys(ends)), few)
+    body += names(frame, {**{place: words.get(place, str(place)) for place in ends}, **words}, ends if labels is None else words)
+    write(path, frame, body, legend, str(title))
 
 
-def pairs_of(network: Network, arcs: Iterable[int]) -> set[Pair]:
-    """The places that arcs join, each pair once."""
-    tails, heads, names = network.roads.tails, network.roads.heads, network.names
-    ends = {(min(tails[arc], heads[arc]), max(tails[arc], heads[arc])) for arc in arcs}
-    return {(names[low - 1], names[high - 1]) for low, high in ends}
+def check(network: Questions, answers: Iterable[object]) -> None:
+    """Raises InputError for what is no answer of this network, or of one over the same roads."""
+    for answer in answers:
+        if not isinstance(answer, (NamedRoute, NamedTree)):
+            raise InputError(f"draw: {shown(answer)} is neither a route nor a tree")
+        if answer.network.roads.origin != network.roads.origin:
+            raise InputError(f"draw: {shown(answer)} is of another network")
 
 
-def bands(tree: NamedTree) -> list[tuple[str, str, list[Pair]]]:
-    """Of an isochrone all roads within its limits, of a tree its own arcs; by the cost of the end that has more of it.
+def words_of(network: Questions, labels: Optional[Labels]) -> dict[Hashable, str]:
+    """The words at places: what is asked for, or all names if they are few. Raises NoVertex; InputError for no list."""
+    if labels is None:
+        return {place: str(place) for place in network.names} if len(network.names) <= FEW else {}
+    words = labels.items() if isinstance(labels, Mapping) else [(place, str(place)) for place in listed(labels, LABELS)]
+    return {network.names[network.vertex(place) - 1]: str(word) for place, word in words}
 
-    For each band its colour, what it says in the legend, and its pairs of places, the nearest band first.
+
+def lines_of(network: Questions, arcs: Iterable[int]) -> list[Line]:
+    """The lines of arcs, each road and each line between the same points once."""
+    roads, places = network.roads, network.places
+    found = {tuple(roads.line(arc, places)) for arc in arcs if places} if places else set()
+    return [line for line in found if len(line) > 1 and (line[::-1] not in found or line <= line[::-1])]
+
+
+def bands(tree: NamedTree) -> list[tuple[str, str, list[Line]]]:
+    """Of an isochrone the stretches of roads within its limits, of a tree its own arcs, by the cost of the end that has more of it.
+
+    For each band its colour, what it says in the legend, and its lines, the nearest band first.
     """
-    whole = isinstance(tree, Isochrone)
-    costs = {place: cost for place in tree.network.names if (cost := tree.cost(place)) is not None}
-    finite = [cost for cost in costs.values() if isfinite(cost)]
-    limits = tree.limits if isinstance(tree, Isochrone) else equal_parts(max(finite, default=0))
-    found: list[list[Pair]] = [[] for _ in limits]
-    for a, b in pairs_of(tree.network, range(len(tree.network.roads.tails)) if whole else tree.arcs):
-        if a in costs and b in costs:
-            found[min(bisect_left(limits, max(costs[a], costs[b])), len(limits) - 1)].append((a, b))
+    limits, lines = isochrone_bands(tree) if isinstance(tree, Isochrone) else tree_bands(tree)
     unit = unit_of(tree.algebra, tree.by)
-    return [(colour_of(number, len(limits)), f"up to {limit:g} {unit}", pairs)
-            for number, (limit, pairs) in enumerate(zip(limits, found))]
+    return [(colour_of(number, len(limits)), f"up to {limit:.12g} {unit}", lines[number]) for number, limit in enumerate(limits)]
+
+
+def isochrone_bands(isochrone: Isochrone) -> tuple[list[float], list[list[Line]]]:
+    """The limits, and the stretches of roads up to each."""
+    found = {(limit, tuple(line)) for limit, line in isochrone.roads()}
+    return isochrone.limits, [[line for limit, line in found if limit == most] for most in isochrone.limits]
+
+
+def tree_bands(tree: NamedTree) -> tuple[list[float], list[list[Line]]]:
+    """Equal parts of the greatest cost, and the lines of the arcs up to each."""
+    roads, places = tree.network.roads, tree.network.names
+    costs = {arc: max(tree.cost(places[end - 1]) or 0.0 for end in (roads.tails[arc], roads.heads[arc])) for arc in tree.arcs}
+    limits = equal_parts(max(filter(isfinite, costs.values()), default=0))
+    arcs: list[list[int]] = [[] for _ in limits]
+    for arc, cost in costs.items():
+        arcs[min(bisect_left(limits, cost), len(limits) - 1)].append(arc)
+    return limits, [lines_of(tree.network, part) for part in arcs]
 
 
 def equal_parts(most: float) -> list[float]:
@@ -80,35 +117,40 @@ def colour_of(number: int, count: int) -> str:
     return "#" + "".join(f"{round(a + (b - a) * (place - low)):02x}" for a, b in zip(*ends))
 
 
-def lines(frame: Frame, pairs: Iterable[Pair], colour: str, width: float) -> str:
-    """One path of all these lines, in tenths of pixels."""
+def paths(frame: Frame, lines: Iterable[Line], colour: str, width: float) -> str:
+    """One path of all these lines, in tenths of pixels, without what is no longer than one."""
     parts = []
-    for a, b in pairs:
-        if a in frame.at and b in frame.at:
-            (x, y), (u, v) = ((round(10 * c) for c in frame.at[end]) for end in (a, b))
-            parts.append(f"M{x} {y}l{u - x} {v - y}")
-    data = "".join(sorted(parts))
+    for line in filter(None, lines):
+        points = [tuple(round(10 * c) for c in frame.point(at)) for at in line]
+        steps = [(u - x, v - y) for (x, y), (u, v) in zip(points, points[1:])]
+        parts.append("M{} {}l".format(*points[0]) + " ".join(f"{x} {y}" for x, y in steps if x or y))
+    data = "".join(sorted(part for part in parts if part[-1] != "l"))
     return (f'<path transform="scale(.1)" d="{data}" fill="none" stroke="{colour}" stroke-width="{10 * width:.0f}" '
-            'stroke-linecap="round"/>')
+            'stroke-linecap="round" stroke-linejoin="round"/>')
 
 
-def marks(network: Network, frame: Frame, ends: list[Hashable], labels: Optional[Iterable[Hashable]]) -> Iterator[str]:
-    """A ring at each end, a dot at each other place if they are few, and labels."""
-    few = len(network.names) <= FEW
-    asked = list(labels) if labels is not None else list(network.names) if few else []
-    for place in asked:
-        network.vertex(place)
-    for place in network.names if few else []:
+def dots(frame: Frame, ends: list[Hashable], places: list[Hashable]) -> Iterator[str]:
+    """A ring at each end, and a dot at each other of some places."""
+    for place in places:
         if place in frame.at and place not in ends:
             yield circle(frame, place, 3, INK)
     for place in (place for place in ends if place in frame.at):
         yield circle(frame, place, 6, "white") + circle(frame, place, 3.5, INK)
-    taken = Labels(frame)
-    for place in dict.fromkeys([*ends, *asked]):
+
+
+def names(frame: Frame, words: Mapping[Hashable, str], needed: Container[Hashable]) -> Iterator[str]:
+    """The words beside places, of those that are not needed only where there is room."""
+    taken = Boxes(frame)
+    for place, name in words.items():
         if place in frame.at:
-            found = taken.place(str(place), frame.at[place], place in ends or labels is not None)
+            found = taken.place(name, frame.at[place], place in needed)
             if found:
-                yield words_at(*found, str(place))
+                yield words_at(*found, name)
+
+
+def escape(words: str) -> str:
+    """Words as XML has them, with a sign in the place of each that XML can't have."""
+    return escaped(re.sub("[^\t\n\r\x20-\ud7ff\ue000-\ufffd\U00010000-\U0010ffff]", "\ufffd", words))
 
 
 def circle(frame: Frame, place: Hashable, radius: float, fill: str) -> str:

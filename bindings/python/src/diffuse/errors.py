@@ -8,6 +8,21 @@ from enum import IntEnum
 from typing import ClassVar, Optional
 
 
+MOST_WORDS = 80
+
+
+def shown(value: object) -> str:
+    """A value as messages show it: not longer than a line."""
+    if isinstance(value, int) and value.bit_length() > 1000:
+        return f"a whole number of {value.bit_length()} bits"
+    return cut(repr(value))
+
+
+def cut(words: str) -> str:
+    """Words that are not longer than a line."""
+    return words if len(words) <= MOST_WORDS else f"{words[:MOST_WORDS - 3]}..."
+
+
 class DiffuseError(Exception):
     """Any refusal. `status` is the C library's number, or None if the package itself refused."""
 
@@ -94,6 +109,9 @@ class WrongTree(DiffuseError):
         self.vertex, self.reason = vertex, Reason(reason)
         super().__init__(f"the tree is wrong at vertex {vertex}: {self.reason.text}")
 
+    def __reduce__(self) -> tuple[type[WrongTree], tuple[int, int]]:
+        return type(self), (self.vertex, int(self.reason))
+
 
 class NotFactored(DiffuseError):
     """The graph was not factored, and is searched as before."""
@@ -102,7 +120,7 @@ class NotFactored(DiffuseError):
 
 
 class TooDense(NotFactored):
-    """So many arcs join the vertices that factors would not pay."""
+    """Factors would need too many links: there are no small separators."""
 
     status = 7
 
@@ -120,11 +138,17 @@ class NoFactors(NotFactored):
 
 
 class TextFault(InputError):
-    """A fault that a .gr text may have. `line` is the line of the text, from 1 on; or 0, if the numbers are of no text."""
+    """A fault that a text or a number may have. `line` is the line of a .gr or .co text, from 1 on; or 0."""
 
     def __init__(self, message: str, line: int = 0) -> None:
         super().__init__(message)
         self.line = line
+
+
+def placed(fault: InputError, place: str, line: int = 0) -> InputError:
+    """The same fault with its place before the message."""
+    message = f"{place}: {fault}"
+    return type(fault)(message, line) if isinstance(fault, TextFault) else type(fault)(message)
 
 
 class NoProblemLine(TextFault):
@@ -207,10 +231,3 @@ def refusal(status: int, message: str = "") -> DiffuseError:
         return DiffuseError(f"the library returned status {status}, which this package does not know")
     return kind(message or (kind.__doc__ or "").split("\n")[0])
 
-
-def text_refusal(status: int, line: int) -> DiffuseError:
-    """The exception of the first fault of a .gr text, with its line."""
-    fault = refusal(status)
-    if isinstance(fault, TextFault):
-        return type(fault)(f"line {line}: {fault}", line)
-    return fault

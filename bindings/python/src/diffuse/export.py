@@ -7,8 +7,22 @@ from math import inf
 from typing import Any, Hashable, Iterable, Mapping, Optional, Sequence
 
 from .errors import InputError
+from .geometry import Point
 from .places import Places
 from .tables import Path
+
+
+def free_name(name: str, taken: Iterable[Any]) -> str:
+    """The name, with as many lines after it as make it another than those that are taken."""
+    return free_name(f"{name}_", taken) if name in taken else name
+
+
+def named_apart(pairs: Iterable[tuple[str, Any]]) -> dict[str, Any]:
+    """Members by name, of which each has one of its own, even if a cost has the name of another."""
+    found: dict[str, Any] = {}
+    for name, value in pairs:
+        found[free_name(name, found)] = value
+    return found
 
 
 def write_csv(path: Path, header: Sequence[str], rows: Iterable[Sequence[Any]]) -> None:
@@ -32,12 +46,11 @@ def write_geojson(path: Path, places: Optional[Places], features: Iterable[Mappi
 def point_of(places: Optional[Places], place: Hashable, members: Mapping[str, Any]) -> dict[str, Any]:
     """A place as a point with these properties; without coordinates its geometry is null."""
     at = places.points.get(place) if places else None
-    return feature_of({"type": "Point", "coordinates": list(at)} if at else None, {"place": place, **members})
+    return feature_of({"type": "Point", "coordinates": list(at)} if at else None, members)
 
 
-def line_of(places: Optional[Places], names: Sequence[Hashable], members: Mapping[str, Any]) -> dict[str, Any]:
-    """A line by places, or a point if there is only one; places without coordinates are left out."""
-    points = [list(places.points[name]) for name in names if name in places.points] if places else []
+def line_of(points: Sequence[Point], members: Mapping[str, Any]) -> dict[str, Any]:
+    """A line as a feature, or a point if there is only one."""
     if not points:
         return feature_of(None, members)
     one = len(points) == 1

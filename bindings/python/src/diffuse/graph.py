@@ -4,17 +4,22 @@ from __future__ import annotations
 import os
 import weakref
 from ctypes import addressof, byref, c_uint32, c_uint64
-from typing import Any, Iterable, Optional, Union
+from typing import Any, Iterable, NoReturn, Optional, Union
 
 from ._handles import Handles
 from ._library import DONE, NO_ROUTE, WRONG, Handle, library
 from .algebras import Algebra, AnyAlgebra, algebra_of, question_of
 from .answers import Route, Tree
 from .columns import (
-    MOST_32, MOST_64, MOST_ARCS, MOST_VERTICES, Column, address, arcs_of, arcs_of_columns, greatest, names_row, numbers, room,
-    rows_of, vertex_number, whole_number,
+    MOST_64, MOST_ARCS, MOST_VERTICES, WEIGHTS, Argument, Column, Span, address, arcs_of, arcs_of_columns, greatest, index_of,
+    is_truth, numbers, room, rows_of, vertex_number, whole_number,
 )
-from .errors import NoRoom, NoRoute, NoVertex, OutOfRange, WrongTree, refusal, text_refusal
+from .errors import BadShape, NoRoom, NoRoute, NoVertex, OutOfRange, WrongTree, refusal, shown
+from .gr_text import text_refusal
+
+
+_COLUMNS = [Argument("tails"), Argument("heads"), Argument("weights")]
+_VERTICES = "a vertex or a list of vertices"
 
 
 class Graph:
@@ -24,7 +29,8 @@ class Graph:
     is from 0 to 2^32 - 1, in a unit of your own; loops and parallel arcs are allowed. At most 2^25 vertices and 2^27 arcs.
 
     Any number of threads may ask one graph at once: a call lets go of the interpreter's lock while it solves, so the calls run
-    side by side.
+    side by side. What is given to a call is copied first. A forked child may go on asking. A copy is a second graph over the same
+    memory, to be closed by itself.
 
     Raises NotANumber, OutOfRange, NoVertex or BadShape, with the place of the first number that can't be used; OutOfMemory.
     """
@@ -37,13 +43,12 @@ class Graph:
     def from_columns(cls, tails: Column, heads: Column, weights: Column, vertices: Optional[int] = None) -> Graph:
         """The graph of three columns of equal length; without `vertices` it has as many as the greatest end of an arc."""
         if vertices is None:
-            ends = [numbers(column, names_row(name), 1, MOST_VERTICES, "I", NoVertex)
-                    for column, name in ((tails, "tails"), (heads, "heads"))]
-            tails, heads = ends
-            vertices = max(map(greatest, ends))
+            span = Span(1, MOST_VERTICES, "I", NoVertex)
+            tails, heads = (numbers(column, argument, span) for column, argument in zip((tails, heads), _COLUMNS))
+            vertices = max(greatest(tails), greatest(heads))
         count = _vertex_count(vertices)
         graph = cls.__new__(cls)
-        graph._open(count, arcs_of_columns(tails, heads, weights, count, lambda name: names_row(f"{name}s")))
+        graph._open(count, arcs_of_columns((tails, heads, weights), _COLUMNS, count))
         return graph
 
     @classmethod
@@ -52,19 +57,25 @@ class Graph:
 
         Raises the class of the text's first fault (a TextFault) with its line, NoRoom or OutOfMemory.
         """
-        data, handle, line = bytes(text), Handle(), c_uint64()
-        status = library().diffuse_graph_read(data or b"\0", len(data), byref(handle), byref(line))
-        if status != DONE:
-            raise text_refusal(status, line.value)
-        graph = cls.__new__(cls)
-        graph._keep(handle)
-        return graph
+        if not isinstance(text, (bytes, bytearray, memoryview)):
+            raise BadShape(f"text: bytes are needed, not {shown(text)}")
+        return cls._from_text(bytes(text), "text")
 
     @classmethod
     def read(cls, path: Union[str, "os.PathLike[str]"]) -> Graph:
         """The graph of a .gr file. Raises as `from_gr` does, or OSError."""
         with open(path, "rb") as file:
-            return cls.from_gr(file.read())
+            return cls._from_text(file.read(), os.fspath(path))
+
+    @classmethod
+    def _from_text(cls, data: bytes, name: str) -> Graph:
+        handle, line = Handle(), c_uint64()
+        status = library().diffuse_graph_read(data or b"\0", len(data), byref(handle), byref(line))
+        if status != DONE:
+            raise text_refusal(status, line.value, data, name)
+        graph = cls.__new__(cls)
+        graph._keep(Handles(handle))
+        return graph
 
     def _open(self, vertices: int, arcs: Any) -> None:
         handle, count = Handle(), len(arcs) if getattr(arcs, "ndim", 1) == 2 else len(arcs) // 3
@@ -73,13 +84,11 @@ class Graph:
         status = library().diffuse_graph_open(vertices, address(arcs), count, byref(handle))
         if status != DONE:
             raise refusal(status)
-        self._keep(handle)
+        self._keep(Handles(handle))
 
-    def _keep(self, handle: Handle) -> None:
-        self._vertices = int(library().diffuse_graph_vertices(byref(handle)))
-        self._arcs = int(library().diffuse_graph_arcs(byref(handle)))
-        self._handles = Handles(handle)
-        self._close = weakref.finalize(self, self._handles.close)
+    def _keep(self, handles: Handles) -> None:
+        self._handles, self._vertices, self._arcs = handles, handles.vertices, handles.arcs
+        weakref.finalize(self, handles.drop).atexit = False
 
     @property
     def vertices(self) -> int:
@@ -134,8 +143,8 @@ class Graph:
         """
         number, bound = question_of(tree.algebra, tree.limit)
         begins = self._sources(tree.sources)
-        lists = [self._list(tree.values, "values", MOST_64, "Q"), self._list(tree.hops, "hops", MOST_32, "I"),
-                 self._list(tree.parents, "parents", MOST_32, "I")]
+        lists = [self._list(tree.values, "values", Span(0, MOST_64, "Q")), self._list(tree.hops, "hops", WEIGHTS),
+                 self._list(tree.parents, "parents", WEIGHTS)]
         vertex, reason = c_uint32(), c_uint32()
         with self._handles.borrowed() as handle:
             status = library().diffuse_graph_check(
@@ -171,23 +180,34 @@ class Graph:
 
         Raises NoFactors, TooDense or TooHeavy, after which the graph is searched as before; NoAlgebra, OutOfMemory or Closed.
         """
-        status = self._handles.factor(algebra_of(algebra))
+        status = self._handles.factor(algebra_of(algebra).factored_as)
         if status != DONE:
             raise refusal(status)
 
     def _sources(self, sources: Any, name: str = "sources") -> Any:
-        listed = [sources] if hasattr(sources, "__index__") and getattr(sources, "ndim", 0) == 0 else sources
-        return numbers(listed, names_row(name), 1, self._vertices, "I", NoVertex)
+        one = index_of(sources) is not None or is_truth(sources)
+        return numbers([sources] if one else sources, Argument(name, needed=_VERTICES), Span(1, self._vertices, "I", NoVertex))
 
-    def _list(self, values: Any, name: str, most: int, code: str) -> Any:
-        column = numbers(values, names_row(name), 0, most, code)
+    def _list(self, values: Any, name: str, span: Span) -> Any:
+        column = numbers(values, Argument(name), span)
         if len(column) != self._vertices:
             raise NoRoom(f"{name} has {len(column)} places, and the graph {self._vertices} vertices")
         return column
 
     def close(self) -> None:
         """Frees the graph, once the calls of other threads have ended. A closed graph answers with Closed, and stays closed."""
-        self._close()
+        self._handles.close()
+
+    def __copy__(self) -> Graph:
+        graph = type(self).__new__(type(self))
+        graph._keep(self._handles.copied())
+        return graph
+
+    def __deepcopy__(self, memo: object) -> Graph:
+        return self.__copy__()
+
+    def __reduce__(self) -> NoReturn:
+        raise TypeError("a Graph can't be pickled, since it is memory of the C library: read it in each process, or fork")
 
     def __enter__(self) -> Graph:
         return self

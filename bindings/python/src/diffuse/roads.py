@@ -2,16 +2,18 @@
 from __future__ import annotations
 
 from array import array
-from dataclasses import dataclass, field, replace
-from decimal import Decimal
-from fractions import Fraction
-from math import lcm
+from dataclasses import dataclass, field
+from itertools import chain
 from typing import Any, Hashable, Iterable, Mapping, Optional, Sequence, Union
+from uuid import uuid4
 
 from .algebras import Algebra
-from .columns import MOST_32
-from .errors import InputError, OutOfRange
-from .tables import Table, flags_of, names_of, weights_of
+from .columns import is_truth
+from .decimals import check_sign, scale_of, weights_of
+from .errors import InputError, shown
+from .geometry import Point
+from .places import Places
+from .tables import Table, flags_of, names_of
 
 Costs = Mapping[str, int]
 """The scale of each cost, by the name of its column: weights are the decimals times the scale, and whole."""
@@ -27,7 +29,11 @@ class Cost:
 
 @dataclass(frozen=True)
 class Roads:
-    """Arcs from tails to heads (vertices from 1), the row of the table that each comes from, and its costs."""
+    """Arcs from tails to heads (vertices from 1), the row of the table that each comes from, and its costs.
+
+    `street` is the column of the names of streets, and `shapes` has for each row the points between its ends, if they are known.
+    Roads of one origin differ only in their costs.
+    """
 
     names: Sequence[Hashable]
     tails: "array[int]"
@@ -36,53 +42,86 @@ class Roads:
     costs: Mapping[str, Cost]
     table: Optional[Table] = None
     numbers: Mapping[Hashable, int] = field(default_factory=dict)
+    street: Optional[str] = None
+    shapes: Optional[Sequence[Sequence[Point]]] = None
+    origin: str = field(default_factory=lambda: uuid4().hex, compare=False)
+
+    def is_back(self, arc: int) -> bool:
+        """Whether an arc is the way back of a road, which comes right after the way there."""
+        return arc > 0 and self.rows[arc] == self.rows[arc - 1]
+
+    def back(self, arc: int) -> Optional[int]:
+        """The arc of the same road in the other direction, if there is one."""
+        if self.is_back(arc):
+            return arc - 1
+        return arc + 1 if arc + 1 < len(self.rows) and self.is_back(arc + 1) else None
+
+    def line(self, arc: int, places: Places) -> list[Point]:
+        """An arc on the map: its tail, the points of its shape, its head; without those whose coordinates are not known."""
+        ends = [places.points.get(self.names[end - 1]) for end in (self.tails[arc], self.heads[arc])]
+        whole = [ends[0], *self._shape(arc), ends[1]]
+        return [point for point in whole if point is not None]
+
+    def along(self, vertices: Sequence[int], arcs: Sequence[int]) -> Roads:
+        """The roads of a route alone: its places in their order, and an arc from each to the next."""
+        names, count = [self.names[vertex - 1] for vertex in vertices], len(arcs)
+        return Roads(
+            names, array("I", range(1, count + 1)), array("I", range(2, count + 2)), array("I", range(count)),
+            {name: Cost(array("I", [cost.weights[arc] for arc in arcs]), cost.scale) for name, cost in self.costs.items()},
+            self.table and self.table.only([self.rows[arc] for arc in arcs]), numbered(names), self.street,
+            None if self.shapes is None else [self._shape(arc) for arc in arcs], self.origin)
+
+    def _shape(self, arc: int) -> Sequence[Point]:
+        points: Sequence[Point] = () if self.shapes is None else self.shapes[self.rows[arc]]
+        return points[::-1] if self.is_back(arc) else points
 
 
-def numbered(names: list[Any]) -> dict[Hashable, int]:
+def numbered(names: Iterable[Any]) -> dict[Hashable, int]:
     """The vertex of each name, from 1 on, in the order in which the names first come."""
     return {name: number for number, name in enumerate(dict.fromkeys(names), 1)}
 
 
-def roads_of(table: Table, tail: str, head: str, costs: Costs, both_ways: Union[bool, str], more: list[Any],
-             rounding: bool = False, decimal: str = ".") -> Roads:
+@dataclass(frozen=True)
+class Columns:
+    """Which columns of a table say where roads begin and end, what they cost, whether they lead back, and their streets."""
+
+    tail: Any
+    head: Any
+    costs: Costs
+    both_ways: Union[bool, str] = False
+    rounding: bool = False
+    decimal: str = "."
+    street: Optional[str] = None
+
+    def __post_init__(self) -> None:
+        if not hasattr(self.costs, "items"):
+            raise InputError(f"costs: columns with their scales are needed, as in {{'minutes': 10}}, not {shown(self.costs)}")
+        if not is_truth(self.both_ways) and not isinstance(self.both_ways, str):
+            raise InputError(f"both_ways: True, False or the name of a column is needed, not {shown(self.both_ways)}")
+        check_sign(self.decimal)
+
+
+def roads_of(table: Table, columns: Columns, more: Iterable[Hashable]) -> Roads:
     """The roads of a table: an arc for each row, and for a road both ways the arc back after it.
 
     `more` are places that may have no road. Raises InputError and its kinds with the place of the first fault.
     """
-    begins, ends = names_of(table, tail), names_of(table, head)
-    back = flags_of(table, both_ways) if isinstance(both_ways, str) else [both_ways] * len(table)
-    numbers = numbered([name for pair in zip(begins, ends) for name in pair] + more)
+    begins, ends, both_ways = names_of(table, columns.tail), names_of(table, columns.head), columns.both_ways
+    back = flags_of(table, both_ways) if isinstance(both_ways, str) else [bool(both_ways)] * len(table)
+    numbers = numbered(chain(chain.from_iterable(zip(begins, ends)), more))
     rows = array("I", [row for row, both in enumerate(back) for _ in range(1 + both)])
-    ways = [(begins[row], ends[row], both) for row, both in enumerate(back)]
-    tails = array("I", [numbers[name] for begin, end, both in ways for name in ([begin, end] if both else [begin])])
-    heads = array("I", [numbers[name] for begin, end, both in ways for name in ([end, begin] if both else [end])])
+    tails, heads = array("I"), array("I")
+    for begin, end, both in zip(map(numbers.__getitem__, begins), map(numbers.__getitem__, ends), back):
+        tails.extend((begin, end) if both else (begin,))
+        heads.extend((end, begin) if both else (end,))
     kept = {}
-    for name, scale in costs.items():
-        if isinstance(scale, bool) or not isinstance(scale, int) or scale < 1:
-            raise InputError(f"the scale of {name} is a whole number from 1 on, not {scale!r}")
-        weights = weights_of(table, name, scale, rounding, decimal)
+    for name, scale in columns.costs.items():
+        scale = scale_of(scale, name)
+        weights = weights_of(table, name, scale, columns.rounding, columns.decimal)
         kept[name] = Cost(array("I", [weights[row] for row in rows]), scale)
-    return Roads(list(numbers), tails, heads, rows, kept, table, numbers)
-
-
-def with_sum(roads: Roads, name: str, factors: Mapping[str, Decimal], scale: int, rounding: bool) -> Roads:
-    """The roads with one more cost: of each arc the sum of its costs, each times a factor.
-
-    Raises InputError for a sum that is not whole by the scale and not to be rounded, and OutOfRange.
-    """
-    ratios = [(Fraction(factor) * scale / roads.costs[cost].scale, roads.costs[cost].weights) for cost, factor in factors.items()]
-    below = lcm(*(ratio.denominator for ratio, _ in ratios))
-    columns = [(int(ratio * below), weights) for ratio, weights in ratios]
-    found = array("I")
-    for arc, row in enumerate(roads.rows):
-        units = sum(factor * weights[arc] for factor, weights in columns)
-        whole, where = (2 * units + below) // (2 * below), f"{name} of the road in row {row}"
-        if whole * below != units and not rounding:
-            raise InputError(f"{where}: {units / below} is not whole by the scale {scale}; take a larger scale, or rounding=True")
-        if not 0 <= whole <= MOST_32:
-            raise OutOfRange(f"{where}: {whole} is not from 0 to {MOST_32}")
-        found.append(whole)
-    return replace(roads, costs={**roads.costs, name: Cost(found, scale)})
+    if columns.street is not None:
+        table.column(columns.street)
+    return Roads(list(numbers), tails, heads, rows, kept, table, numbers, columns.street)
 
 
 def best_arc(arcs: Iterable[int], weights: "array[int]", algebra: Algebra) -> int:

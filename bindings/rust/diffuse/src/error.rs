@@ -14,7 +14,7 @@ pub enum Error {
     LimitTooGreat,
     /// A tree to be checked does not have a line for each vertex.
     OtherSize,
-    /// The graph is not factored: so many arcs join its vertices that factors would not pay.
+    /// The graph is not factored: factors would need too many links, since it has no small separators.
     TooDense,
     /// The graph is not factored: its weights are so great that a sum with its arcs may not fit into 63 bits.
     TooHeavy,
@@ -98,7 +98,7 @@ impl fmt::Display for Error {
             Error::TooLarge => out.write_str("more than 2^25 vertices or 2^27 arcs"),
             Error::LimitTooGreat => out.write_str("a limit above 2^63"),
             Error::OtherSize => out.write_str("a tree without a line for each vertex"),
-            Error::TooDense => out.write_str("so many arcs that factors would not pay"),
+            Error::TooDense => out.write_str("factors would need too many links: no small separators"),
             Error::TooHeavy => out.write_str("weights that are too great for factors"),
             Error::NoFactors => out.write_str("an algebra without factors"),
             Error::TextTooLong => out.write_str("a text of more than 2^32 bytes"),

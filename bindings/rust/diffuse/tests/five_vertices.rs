@@ -79,9 +79,11 @@ fn a_table_by_searches_and_by_factors() {
 
 #[test]
 fn what_is_not_factored() {
+    let complete: Vec<Arc> = (1..=200).flat_map(|v| (1..=200).map(move |w| arc(v, w, 1))).collect();
     let star: Vec<Arc> = (2..=1000).map(|v| arc(1, v, 1)).collect();
     let chain: Vec<Arc> = (1..65536).map(|v| arc(v, v + 1, u32::MAX)).collect();
-    assert_eq!(Graph::open(1000, &star).unwrap().factor(Algebra::Shortest), Err(Error::TooDense));
+    assert_eq!(Graph::open(200, &complete).unwrap().factor(Algebra::Shortest), Err(Error::TooDense));
+    assert_eq!(Graph::open(1000, &star).unwrap().factor(Algebra::Shortest), Ok(()));
     assert_eq!(Graph::open(65536, &chain).unwrap().factor(Algebra::Within(0)), Err(Error::TooHeavy));
     for algebra in [Algebra::Widest, Algebra::Reach, Algebra::Reliable] {
         assert_eq!(five().factor(algebra), Err(Error::NoFactors));

@@ -1,55 +1,27 @@
-"""A server of examples/server that is tried: its process, its log, and a client; and what it is asked by hand."""
+"""The server of server/ that is tried: its process, its log, and clients."""
+import atexit
 import http.client
 import json
 import os
+import re
 import signal
+import socket
 import subprocess
-import sys
 import threading
 import time
-from pathlib import Path
 
-SCRIPT = Path(__file__).resolve().parent.parent / "examples/server/server.py"
 PATIENCE = 60
-
-# By hand: a request, and its status and a part of its reply.
-BY_HAND = [
-    ("/route?source=1&target=4", 200, {"source": 1, "target": 4, "value": 8, "hops": 3, "route": [1, 3, 2, 4]}),
-    ("/route?source=1&target=5", 200, {"source": 1, "target": 5, "value": None, "hops": None, "route": None}),
-    ("/route?source=1&target=4&algebra=widest", 200, {"value": 4, "route": [1, 2, 4]}),
-    ("/route?source=1&target=4&algebra=within&limit=7", 200, {"value": None}),
-    ("/tree?sources=1&limit=5", 200, {"sources": [1], "limit": 5, "vertices": [[1, 0, 0, 0], [2, 3, 2, 3], [3, 1, 1, 1]]}),
-    ("/tree?sources=4,5&limit=1", 200, {"vertices": [[4, 0, 0, 0], [5, 0, 0, 0]]}),
-    ("/table?sources=1,4&targets=2,4,5", 200, {"values": [[3, 8, None], [None, 0, None]]}),
-    ("/health", 200, {"status": "ok", "vertices": 5, "arcs": 7}),
-    ("/route?source=1&target=6", 404, {"error": "NoVertex"}),
-    ("/table?sources=1&targets=6", 404, {"error": "NoVertex"}),
-    ("/route?source=1&target=4&algebra=fastest", 400, {"error": "NoAlgebra"}),
-    ("/route?source=1&target=4&limit=7", 400, {"error": "NoAlgebra"}),
-    ("/route?source=1", 400, {"error": "Refused"}),
-    ("/route?source=-1&target=4", 404, {"error": "NoVertex"}),
-    ("/route?source=1,2&target=4", 400, {"error": "NotANumber"}),
-    ("/route?source=one&target=4", 400, {"error": "NotANumber"}),
-    ("/tree?sources=1&limit=high", 400, {"error": "NoAlgebra"}),
-    ("/tree?sources=1" + ",1" * 100 + "&limit=5", 400, {"error": "Refused"}),
-    ("/nowhere", 404, {"error": "Refused"}),
-]
-BODIES = [
-    (b'{"sources": [1], "targets": [4, 2]}', 200, {"values": [[8, 3]]}),
-    (b'{"sources": 1, "targets": 4, "algebra": ["hops"]}', 400, {"error": "NoAlgebra"}),
-    (b'{"sources": [true], "targets": [4]}', 400, {"error": "NotANumber"}),
-    (b'{"sources": [1], "targets": [4.0]}', 400, {"error": "NotANumber"}),
-    (b"[1]", 400, {"error": "Refused"}),
-    (b"{", 400, {"error": "Refused"}),
-]
 
 
 class Server:
-    """A server over a graph, on a port that the system chooses."""
+    """A server over a graph, on a port that the system chooses; with `prefix`, run by another program, as prlimit."""
 
-    def __init__(self, graph, *words):
+    program = "diffuse-server"
+
+    def __init__(self, graph, *words, prefix=()):
         self.log, self.ready = [], threading.Event()
-        self.run = subprocess.Popen([sys.executable, SCRIPT, graph, "--port", "0", *words], stderr=subprocess.PIPE, text=True)
+        self.run = subprocess.Popen([*prefix, self.program, graph, "--port", "0", *words], stdout=subprocess.DEVNULL, stderr=subprocess.PIPE, text=True)
+        atexit.register(self.run.kill)
         threading.Thread(target=self.read_log, daemon=True).start()
         if not self.ready.wait(PATIENCE) or not hasattr(self, "port"):
             raise RuntimeError(f"the server does not listen: {self.log}")
@@ -62,8 +34,8 @@ class Server:
                 self.ready.set()
         self.ready.set()
 
-    def client(self):
-        return http.client.HTTPConnection("127.0.0.1", self.port, timeout=PATIENCE)
+    def client(self, timeout=PATIENCE, source=None):
+        return http.client.HTTPConnection("127.0.0.1", self.port, timeout=timeout, source_address=source and (source, 0))
 
     def ask(self, path, body=None, client=None):
         """The status and the answer of one request, on a connection of its own if none is given."""
@@ -76,21 +48,59 @@ class Server:
         return reply.status, json.loads(text) if reply.getheader("Content-Type") == "application/json" else text
 
     def counted(self, name):
-        """The sum of a counter, as the server reports it."""
+        """The sum of a counter or gauge, as the server reports it."""
         return sum(float(line.split()[-1]) for line in self.ask("/metrics")[1].splitlines() if line.startswith(name))
 
     def logged(self, event):
         return sum(json.loads(line).get("event") == event for line in list(self.log))
 
     def wait_for(self, event, count=1):
-        end = time.monotonic() + PATIENCE
-        while self.logged(event) < count and time.monotonic() < end:
-            time.sleep(0.02)
+        return soon(lambda: self.logged(event) >= count)
+
+    def send(self, name):
+        self.run.send_signal(name)
 
     def end(self):
         """The status, when SIGTERM has ended it."""
-        self.run.send_signal(signal.SIGTERM)
+        self.send(signal.SIGTERM)
         return self.run.wait(PATIENCE)
+
+    def raw(self, data, ends=False, wait=5):
+        """What comes back for some bytes, until the server closes or is silent for a while; `ends`: nothing more will be sent."""
+        with socket.create_connection(("127.0.0.1", self.port), timeout=wait) as one:
+            try:
+                one.sendall(data)
+                if ends:
+                    one.shutdown(socket.SHUT_WR)
+            except OSError:
+                pass  # it was refused before all of it was sent
+            return received(one)
+
+
+def received(one):
+    """All bytes that come on a socket, until it is closed or silent."""
+    parts = []
+    try:
+        while part := one.recv(65536):
+            parts.append(part)
+    except OSError:
+        pass
+    return b"".join(parts)
+
+
+def statuses(text):
+    """The statuses of the replies in some bytes."""
+    return [int(it) for it in re.findall(rb"HTTP/1\.1 (\d\d\d) ", text)]
+
+
+def soon(holds, patience=PATIENCE):
+    """Whether something holds before long."""
+    end = time.monotonic() + patience
+    while not holds():
+        if time.monotonic() > end:
+            return False
+        time.sleep(0.02)
+    return True
 
 
 def together(calls):
@@ -107,3 +117,9 @@ def replace(path, text):
     part = path.with_suffix(".part")
     part.write_text(text)
     os.replace(part, path)
+
+
+def free_port():
+    with socket.socket() as one:
+        one.bind(("127.0.0.1", 0))
+        return one.getsockname()[1]

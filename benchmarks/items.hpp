@@ -16,6 +16,16 @@ struct Item {
     uint64_t value;
 };
 
+// The value of a message, and none of a signal.
+inline uint64_t value_of(const Item& item) { return item.is_signal ? NO_VALUE : item.value; }
+
+// The best value of some items.
+inline uint64_t best_of(const vector<Item>& items) {
+    uint64_t best = NO_VALUE;
+    for (const Item& item : items) best = std::min(best, value_of(item));
+    return best;
+}
+
 class Ring {
     vector<Item> room = vector<Item>(64);
     size_t first = 0, count = 0;
@@ -72,11 +82,7 @@ public:
 
     // The best value that waits, and none first come, first served.
     uint64_t best() const {
-        uint64_t best = ranked.empty() ? NO_VALUE : ranked.top().value;
-        for (const Item& item : unranked) {
-            if (!item.is_signal) best = std::min(best, item.value);
-        }
-        return best;
+        return std::min(ranked.empty() ? NO_VALUE : ranked.top().value, best_of(unranked));
     }
 
     // Best first, whether all that waits is messages worse than a limit.

@@ -2,11 +2,14 @@
 # ~/.local/share/bash-completion/completions/diffuse
 _diffuse() {
     local word=${COMP_WORDS[COMP_CWORD]} before=${COMP_WORDS[COMP_CWORD - 1]} engine watching
-    engine="--plain --factors --algebra --limit --width --workers --shards --budget --turns --best-first --ahead --help"
+    engine="--plain --factors --algebra --limit --width --workers --shards --deal --budget --turns --best-first --ahead --help"
     watching="--accounts --progress --times"
     case $before in
         --algebra)
             mapfile -t COMPREPLY < <(compgen -W "shortest widest reach hops reliable within" -- "$word")
+            return ;;
+        --deal)
+            mapfile -t COMPREPLY < <(compgen -W "shards questions" -- "$word")
             return ;;
         --limit | --workers | --shards | --width | --budget | --turns | --ahead)
             COMPREPLY=()

@@ -19,6 +19,7 @@ complete -c diffuse -f -n $answering -l factors -d 'factor the graph once, and a
 complete -c diffuse -x -n $answering -l width -d 'questions under way together, 1 to 64'
 complete -c diffuse -x -n $answering -l workers -d 'threads, 1 to 64'
 complete -c diffuse -x -n $answering -l shards -d 'parts of the vertices, 1 to 64'
+complete -c diffuse -x -n $answering -l deal -a 'shards questions' -d 'which worker has which shards'
 complete -c diffuse -x -n $answering -l budget -d 'messages and signals per turn, 1 to 65536'
 complete -c diffuse -x -n $answering -l turns -d 'the most turns of a worker in a group'
 complete -c diffuse -f -n $answering -l best-first -d 'let a shard handle the best waiting message next'

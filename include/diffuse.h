@@ -5,8 +5,8 @@
    What a caller owes, since nothing checks it:
    - Each pointer is aligned for its type and valid for as many elements as the number after it says. What the pointers of one
      call point to does not overlap. NULL will do for a list of no elements, and for a single number that is not wanted: a line,
-     a count, code, hops, vertex or reason. A caller that finds a function by its symbol, or calls it by its address, gives each
-     single number a place.
+     a count, code, hops, vertex or reason. Callers that look a function up by its symbol, or call it by its address, must pass a
+     valid pointer for each single number.
    - A handle starts as DIFFUSE_CLOSED or diffuse_graph_closed(), which is all zero, and is changed only by these calls. It may
      be moved in memory by assignment, if its old place is no longer used. Two copies of an open handle must not both be used.
    - One call at a time uses a handle, be it only to ask for a route: a call takes the graph out of its handle, may make what its
@@ -65,14 +65,14 @@ struct diffuse_graph {
 enum diffuse_status {
     DIFFUSE_STATUS_DONE = 0,
     DIFFUSE_STATUS_NO_ROUTE = 1,        /* no walk from the source to the target has a value */
-    DIFFUSE_STATUS_NO_ROOM = 2,         /* route and arcs_from: there are fewer places than are needed; tree and check: a list
-                                           does not have just one place for each vertex, nor, for tree, none; table: there is
-                                           not just one place for each source and target; read: a text of more than 2^32 bytes */
+    DIFFUSE_STATUS_NO_ROOM = 2,         /* route and arcs_from: fewer places than are needed; tree and check: a list does not
+                                           have exactly one place for each vertex (for tree, or none); table: the list does not
+                                           have exactly n_sources * n_targets elements; read: a text of more than 2^32 bytes */
     DIFFUSE_STATUS_MEMORY = 3,          /* out of memory */
     DIFFUSE_STATUS_CLOSED = 4,          /* the handle has no graph */
     DIFFUSE_STATUS_OPEN = 5,            /* the handle that was to be opened has a graph already */
     DIFFUSE_STATUS_WRONG = 6,           /* check: the lists are not the tree */
-    DIFFUSE_STATUS_DENSE = 7,           /* factor: factors would need too many links: a hub, or no small separators */
+    DIFFUSE_STATUS_DENSE = 7,           /* factor: factors would need too many links: no small separators */
     DIFFUSE_STATUS_HEAVY = 8,           /* factor: the weights are so great that a sum with its arcs may not fit into 63 bits */
     DIFFUSE_STATUS_NO_FACTORS = 9,      /* factor: the algebra has no factors */
     DIFFUSE_STATUS_NO_PROBLEM = 10,     /* read: a line before the problem line, or no problem line */
@@ -195,7 +195,7 @@ enum diffuse_status diffuse_graph_check(struct diffuse_graph *graph, enum diffus
 
 /* The best value from each of the sources to each of the targets, as a code: from source i to target j, both counted from 0, in
    place i * n_targets + j; DIFFUSE_UNREACHED if no walk has a value. With factors each code is found by itself; without them
-   there is a search over the whole graph for each source.
+   there is a search from each source, as far as the targets, which goes on for the next row if its source is the same.
    CLOSED, NO_VERTEX, NO_ROOM, NO_ALGEBRA, MEMORY or DONE. */
 DIFFUSE_CHECKED((1))
 enum diffuse_status diffuse_graph_table(struct diffuse_graph *graph, enum diffuse_algebra algebra, uint64_t limit,
@@ -304,7 +304,7 @@ static inline const char *diffuse_status_text(int32_t status) {
     case DIFFUSE_STATUS_CLOSED: return "the handle is closed";
     case DIFFUSE_STATUS_OPEN: return "the handle is open already";
     case DIFFUSE_STATUS_WRONG: return "not the tree";
-    case DIFFUSE_STATUS_DENSE: return "factors would need too many links: a hub, or no small separators";
+    case DIFFUSE_STATUS_DENSE: return "factors would need too many links: no small separators";
     case DIFFUSE_STATUS_HEAVY: return "weights that are too great for factors";
     case DIFFUSE_STATUS_NO_FACTORS: return "an algebra without factors";
     case DIFFUSE_STATUS_NO_PROBLEM: return "no problem line before this line, or none at all";

@@ -109,8 +109,8 @@ pub const WORKERS: &str = "Threads that run the diffusing computation, 1 to 64."
 
 /// How many parts the vertices are divided into.
 pub const SHARDS: &str = concat!(
-    "Shards that the vertices are divided into, 1 to 64. `--deal` says which\n",
-    "worker owns which.",
+    "Shards that the vertices are divided into, 1 to 64. `--deal` says\n",
+    "which worker owns which.",
 );
 
 /// How much a shard does before the next has its turn.

@@ -160,8 +160,7 @@ static int threads(void) {
     return 0;
 }
 
-/* Opens and closes so many graphs, and reports how many bytes more are in use at the end than after the first hundred, when the
-   allocator has filled its lists of free blocks. */
+/* Opens and closes so many graphs, and reports how many bytes more are in use at the end than after the first hundred. */
 static int opens(long count) {
     size_t first = 0, in_use = 0;
     for (long i = 0; i < count; i++) {

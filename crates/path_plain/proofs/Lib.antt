@@ -1,7 +1,7 @@
 pub mod Known
 pub mod Rounds
 pub mod Waiting
-mod Noting
+pub mod Noting
 mod Steps
 pub mod Offering
 pub mod Existing

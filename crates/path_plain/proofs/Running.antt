@@ -1,10 +1,11 @@
 -- A search that runs: it stays between two rounds, until it is past its target or no vertex waits.
-use Rattle.std.proofs.Common.{◌≡◌, ℕ, ◌+◌, ◌*◌, ◌<◌, ◌∙◌, Bool, true, false, List, [], ◌∷◌, length, zero, suc, subst, arith, Option, Some, None}
+use Rattle.std.proofs.Common.{◌≡◌, ℕ, ◌+◌, ◌*◌, ◌<◌, ◌∙◌, Bool, true, false, List, [], ◌∷◌, length, zero, suc, refl, subst, arith, Option, Some, None}
 use Rattle.std.specs.Prelude.{All, IfSome, MatchOption}
 use Rattle.road_graph.specs.GraphData.{GraphData, IsGraph, HasVertex}
 use Rattle.path_algebra.specs.Algebra.{Algebra, IsLawful}
 use Rattle.path_algebra.specs.Walks.{AreBest}
-use Rattle.path_plain.specs.Rounds.{Between, IsSearchedAsFar, Runs}
+use Rattle.path_plain.specs.Rounds.{Between, IsSearchedAsFar, Runs, StaysBetween, Steps, RunsSome}
+use Rattle.path_plain.specs.Searcher.{IsSearcher}
 use Rattle.path_plain.specs.Searching.{SearchState, IsOfSame, IsSameSearch, Advances}
 use Rattle.path_plain.specs.UpTo.{AreBestAsFar, IsPast}
 use Rattle.path_plain.proofs.Rounds.{unsettled}
@@ -23,10 +24,6 @@ pub best_as_far : {V : Type 0} (A : Algebra V) → IsLawful A → (g : GraphData
 best_as_far A lawful g roads sources None inside labels best = best
 best_as_far A lawful g roads sources (Some t) inside labels best = best_up_to A lawful g roads sources t inside labels best
 
--- if the search that was at `start` is one from some sources, then so is the one at `s`
-abbrev pub StaysBetween : {C V : Type 0} → Algebra V → SearchState C V → SearchState C V → Type 0
-StaysBetween A start s = (sources : List ℕ) → All (HasVertex start.roads) sources → Between A start.roads sources start.labels start.settled → Between A start.roads sources s.labels s.settled
-
 module _ {C V : Type 0} (meaning : C → Algebra V) (order : V → V → Bool) (start : SearchState C V) (lawful : IsLawful (meaning start.algebra)) (same : (meaning start.algebra).no_worse ≡ order)
     (roads : IsGraph start.roads) where
   abbrev A : Algebra V
@@ -43,36 +40,60 @@ module _ {C V : Type 0} (meaning : C → Algebra V) (order : V → V → Bool) (
         unsettled new.settled * (length start.roads.arcs + 1) + new.waiting < unsettled old.settled * (length start.roads.arcs + 1) + old.waiting
     nearer step = comes_nearer A lawful order same start.roads roads old new kept.roads (mine true step)
 
-    -- no vertex waits
-    pub ends : (target : Option ℕ) → IfSome target (HasVertex start.roads) → StaysBetween A start old → Advances order (meaning old.algebra) false old new → Runs A target start new
-    ends target in_target between step sources inside was =
-        let now = between sources inside was in
-        record {
-          between = last_round A lawful order same start.roads roads old new kept.roads sources inside now (mine false step);
-          best = best_as_far A lawful start.roads roads sources target in_target new.labels
-              (last_is_best A lawful order same start.roads roads old new kept.roads sources inside now (mine false step));
-        }
+    -- a search that stayed one runs on
+    pub runs_on : (target : Option ℕ) → StaysBetween A start old → Runs (meaning old.algebra) target old new → Runs A target start new
+    runs_on target between runs sources inside was =
+        let here : Between (meaning old.algebra) old.roads sources old.labels old.settled = rw (kept.algebra, kept.roads) (between sources inside was) in
+        rw (kept.algebra, kept.roads) at (runs sources (rw kept.roads inside) here)
+
+  -- no vertex waits
+  pub ends : (new : SearchState C V) (target : Option ℕ) → IfSome target (HasVertex start.roads) → Advances order A false start new → Runs A target start new
+  ends new target in_target step sources inside was = record {
+    between = last_round A lawful order same start.roads roads start new refl sources inside was step;
+    best = best_as_far A lawful start.roads roads sources target in_target new.labels (last_is_best A lawful order same start.roads roads start new refl sources inside was step);
+  }
+
+  -- a step of the search ends it, or takes an entry
+  pub stepped : (new : SearchState C V) (target : Option ℕ) (more : Bool) → IfSome target (HasVertex start.roads) → Advances order A more start new → Steps order A target more start new
+  stepped new target true in_target step = step
+  stepped new target false in_target step = ends new target in_target step
 
   -- the search is past its target
-  pub stops : (s : SearchState C V) (target : Option ℕ) → IfSome target (HasVertex start.roads) → StaysBetween A start s → MatchOption target ⊥ (IsPast order s.labels s.settled) → Runs A target start s
-  stops s None in_target between past sources inside was = absurd past
-  stops s (Some t) in_target between past sources inside was =
-      let now = between sources inside was in
-      record {
-        between = now;
-        best = search_past A lawful start.roads roads sources inside s.labels s.settled now.level now.known t in_target (rw same past);
-      }
+  pub stops : (target : Option ℕ) → IfSome target (HasVertex start.roads) → MatchOption target ⊥ (IsPast order start.labels start.settled) → Runs A target start start
+  stops None in_target past sources inside was = absurd past
+  stops (Some t) in_target past sources inside was = record {
+    between = was;
+    best = search_past A lawful start.roads roads sources inside start.labels start.settled was.level was.known t in_target (rw same past);
+  }
 
 -- the one source of a pair is a vertex
 one_inside : (P : ℕ → Type 0) (v : ℕ) → P v → All P (v ∷ [])
 one_inside P v h zero d lt = h
 one_inside P v h (suc i) d lt = absurd (omega (arith, lt))
 
--- a search that came from a vertex and ran to a target
-pub searched : {C V : Type 0} (meaning : C → Algebra V) (was came ran : SearchState C V) (v t : ℕ) → HasVertex was.roads v → IsOfSame was came →
-    Between (meaning was.algebra) was.roads (v ∷ []) came.labels came.settled → Runs (meaning came.algebra) (Some t) came ran →
-    IsSearchedAsFar (meaning was.algebra) was.roads (v ∷ []) (Some t) ran.labels ran.settled
-searched {C} {V} meaning was came ran v t in_v kept between runs =
-    let inside : All (HasVertex came.roads) (v ∷ []) = rw kept.roads (one_inside (HasVertex was.roads) v in_v) in
-    let here : Between (meaning came.algebra) came.roads (v ∷ []) came.labels came.settled = rw (kept.algebra, kept.roads) between in
-    rw (kept.algebra, kept.roads) at (runs (v ∷ []) inside here)
+-- a search that came from a vertex and went on
+module _ {C V : Type 0} (meaning : C → Algebra V) (was came ran : SearchState C V) (v : ℕ) (in_v : HasVertex was.roads v) (kept : IsOfSame was came)
+    (between : Between (meaning was.algebra) was.roads (v ∷ []) came.labels came.settled) where
+  inside : All (HasVertex came.roads) (v ∷ [])
+  inside = rw kept.roads (one_inside (HasVertex was.roads) v in_v)
+
+  here : Between (meaning came.algebra) came.roads (v ∷ []) came.labels came.settled
+  here = rw (kept.algebra, kept.roads) between
+
+  -- to a target
+  pub searched : (t : ℕ) → Runs (meaning came.algebra) (Some t) came ran → IsSearchedAsFar (meaning was.algebra) was.roads (v ∷ []) (Some t) ran.labels ran.settled
+  searched t runs = rw (kept.algebra, kept.roads) at (runs (v ∷ []) inside here)
+
+  -- whether it decided its target or not
+  pub went_on : (t : ℕ) (decided : Bool) → RunsSome (meaning came.algebra) t decided came ran → Between (meaning was.algebra) was.roads (v ∷ []) ran.labels ran.settled
+  went_on t true runs = (searched t runs).between
+  went_on t false stays = rw (kept.algebra, kept.roads) at (stays (v ∷ []) inside here)
+
+  -- a searcher keeps it
+  pub kept_from : was.notes ≡ true → IsOfSame came ran → Between (meaning was.algebra) was.roads (v ∷ []) ran.labels ran.settled → IsSearcher (meaning ran.algebra) ran (Some v)
+  kept_from notes same now = record {
+    notes = same.notes ∙ kept.notes ∙ notes;
+    between = λ u is.
+        let one : v ≡ u = cc in
+        rw (same.algebra ∙ kept.algebra, same.roads ∙ kept.roads) (subst (λ (s : ℕ). Between (meaning was.algebra) was.roads (s ∷ []) ran.labels ran.settled) one now);
+  }

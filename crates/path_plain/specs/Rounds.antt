@@ -3,7 +3,7 @@ use Rattle.std.specs.Prelude.{◌≡◌, ℕ, ◌-◌, ◌⊎◌, List, [], leng
 use Rattle.road_graph.specs.GraphData.{GraphData, HasArc, HasVertex, arc_of}
 use Rattle.path_algebra.specs.Algebra.{Algebra}
 use Rattle.path_algebra.specs.Walks.{label_of, AreWalkValues, IsNotImproving}
-use Rattle.path_plain.specs.Searching.{SearchState}
+use Rattle.path_plain.specs.Searching.{SearchState, Advances}
 use Rattle.path_plain.specs.UpTo.{AreBestAsFar}
 
 -- a vertex that is marked as settled
@@ -36,3 +36,19 @@ abbrev pub Runs : {A V : Type 0} → Algebra V → Option ℕ → SearchState A 
 Runs meaning target old new =
     (sources : List ℕ) → All (HasVertex old.roads) sources → Between meaning old.roads sources old.labels old.settled →
     IsSearchedAsFar meaning old.roads sources target new.labels new.settled
+
+-- from whatever sources it began, a search stays one between two rounds
+abbrev pub StaysBetween : {A V : Type 0} → Algebra V → SearchState A V → SearchState A V → Type 0
+StaysBetween meaning old new =
+    (sources : List ℕ) → All (HasVertex old.roads) sources → Between meaning old.roads sources old.labels old.settled →
+    Between meaning old.roads sources new.labels new.settled
+
+-- one entry is taken, or the search has come as far as the target
+abbrev pub Steps : {A V : Type 0} → (V → V → Bool) → Algebra V → Option ℕ → Bool → SearchState A V → SearchState A V → Type 0
+Steps no_worse meaning target true old new = Advances no_worse meaning true old new
+Steps no_worse meaning target false old new = Runs meaning target old new
+
+-- if the target is decided the search has gone on as far as it; else it stays a search that can go on
+abbrev pub RunsSome : {A V : Type 0} → Algebra V → ℕ → Bool → SearchState A V → SearchState A V → Type 0
+RunsSome meaning target true old new = Runs meaning (Some target) old new
+RunsSome meaning target false old new = StaysBetween meaning old new

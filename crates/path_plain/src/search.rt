@@ -4,7 +4,7 @@ ghost use Rattle.std.specs.Prelude.{◌≡◌, ◌+◌, ◌≤◌, [], All, OnOk
 ghost use Rattle.road_graph.specs.GraphData.{HasVertex};
 ghost use Rattle.path_algebra.specs.Walks.{offered, offered_if};
 ghost use Rattle.path_plain.specs.Noting.{noted_list};
-ghost use Rattle.path_plain.specs.Rounds.{Between, Runs};
+ghost use Rattle.path_plain.specs.Rounds.{Between, Runs, RunsSome, Steps};
 ghost use Rattle.path_plain.specs.Searching.{IsBlank, IsOfSame, IsSameSearch, Relaxes, Advances};
 ghost use Rattle.path_plain.specs.UpTo.{IsPast};
 
@@ -190,6 +190,23 @@ impl<A: PathAlgebra> Search<A> {
         }
     }
 
+    /// Takes an entry from the queue, unless the search is past its target. False if it is past it, or the queue is empty.
+    fn step(&mut self, graph: &OutGraph, target: &Option<Vertex>) -> Result<bool, Memory>
+        requires graph { graph.now ≡ self.old.roads }
+        requires target { IfSome target.now (HasVertex self.old.roads) }
+        ensures steps { IfOk result (λ more. Steps A.order (A.meaning self.old.algebra) target.now more
+            self.old self.new) }
+        ensures of_same { IsOfSame self.old self.new }
+    {
+        let algebra = self.algebra;
+        laws_hold(algebra);
+        graph.holds();
+        if self.is_past_any(target) {
+            return Ok(false);
+        }
+        self.settle_next(graph)
+    }
+
     /// Settles vertices until the search is past its target, or if it has none until no vertex waits.
     pub(crate) fn run(&mut self, graph: &OutGraph, target: Option<Vertex>) -> Result<(), Memory>
         requires graph { graph.now ≡ self.old.roads }
@@ -200,8 +217,34 @@ impl<A: PathAlgebra> Search<A> {
         let algebra = self.algebra;
         laws_hold(algebra);
         graph.holds();
-        while !self.is_past_any(&target) && self.settle_next(graph)? {}
+        while self.step(graph, &target)? {}
         Ok(())
+    }
+
+    /// Takes at most so many entries from the queue. True if the search has come past its target, or has emptied the queue;
+    /// else it can go on from where it is.
+    pub(crate) fn run_some(
+        &mut self,
+        graph: &OutGraph,
+        target: Vertex,
+        most: u32,
+    ) -> Result<bool, Memory>
+        requires graph { graph.now ≡ self.old.roads }
+        requires target { HasVertex self.old.roads target }
+        ensures runs { IfOk result (λ decided. RunsSome (A.meaning self.old.algebra) target decided
+            self.old self.new) }
+        ensures of_same { IsOfSame self.old self.new }
+    {
+        let algebra = self.algebra;
+        laws_hold(algebra);
+        graph.holds();
+        let target = Some(target);
+        for _ in 0..most {
+            if !self.step(graph, &target)? {
+                return Ok(true);
+            }
+        }
+        Ok(false)
     }
 
     /// The algebra.

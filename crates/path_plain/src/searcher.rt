@@ -94,6 +94,31 @@ impl<A: PathAlgebra> Searcher<A> {
         Ok(())
     }
 
+    /// Searches for labels that are best up to the target, but takes no more than `most` entries from its queue. True if the
+    /// labels are found. If not the target is undecided, and a later call from the same source goes on from there.
+    /// After an error the next call is right too.
+    pub fn solve_near(
+        &mut self,
+        graph: &OutGraph,
+        source: Vertex,
+        target: Vertex,
+        most: u32,
+    ) -> Result<bool, Memory>
+        requires graph { graph.now ≡ self.old.roads }
+        requires source { HasVertex graph.now source }
+        requires target { HasVertex graph.now target }
+        ensures labels { IfOk result (λ found. IsTrue found → AreBestUpTo
+            (A.meaning self.old.algebra) graph.now (source ∷ []) target self.new.labels) }
+        ensures source { OnOk result (self.new.source ≡ Some source) }
+        ensures same { IsOfSameGraph self.old self.new }
+    {
+        let before = self.source.take();
+        come_from(&mut self.search, before, source)?;
+        let found = self.search.run_some(graph, target, most)?;
+        self.source = Some(source);
+        Ok(found)
+    }
+
     /// Its algebra.
     pub fn algebra(&self) -> A
         ensures { result ≡ self.now.algebra }

@@ -1,10 +1,12 @@
 -- What is found of a pair: the best value, the least hops and the route along least parents.
-use Rattle.std.specs.Prelude.{◌≡◌, ℕ, List, [], ◌∷◌, Option, Some, None, MatchOption, option_map}
+use Rattle.std.specs.Prelude.{◌≡◌, ℕ, List, [], ◌∷◌, Option, Some, None, MatchOption, option_map, ⊤}
 use Rattle.road_graph.specs.GraphData.{GraphData}
 use Rattle.path_algebra.specs.Algebra.{Algebra}
 use Rattle.path_algebra.specs.Walks.{IsBestCode, IsUnreached, AreHops, IsParentChain}
 use Rattle.route_tree.specs.Tree.{Branches, IsRoute, hops_of}
 use Rattle.route_tree.specs.declared.found.Found.{Found}
+use Rattle.route_tree.specs.declared.found.Nearby.{Nearby}
+use Rattle.route_tree.specs.declared.found.Nearby.TheVariants.{Decided, Undecided}
 
 -- what is found of a pair that a walk joins
 pub record FoundData : Type 0 where
@@ -34,6 +36,11 @@ IsPairAnswer A g s t (Some f) = IsFoundBetween A g s t f
 -- what is found of a pair is its answer
 abbrev pub IsPairFound : {V : Type 0} → Algebra V → GraphData → ℕ → ℕ → Option Found → Type 0
 IsPairFound A g s t found = IsPairAnswer A g s t (option_map found_of found)
+
+-- a search that gives up early has the answer of the pair if it decides it; of an undecided pair it says nothing
+abbrev pub IsFoundIfNear : {V : Type 0} → Algebra V → GraphData → ℕ → ℕ → Nearby → Type 0
+IsFoundIfNear A g s t (Decided found) = IsPairFound A g s t found
+IsFoundIfNear A g s t Undecided = ⊤
 
 -- what a tree shows of v, whose best value has this code: its hops and the route to it, or nothing if it has no hops
 abbrev pub IsFoundIn : Branches → ℕ → ℕ → Option Found → Type 0

@@ -12,3 +12,12 @@ pub struct Found {
     /// The vertices of the route, source and target included: each is the least parent of the next.
     pub route: Vec<Vertex>,
 }
+
+/// What a search that gives up early finds of a pair.
+#[derive(Debug, Drop)]
+pub enum Nearby {
+    /// The pair is decided; none if no walk joins it.
+    Decided(Option<Found>),
+    /// The search gave up before it had come past the target.
+    Undecided,
+}

@@ -22,7 +22,7 @@ mod tight_tree;
 mod tightness;
 
 pub use entering::Entering;
-pub use found::Found;
+pub use found::{Found, Nearby};
 pub use hops_and_parents::Tree;
 pub use laws::{hops_tell_reached, labels_and_trees_agree, routes_follow_parents, trees_exist};
 pub use pair_searcher::PairSearcher;

@@ -1,11 +1,12 @@
 //! Pairs of one graph, one after the other: what their searches use stays.
 
-ghost use Rattle.std.specs.Prelude.{◌≡◌, ◌↔◌, IfOk, IsTrue, None, OnOk, Some};
+ghost use Rattle.std.specs.Prelude.{◌≡◌, ◌↔◌, ◌∷◌, [], IfOk, IsTrue, None, OnOk, Some};
 ghost use Rattle.road_graph.specs.GraphData.{HasVertex};
 ghost use Rattle.path_plain.specs.Searcher.{IsOfSameGraph};
-ghost use Rattle.route_tree.specs.Found.{IsPairFound};
+ghost use Rattle.path_plain.specs.UpTo.{AreBestUpTo};
+ghost use Rattle.route_tree.specs.Found.{IsFoundIfNear, IsPairFound};
 
-use crate::found::Found;
+use crate::found::{Found, Nearby};
 use crate::route_finder::RouteFinder;
 use path_algebra::PathAlgebra;
 use path_plain::Searcher;
@@ -67,6 +68,29 @@ impl<A: PathAlgebra> PairSearcher<A> {
         self.searcher.is_from(source)
     }
 
+    /// What is found of a pair, by labels that are best up to its target.
+    fn find(
+        &mut self,
+        graph: &OutGraph,
+        rows: &InGraph,
+        pair: (Vertex, Vertex),
+    ) -> Result<Option<Found>, Memory>
+        requires graph { graph.now ≡ self.old.roads }
+        requires rows { rows.now ≡ graph.now }
+        requires source { HasVertex graph.now pair.0 }
+        requires target { HasVertex graph.now pair.1 }
+        requires labels { AreBestUpTo (A.meaning self.old.algebra) graph.now (pair.0 ∷ []) pair.1
+            self.old.labels }
+        ensures found { IfOk result (IsPairFound (A.meaning self.old.algebra) graph.now pair.0 pair.1) }
+        ensures same { self.new ≡ self.old }
+    {
+        let (source, target) = pair;
+        let algebra = self.searcher.algebra();
+        let labels = self.searcher.labels();
+        self.finder
+            .route(algebra, graph, rows, labels, source, target)
+    }
+
     /// The best value of a pair's target over all walks from its source, and the route to it; none if no walk has a
     /// value. `rows` has the arcs of the graph by head. The only error is want of memory; after it the next call is right too.
     pub fn solve(
@@ -83,11 +107,31 @@ impl<A: PathAlgebra> PairSearcher<A> {
         ensures source { OnOk result (self.new.source ≡ Some pair.0) }
         ensures same { IsOfSameGraph self.old self.new }
     {
-        let (source, target) = pair;
-        let algebra = self.searcher.algebra();
-        self.searcher.solve_to(graph, source, target)?;
-        let labels = self.searcher.labels();
-        self.finder
-            .route(algebra, graph, rows, labels, source, target)
+        self.searcher.solve_to(graph, pair.0, pair.1)?;
+        self.find(graph, rows, pair)
+    }
+
+    /// The same by a search that takes no more than `most` entries from its queue: it may leave the pair undecided. A later
+    /// call from the same source goes on from there.
+    pub fn solve_near(
+        &mut self,
+        graph: &OutGraph,
+        rows: &InGraph,
+        pair: (Vertex, Vertex),
+        most: u32,
+    ) -> Result<Nearby, Memory>
+        requires graph { graph.now ≡ self.old.roads }
+        requires rows { rows.now ≡ graph.now }
+        requires source { HasVertex graph.now pair.0 }
+        requires target { HasVertex graph.now pair.1 }
+        ensures found { IfOk result (IsFoundIfNear (A.meaning self.old.algebra) graph.now pair.0 pair.1) }
+        ensures source { OnOk result (self.new.source ≡ Some pair.0) }
+        ensures same { IsOfSameGraph self.old self.new }
+    {
+        if !self.searcher.solve_near(graph, pair.0, pair.1, most)? {
+            return Ok(Nearby::Undecided);
+        }
+        let found = self.find(graph, rows, pair)?;
+        Ok(Nearby::Decided(found))
     }
 }

@@ -1,14 +1,14 @@
 use Rattle.std.proofs.Common.{◌+◌, ◌*◌, length}
 use Rattle.path_plain.specs.Searching.{IsOfSame}
 use Rattle.path_plain.proofs.Rounds.{unsettled}
-use Rattle.path_plain.proofs.Running.{StaysBetween}
+use Rattle.path_plain.specs.Rounds.{StaysBetween}
 use Rattle.path_plain.proofs.search.Search.run.Given as goal
 
-abbrev pub invariant-loop-self : goal.invariant-loop-self
-invariant-loop-self g l = record {
+abbrev pub invariant-loop : goal.invariant-loop
+invariant-loop g l = record {
   of_same : IsOfSame l.fn.self l.self;
   between : StaysBetween (g.A.PathAlgebra.meaning l.fn.self.algebra) l.fn.self l.self;
 }
 
-abbrev pub decreases-loop-self : goal.decreases-loop-self
-decreases-loop-self g l = unsettled l.self.settled * (length l.fn.self.roads.arcs + 1) + l.self.waiting
+abbrev pub decreases-loop : goal.decreases-loop
+decreases-loop g l = unsettled l.self.settled * (length l.fn.self.roads.arcs + 1) + l.self.waiting

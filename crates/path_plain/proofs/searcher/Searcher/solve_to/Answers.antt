@@ -1,8 +1,8 @@
-use Rattle.std.proofs.Common.{◌≡◌, ℕ, ◌∷◌, [], ◌∙◌, sym, subst, Some}
+use Rattle.std.proofs.Common.{◌≡◌, ◌∷◌, [], ◌∙◌, sym, subst, Some}
 use Rattle.road_graph.specs.GraphData.{GraphData}
-use Rattle.path_plain.specs.Rounds.{Between, IsSearchedAsFar}
+use Rattle.path_plain.specs.Rounds.{IsSearchedAsFar}
 use Rattle.path_plain.specs.UpTo.{AreBestUpTo}
-use Rattle.path_plain.proofs.Running.{searched}
+use Rattle.path_plain.proofs.Running.{searched, kept_from}
 use Rattle.path_plain.proofs.searcher.Searcher.solve_to.Goals as goal
 
 pub invariant_of-self-2 : goal.invariant_of-self-2
@@ -13,15 +13,8 @@ invariant_of-self-2 g c =
     let ran = c.run.new.self in
     let roads : was.roads ≡ c.args.graph.now = (λ i. (c.self.view_is i).roads) ∙ sym c.requires.graph in
     let far : IsSearchedAsFar (meaning was.algebra) was.roads (c.args.source ∷ []) (Some c.args.target) ran.labels ran.settled =
-    searched meaning was came ran c.args.source c.args.target (rw roads c.requires.source) c.in_ok-come_from.ensures.of_same c.in_ok-come_from.ensures.between c.in_ok-run.ensures.runs in
-    let same_algebra : ran.algebra ≡ was.algebra = c.in_ok-run.ensures.of_same.algebra ∙ c.in_ok-come_from.ensures.of_same.algebra in
-    let same_roads : ran.roads ≡ was.roads = c.in_ok-run.ensures.of_same.roads ∙ c.in_ok-come_from.ensures.of_same.roads in
-    record {
-      notes = c.in_ok-run.ensures.of_same.notes ∙ c.in_ok-come_from.ensures.of_same.notes ∙ c.self.invariant.notes;
-      between = λ v is.
-          let one : c.args.source ≡ v = cc in
-          rw (same_algebra, same_roads) (subst (λ (u : ℕ). Between (meaning was.algebra) was.roads (u ∷ []) ran.labels ran.settled) one far.between);
-    }
+    searched meaning was came ran c.args.source (rw roads c.requires.source) c.in_ok-come_from.ensures.of_same c.in_ok-come_from.ensures.between c.args.target c.in_ok-run.ensures.runs in
+    kept_from meaning was came ran c.args.source (rw roads c.requires.source) c.in_ok-come_from.ensures.of_same c.in_ok-come_from.ensures.between c.self.invariant.notes c.in_ok-run.ensures.of_same far.between
 
 pub returns-clause-labels : goal.returns-clause-labels
 returns-clause-labels g c =
@@ -31,6 +24,6 @@ returns-clause-labels g c =
     let ran = c.run.new.self in
     let roads : was.roads ≡ c.args.graph.now = (λ i. (c.self.view_is i).roads) ∙ sym c.requires.graph in
     let far : IsSearchedAsFar (meaning was.algebra) was.roads (c.args.source ∷ []) (Some c.args.target) ran.labels ran.settled =
-    searched meaning was came ran c.args.source c.args.target (rw roads c.requires.source) c.in_ok-come_from.ensures.of_same c.in_ok-come_from.ensures.between c.in_ok-run.ensures.runs in
+    searched meaning was came ran c.args.source (rw roads c.requires.source) c.in_ok-come_from.ensures.of_same c.in_ok-come_from.ensures.between c.args.target c.in_ok-run.ensures.runs in
     subst (λ (a : g.row.A.Denot). AreBestUpTo (meaning a) c.args.graph.now (c.args.source ∷ []) c.args.target ran.labels) (λ i. (c.self.view_is i).algebra)
     (subst (λ (r : GraphData). AreBestUpTo (meaning was.algebra) r (c.args.source ∷ []) c.args.target ran.labels) roads far.best)

@@ -61,7 +61,7 @@ module _ {V : Type 0} (A : Algebra V) (lawful : IsLawful A) (g : GraphData) (roa
   parent_read v = get_or-map parent_in marks (v - 1) None
 
   -- a vertex with a mark is settled
-  all_settled : (v : ℕ) (m : Mark V) → HasVertex g v → label_of marks v ≡ Some m → IsSettled settled v
+  pub all_settled : (v : ℕ) (m : Mark V) → HasVertex g v → label_of marks v ≡ Some m → IsSettled settled v
   all_settled v m in_v e = elim (cases_Bool (get_or settled (v - 1) false)) [
     | inl t ↦ t
     | inr o ↦

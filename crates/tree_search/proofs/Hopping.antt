@@ -313,6 +313,23 @@ module _ {V : Type 0} (A : Algebra V) (lawful : IsLawful A) (g : GraphData) (roa
       subst (λ (p : ℕ). Hopping A g sources (marked A.no_worse marks (arc_of g a).head (record { value = z; hops = h + 1; parent = p })) settled x h rest) tail
       (offered_mark A lawful g roads sources inside settled x h marks a rest hopping z ex)
 
+  -- an offer to the head of an arc leaves the settled marks as they are
+  stays_offered : (marks : List (Option (Mark V))) (a : ℕ) (rest : List ℕ) (hopping : Hopping A g sources marks settled x h (a ∷ rest)) (z : V) → A.extend x (arc_of g a).weight ≡ Some z → (v : ℕ) →
+      HasVertex g v → IsSettled settled v → label_of (marked A.no_worse marks (arc_of g a).head (record { value = z; hops = h + 1; parent = (arc_of g a).tail })) v ≡ label_of marks v
+  stays_offered marks a rest hopping z ex v in_v t =
+      elim (outcome A.no_worse lawful.ordered marks (arc_of g a).head (record { value = z; hops = h + 1; parent = (arc_of g a).tail })) [
+        | inl k ↦ ap (λ (l : List (Option (Mark V))). label_of l v) k.same
+        | inr taken ↦ settled_stay A lawful g roads sources inside settled x h marks a rest hopping z ex taken v in_v t
+      ]
+
+  stays_arc : (marks : List (Option (Mark V))) (a : ℕ) (rest : List ℕ) → (arc_of g a).tail ≡ u → Hopping A g sources marks settled x h (a ∷ rest) → (o : Option V) →
+      A.extend x (arc_of g a).weight ≡ o → (v : ℕ) → HasVertex g v → IsSettled settled v →
+      label_of (marked_if A.no_worse marks (arc_of g a).head o (h + 1) u) v ≡ label_of marks v
+  stays_arc marks a rest tail hopping None ex v in_v t = refl
+  stays_arc marks a rest tail hopping (Some z) ex v in_v t =
+      subst (λ (p : ℕ). label_of (marked A.no_worse marks (arc_of g a).head (record { value = z; hops = h + 1; parent = p })) v ≡ label_of marks v) tail
+      (stays_offered marks a rest hopping z ex v in_v t)
+
   -- all arcs that leave u
   pub hopping_relaxed : (arcs : List ℕ) → ((a : ℕ) → Contains arcs a → (arc_of g a).tail ≡ u) → (marks : List (Option (Mark V))) → Hopping A g sources marks settled x h arcs →
       Hopping A g sources (relaxed_marks A g u x h marks arcs) settled x h []
@@ -321,3 +338,13 @@ module _ {V : Type 0} (A : Algebra V) (lawful : IsLawful A) (g : GraphData) (roa
       hopping_relaxed arcs (λ b w. leave b (suc w.0, (let l : w.0 < length arcs = w.1 in omega (arith, l)), w.2))
       (marked_if A.no_worse marks (arc_of g a).head (A.extend x (arc_of g a).weight) (h + 1) u)
       (hopping_arc marks a arcs (leave a (0, omega arith, refl)) hopping (A.extend x (arc_of g a).weight) refl)
+
+  pub stays_relaxed : (arcs : List ℕ) → ((a : ℕ) → Contains arcs a → (arc_of g a).tail ≡ u) → (marks : List (Option (Mark V))) → Hopping A g sources marks settled x h arcs → (v : ℕ) →
+      HasVertex g v → IsSettled settled v → label_of (relaxed_marks A g u x h marks arcs) v ≡ label_of marks v
+  stays_relaxed [] leave marks hopping v in_v t = refl
+  stays_relaxed (a ∷ arcs) leave marks hopping v in_v t =
+      let tail = leave a (0, omega arith, refl) in
+      let o = A.extend x (arc_of g a).weight in
+      let next = marked_if A.no_worse marks (arc_of g a).head o (h + 1) u in
+      stays_relaxed arcs (λ b w. leave b (suc w.0, (let l : w.0 < length arcs = w.1 in omega (arith, l)), w.2)) next (hopping_arc marks a arcs tail hopping o refl) v in_v t
+      ∙ stays_arc marks a arcs tail hopping o refl v in_v t

@@ -8,3 +8,4 @@ mod Opening
 mod Relaxing
 mod Rows
 mod Comparing
+mod Listing

@@ -4,7 +4,7 @@ use Rattle.std.proofs.lemmas.List.{length-map}
 use Rattle.std.proofs.lemmas.Bool.{cases_eq}
 use Rattle.std.specs.Prelude.{IsTrue, All, option_map}
 use Rattle.road_graph.specs.GraphData.{GraphData, IsGraph, HasVertex, arc_of, ListsArcsFrom}
-use Rattle.road_graph.proofs.Lists.{not_in_empty}
+use Rattle.road_graph.proofs.Lists.{not_in_empty, same_some}
 use Rattle.path_algebra.specs.Algebra.{Algebra, IsLawful}
 use Rattle.path_algebra.specs.Walks.{label_of}
 use Rattle.path_algebra.specs.Open.{IsBestOpen}
@@ -15,7 +15,7 @@ use Rattle.tree_search.specs.Opening.{AreOpening}
 use Rattle.tree_search.specs.Searching.{Relaxes}
 use Rattle.tree_search.specs.declared.mark.Mark.{Mark}
 use Rattle.tree_search.proofs.Reading.{read, found}
-use Rattle.tree_search.proofs.Hopping.{Hopping, hopping_relaxed}
+use Rattle.tree_search.proofs.Hopping.{Hopping, hopping_relaxed, stays_relaxed}
 
 module _ {V : Type 0} (A : Algebra V) (lawful : IsLawful A) (g : GraphData) (roads : IsGraph g) (sources : List ℕ) where
   pub hopping_start : (marks : List (Option (Mark V))) → AreOpening A.origin g.vertices sources marks → Hopping A g sources marks (replicate g.vertices false) A.origin 0 []
@@ -158,3 +158,48 @@ module _ {V : Type 0} (A : Algebra V) (lawful : IsLawful A) (g : GraphData) (roa
         hopping = rw pass.2 (hopping_relaxed A lawful g roads sources inside (set settled i true) x h (i + 1) pass.0 (λ a w. ((pass.1.complete a).0 w).1) marks
             (hopping_pick A lawful g roads sources marks settled between.level x between.hops h i pass.0 between.hopping mine pass.1));
       }
+
+  -- what one round does to the settled vertices: i + 1 joins them with x, which is no better than theirs, and their marks stay
+  module _ (i : ℕ) (x : V) (h : ℕ) (next : List (Option (Mark V))) (best : IsBestOpen (by_number order) (keys_in marks) settled (length (keys_in marks)) i (x, h)) (pass : Relaxes A g (i + 1) x h marks next) where
+    mine : IsBestOpen (by_number A.no_worse) (keys_in marks) settled g.vertices i (x, h)
+    mine = rw (same, ← keys_count) best
+
+    pub round_stays : (v : ℕ) → HasVertex g v → IsSettled (set settled i true) v → label_of next v ≡ label_of marks v
+    round_stays v in_v t =
+        ap (λ (l : List (Option (Mark V))). label_of l v) pass.2
+        ∙ stays_relaxed A lawful g roads sources inside (set settled i true) x h (i + 1) pass.0 (λ a w. ((pass.1.complete a).0 w).1) marks
+        (hopping_pick A lawful g roads sources marks settled between.level x between.hops h i pass.0 between.hopping mine pass.1) v in_v t
+
+    pub round_inside : HasVertex g (i + 1)
+    round_inside = top_in A lawful g roads sources marks settled between.level x between.hops h i pass.0 between.hopping mine pass.1
+
+    pub round_value : label_of (values_in marks) (i + 1) ≡ Some x
+    round_value =
+        let place : (i + 1) - 1 ≡ i = omega arith in
+        ap (λ (j : ℕ). get_or (values_in marks) j None) place
+        ∙ (best_value A lawful g roads sources marks settled between.level x between.hops h i pass.0 between.hopping mine pass.1).label
+
+    pub round_open : get_or settled ((i + 1) - 1) false ≡ false
+    round_open = top_open A lawful g roads sources marks settled between.level x between.hops h i pass.0 between.hopping mine pass.1
+
+    pub round_still : (v : ℕ) → HasVertex g v → IsSettled settled v → IsSettled (set settled i true) v
+    round_still = still_settled A lawful g roads sources marks settled between.level x between.hops h i pass.0 between.hopping mine pass.1
+
+    pub round_now : IsSettled (set settled i true) (i + 1)
+    round_now =
+        let lt : i < length settled = (let l = mine.below in omega (arith, l, between.hopping.known.settled_count)) in
+        let place : (i + 1) - 1 ≡ i = omega arith in
+        ap (λ (j : ℕ). get_or (set settled i true) j false) place ∙ get_or-set_same settled i true false lt
+
+    pub round_settled : (v : ℕ) → HasVertex g v → IsSettled (set settled i true) v → (v ≡ i + 1) ⊎ IsSettled settled v
+    round_settled v in_v t = elim (now_or_before A lawful g roads sources marks settled between.level x between.hops h i pass.0 between.hopping mine pass.1 v in_v t) [
+      | inl now ↦ inl now.0
+      | inr before ↦ inr before
+    ]
+
+    pub round_no_better : (v : ℕ) (y : V) → HasVertex g v → IsSettled settled v → label_of (values_in marks) v ≡ Some y → IsTrue (A.no_worse y x)
+    round_no_better v y in_v t e =
+        let l = between.hopping.known.labelled v in_v t in
+        let is : l.0 ≡ y = same_some (label_of (values_in marks) v) l.0 y l.1 e in
+        let above = between.hopping.known.above (i + 1) x round_inside round_open round_value in
+        lawful.ordered.transitive y between.level x (subst (λ (z : V). IsTrue (A.no_worse z between.level)) is l.2) above

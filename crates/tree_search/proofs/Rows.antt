@@ -106,6 +106,10 @@ module _ {V : Type 0} where
         ∙ ap (λ (q : ℕ). set (marks_of values hops parents) i (Some (record { value = m.value; hops = m.hops; parent = q }))) (parent_kept m.parent)
         ∙ ap (λ (l : List (Option (Mark V))). set l i (Some m)) are
 
+  pub cleared_mark : (values : List (Option V)) (hops parents : List (Option ℕ)) (marks : List (Option (Mark V))) → AreMarkRows values hops parents → marks_of values hops parents ≡ marks → (i : ℕ) →
+      marks_of (set values i None) (set hops i None) (set parents i None) ≡ set marks i None
+  cleared_mark values hops parents marks rows are i = set_marks values hops parents rows i None None None ∙ ap (λ (l : List (Option (Mark V))). set l i None) are
+
   -- the values, the hops and the parents of the marks are those lists
   pub values_are : (values : List (Option V)) (hops parents : List (Option ℕ)) → AreMarkRows values hops parents → values_in (marks_of values hops parents) ≡ values
   values_are [] [] [] rows = refl

@@ -20,7 +20,9 @@ use Rattle.path_plain.specs.Queue.{IsQueue}
 use Rattle.path_plain.proofs.Waiting.{queue_offer, queue_skip, queue_settle, queue_best}
 use Rattle.route_tree.specs.Tree.{IsLinked, IsTree}
 use Rattle.tree_search.specs.Marks.{key_of, values_in, keys_in, hops_in, parents_in, is_better, is_lesser, unsettled}
-use Rattle.tree_search.specs.Searching.{SearchState, HaveFewHops, IsSearch, IsSameSearch, Relaxes, Advances, Proceeds}
+use Rattle.tree_search.specs.Searching.{SearchState, HaveFewHops, IsSearch, IsSameSearch, Relaxes, Settles, Drops, Proceeds, is_end}
+use Rattle.tree_search.specs.declared.step.Step.{Step}
+use Rattle.tree_search.specs.declared.step.Step.TheVariants.{Settled, Dropped, Ended}
 use Rattle.tree_search.specs.declared.mark.Mark.{Mark}
 use Rattle.tree_search.proofs.Reading.{found}
 use Rattle.tree_search.proofs.Ranking.{first_of_key}
@@ -172,50 +174,60 @@ module _ {K V : Type 0} (key : K → V × ℕ) (place : K → ℕ) (order : V �
       pub settles_one : {C : Type 0} (algebra : C) (A : Algebra V) (now : SearchState C V) →
           IsSameSearch (record { algebra = algebra; roads = g; marks = marks; settled = set settled (place top) true; waiting = length rest }) now →
           Relaxes A g (place top + 1) (key top).0 (key top).1 marks now.marks → now.waiting ≤ length rest + length g.arcs → length rest + 1 ≡ length items →
-          Proceeds order A true (record { algebra = algebra; roads = g; marks = marks; settled = settled; waiting = length items }) now
+          Proceeds order A (Settled (place top + 1)) (record { algebra = algebra; roads = g; marks = marks; settled = settled; waiting = length items }) now
       unfolding best
       settles_one algebra A now same pass few less = record {
         algebra = same.algebra;
         roads = same.roads;
-        advances = inl (record {
+        advances = record {
           index = place top;
+          vertex = refl;
           value = (key top).0;
           hops = (key top).1;
           best = best;
           marks = same.settled;
           relaxes = pass;
           few = omega (arith, few, less);
-        });
+        };
       }
 
 module _ {C V : Type 0} (A : Algebra V) (lawful : IsLawful A) (order : V → V → Bool) (same : A.no_worse ≡ order) (g : GraphData) (roads : IsGraph g) (sources : List ℕ)
     (inside : All (HasVertex g) sources)
     (old new : SearchState C V) (in_graph : old.roads ≡ g) (between : Between A g sources old.marks old.settled) where
-  stepped : Advances order A true old new → Between A g sources new.marks new.settled
-  stepped (inl s) =
+  pub next_settled : (v : ℕ) → Settles order A v old new → Between A g sources new.marks new.settled
+  next_settled v s =
       rw s.marks (round A lawful g roads sources inside order same old.marks old.settled between s.index s.value s.hops new.marks s.best (rw in_graph at s.relaxes))
-  stepped (inr d) = rw (d.marks, d.settled) between
+
+  pub next_dropped : Drops old new → Between A g sources new.marks new.settled
+  next_dropped d = rw (d.marks, d.settled) between
 
   -- a step leads from one round to the next
-  pub next_round : Proceeds order A true old new → Between A g sources new.marks new.settled
-  next_round p = stepped p.advances
+  pub next_round : (step : Step) → is_end step ≡ false → Proceeds order A step old new → Between A g sources new.marks new.settled
+  next_round (Settled v) more p = next_settled v p.advances
+  next_round Dropped more p = next_dropped p.advances
+  next_round Ended more p = let bad : true ≡ false = more in cc
+
+  pub last_step : (step : Step) → is_end step ≡ true → step ≡ Ended
+  last_step (Settled v) end = let bad : false ≡ true = end in cc
+  last_step Dropped end = let bad : false ≡ true = end in cc
+  last_step Ended end = refl
 
   -- where there is none, the values are best, and hops and parents are their tree
-  pub last_round : Proceeds order A false old new →
+  pub last_round : Proceeds order A Ended old new →
       AreBest A g sources (values_in new.marks) × IsTree A g sources (record { hops = hops_in new.marks; parents = parents_in new.marks })
       × IsLinked (record { hops = hops_in new.marks; parents = parents_in new.marks })
   last_round p =
       let count = keys_count A lawful g roads sources inside order same old.marks old.settled between in
       rw p.advances.0 (
-        values_are_best A lawful g roads sources inside old.marks old.settled between.level between.hops between.hopping (λ j lt. p.advances.1 j (rw count lt)),
-        tree_is_found A lawful g roads sources inside old.marks old.settled between.level between.hops between.hopping (λ j lt. p.advances.1 j (rw count lt)),
-        linked_found A lawful g roads sources inside old.marks old.settled between.level between.hops between.hopping (λ j lt. p.advances.1 j (rw count lt)),
+        values_are_best A lawful g roads sources inside old.marks old.settled between.level between.hops between.hopping (λ j lt. p.advances.2 j (rw count lt)),
+        tree_is_found A lawful g roads sources inside old.marks old.settled between.level between.hops between.hopping (λ j lt. p.advances.2 j (rw count lt)),
+        linked_found A lawful g roads sources inside old.marks old.settled between.level between.hops between.hopping (λ j lt. p.advances.2 j (rw count lt)),
       )
 
   -- one more settled vertex outweighs what its arcs put into the queue
-  lowered : Advances order A true old new →
+  pub nearer_settled : (v : ℕ) → Settles order A v old new →
       unsettled new.settled * (length g.arcs + 1) + new.waiting < unsettled old.settled * (length g.arcs + 1) + old.waiting
-  lowered (inl s) =
+  nearer_settled v s =
       let n = keys_count A lawful g roads sources inside order same old.marks old.settled between in
       let lt : s.index < length old.settled = (let l = s.best.below in omega (arith, l, n, between.hopping.known.settled_count)) in
       let f = sum_by-set (λ (b : Bool). cond b 0 1) old.settled s.index true false lt in
@@ -223,8 +235,12 @@ module _ {C V : Type 0} (A : Algebra V) (lawful : IsLawful A) (order : V → V �
       let is : unsettled old.settled ≡ unsettled (set old.settled s.index true) + 1 = omega arith in
       let few : new.waiting < old.waiting + length g.arcs + 1 = omega (arith, rw in_graph at s.few) in
       rw (s.marks, is) (omega (arith, few))
-  lowered (inr d) = rw d.settled (omega (arith, d.fewer))
 
-  pub comes_nearer : Proceeds order A true old new →
+  pub nearer_dropped : Drops old new → unsettled new.settled * (length g.arcs + 1) + new.waiting < unsettled old.settled * (length g.arcs + 1) + old.waiting
+  nearer_dropped d = rw d.settled (omega (arith, d.fewer))
+
+  pub comes_nearer : (step : Step) → is_end step ≡ false → Proceeds order A step old new →
       unsettled new.settled * (length g.arcs + 1) + new.waiting < unsettled old.settled * (length g.arcs + 1) + old.waiting
-  comes_nearer p = lowered p.advances
+  comes_nearer (Settled v) more p = nearer_settled v p.advances
+  comes_nearer Dropped more p = nearer_dropped p.advances
+  comes_nearer Ended more p = let bad : true ≡ false = more in cc

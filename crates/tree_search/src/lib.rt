@@ -8,7 +8,10 @@
 mod hops_and_place;
 mod mark;
 mod search;
+mod searcher;
 mod solve;
+mod step;
 mod table;
 
+pub use searcher::TreeSearcher;
 pub use solve::solve_with_tree;

@@ -1,73 +1,92 @@
 //! A search from a list of sources: vertices are settled by value and then by hops, each once.
 
-ghost use Rattle.std.specs.Prelude.{◌≡◌, ℕ, ◌+◌, ◌≤◌, All, length, replicate, false, OnOk, IfOk};
+ghost use Rattle.std.specs.Prelude.{◌≡◌, ℕ, ◌+◌, ◌≤◌, All, length, OnOk, IfOk};
 ghost use Rattle.road_graph.specs.GraphData.{HasVertex};
+ghost use Rattle.path_algebra.specs.Walks.{label_of};
+ghost use Rattle.path_plain.specs.Noting.{AreNoted};
 ghost use Rattle.tree_search.specs.Marks.{hops_in, marked, marked_if, parents_in, unsettled, values_in};
 ghost use Rattle.route_tree.specs.Tree.{IsLinked};
 ghost use Rattle.tree_search.specs.Opening.{AreOpening};
-ghost use Rattle.tree_search.specs.Searching.{IsSameSearch, Relaxes, Proceeds};
+ghost use Rattle.tree_search.specs.Searching.{IsBlank, IsSameSearch, Relaxes, Proceeds};
 
 use crate::hops_and_place::HopsAndPlace;
 use crate::mark::Mark;
-use crate::table::MarkTable;
+use crate::step::Step;
+use crate::table::{MarkTable, put_back};
 use path_algebra::{Labels, PathAlgebra, laws_hold};
 use ranked_queue::RankedQueue;
 use road_graph::{Memory, OutGraph, Vertex};
 use route_tree::Tree;
 use std::alloc::Global;
 use std::marker::Model;
+use std::snapshot::Snapshot;
 
 /// The mark of each vertex, whether it is settled, and the queue of those that are open.
 #[derive(Drop)]
-pub(crate) struct Search<'g, A: PathAlgebra> {
+pub(crate) struct Search<A: PathAlgebra> {
     algebra: A,
-    graph: &'g OutGraph,
+    graph: Snapshot<OutGraph>,
     marks: MarkTable<A>,
     settled: Vec<bool>,
     queue: RankedQueue<A, HopsAndPlace>,
 }
 
-impl<'g, A: PathAlgebra> Model for Search<'g, A> {
+impl<A: PathAlgebra> Model for Search<A> {
     ghost use Rattle.std.specs.Prelude.{length};
     ghost use Rattle.tree_search.specs.Searching.{SearchState, IsSearch};
 
     ghost Value = { SearchState A A.Value };
 
-    ghost view = { λ s. record { algebra = s.algebra; roads = s.graph.now; marks = s.marks; settled = s.settled.items; waiting = length s.queue } };
+    ghost view = { λ s. record { algebra = s.algebra; roads = s.graph.value; marks = s.marks; settled = s.settled.items; waiting = length s.queue } };
 
-    ghost invariant = { λ s. IsSearch (λ o. (o.value, o.rank.hops)) (λ o. o.rank.place) A.order s.graph.now s.marks s.settled.items s.queue };
+    ghost invariant = { λ s. IsSearch (λ o. (o.value, o.rank.hops)) (λ o. o.rank.place) A.order s.graph.value s.marks s.settled.items s.queue };
 }
 
-impl<'g, A: PathAlgebra> Search<'g, A> {
-    /// A search in which each source has the origin, no hops and no parent, and nothing is settled. Sources may repeat.
-    pub(crate) fn open(
-        alloc: Global,
-        algebra: A,
-        graph: &'g OutGraph,
-        sources: &[Vertex],
-    ) -> Result<Self, Memory>
-        requires { All (HasVertex graph.now) sources.now }
+impl<A: PathAlgebra> Search<A> {
+    /// A search in which no vertex has a mark.
+    pub(crate) fn new(alloc: Global, algebra: A, graph: &OutGraph) -> Result<Self, Memory>
         ensures algebra { IfOk result (λ s. s.algebra ≡ algebra) }
         ensures graph { IfOk result (λ s. s.roads ≡ graph.now) }
-        ensures opening { IfOk result (λ s. AreOpening (A.meaning algebra).origin graph.now.vertices
-            sources.now s.marks) }
-        ensures settled { IfOk result (λ s. s.settled ≡ replicate graph.now.vertices false) }
+        ensures blank { IfOk result IsBlank }
     {
+        graph.holds();
         let n = graph.vertices() as usize;
         let marks = MarkTable::new(alloc, n)?;
         let settled: Vec<bool> = vec![in alloc; false; n]?;
-        let queue = RankedQueue::new(alloc);
-        let mut search = Search {
+        Ok(Search {
             algebra,
-            graph,
+            graph: Snapshot::of(graph),
             marks,
             settled,
-            queue,
-        };
+            queue: RankedQueue::new(alloc),
+        })
+    }
+
+    /// Makes it a search by this algebra in which no vertex has a mark. Each vertex that has one, or is settled, is on the list.
+    pub(crate) fn clear(&mut self, algebra: A, list: &[Vertex])
+        requires { AreNoted self.old.roads.vertices list.now self.old.marks self.old.settled }
+        ensures algebra { self.new.algebra ≡ algebra }
+        ensures roads { self.new.roads ≡ self.old.roads }
+        ensures blank { IsBlank self.new }
+    {
+        self.algebra = algebra;
+        put_back(&mut self.marks, &mut self.settled, list);
+        self.queue.clear();
+    }
+
+    /// Gives each source the origin, no hops and no parent. Sources may repeat.
+    pub(crate) fn start(&mut self, sources: &[Vertex]) -> Result<(), Memory>
+        requires blank { IsBlank self.old }
+        requires sources { All (HasVertex self.old.roads) sources.now }
+        ensures opening { OnOk result (AreOpening (A.meaning self.old.algebra).origin
+            self.old.roads.vertices sources.now self.new.marks) }
+        ensures same { OnOk result (IsSameSearch self.old self.new) }
+    {
+        let algebra = self.algebra;
         for source in sources {
-            search.offer(*source, algebra.origin(), 0, 0)?;
+            self.offer(*source, algebra.origin(), 0, 0)?;
         }
-        Ok(search)
+        Ok(())
     }
 
     /// Gives a vertex this value, hops and parent if they are better than its mark, and puts it into the queue if its key is better.
@@ -119,7 +138,8 @@ impl<'g, A: PathAlgebra> Search<'g, A> {
     }
 
     /// Extends x along each arc that leaves v, and offers the result, with one hop more and v as its parent, to the arc's head.
-    fn relax(&mut self, v: Vertex, x: A::Value, hops: u32) -> Result<(), Memory>
+    fn relax(&mut self, graph: &OutGraph, v: Vertex, x: A::Value, hops: u32) -> Result<(), Memory>
+        requires graph { graph.now ≡ self.old.roads }
         requires vertex { HasVertex self.old.roads v }
         requires hops { hops + 1 + unsettled self.old.settled ≤ self.old.roads.vertices }
         ensures relaxes { OnOk result (Relaxes (A.meaning self.old.algebra) self.old.roads v x hops
@@ -128,7 +148,6 @@ impl<'g, A: PathAlgebra> Search<'g, A> {
         ensures few { OnOk result (self.new.waiting ≤ self.old.waiting + length self.old.roads.arcs) }
     {
         let algebra = self.algebra;
-        let graph = self.graph;
         laws_hold(algebra);
         graph.holds();
         let next = hops + 1;
@@ -138,30 +157,60 @@ impl<'g, A: PathAlgebra> Search<'g, A> {
         Ok(())
     }
 
-    /// Settles the vertex of the first entry, or drops the entry if its vertex is settled already. False if the queue is empty.
-    pub(crate) fn settle_next(&mut self) -> Result<bool, Memory>
-        ensures { IfOk result (λ more. Proceeds A.order (A.meaning self.old.algebra) more self.old
+    /// Settles the vertex of the first entry, or drops the entry if its vertex is settled already. Ended if the queue is empty.
+    pub(crate) fn settle_next(&mut self, graph: &OutGraph) -> Result<Step, Memory>
+        requires { graph.now ≡ self.old.roads }
+        ensures { IfOk result (λ step. Proceeds A.order (A.meaning self.old.algebra) step self.old
             self.new) }
     {
         let Some(top) = self.queue.pop() else {
-            return Ok(false);
+            return Ok(Step::Ended);
         };
         let i = top.rank.place as usize;
-        if !self.settled[i] {
-            self.settled[i] = true;
-            self.relax(Vertex(top.rank.place + 1), top.value, top.rank.hops)?;
+        if self.settled[i] {
+            return Ok(Step::Dropped);
         }
-        Ok(true)
+        self.settled[i] = true;
+        let v = Vertex(top.rank.place + 1);
+        self.relax(graph, v, top.value, top.rank.hops)?;
+        Ok(Step::Settled(v))
+    }
+
+    /// The value of a vertex, if it has a mark.
+    pub(crate) fn value(&self, v: Vertex) -> Option<A::Value>
+        requires { HasVertex self.now.roads v }
+        ensures { result ≡ label_of (values_in self.now.marks) v }
+    {
+        self.marks.value(v.0 as usize - 1)
+    }
+
+    /// The hops of a vertex, if it has a mark.
+    pub(crate) fn hops(&self, v: Vertex) -> Option<u32>
+        requires { HasVertex self.now.roads v }
+        ensures { result ≡ label_of (hops_in self.now.marks) v }
+    {
+        self.marks.hops(v.0 as usize - 1)
+    }
+
+    /// The parent of a vertex, if it has a mark with one.
+    pub(crate) fn parent(&self, v: Vertex) -> Option<Vertex>
+        requires { HasVertex self.now.roads v }
+        ensures { result ≡ label_of (parents_in self.now.marks) v }
+    {
+        match self.marks.parent(v.0 as usize - 1) {
+            Some(parent) => Some(Vertex(parent)),
+            None => None,
+        }
     }
 
     /// The values as labels, the hops and parents as a tree.
     pub(crate) fn into_labels_and_tree(self) -> (Labels<A::Value>, Tree)
         requires { IsLinked (record { hops = hops_in self.marks; parents = parents_in self.marks }) }
-        ensures labels { result.0 ≡ values_in self.entry.marks }
+        ensures labels { result.0 ≡ values_in self.marks }
         ensures tree { result.1 ≡ record {
-          hops = hops_in self.entry.marks;
+          hops = hops_in self.marks;
           parents = parents_in
-              self.entry.marks;
+              self.marks;
         } }
     {
         self.marks.into_labels_and_tree()

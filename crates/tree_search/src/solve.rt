@@ -25,9 +25,14 @@ fn solve_in_one_search<A: PathAlgebra>(
 {
     laws_hold(algebra);
     graph.holds();
-    let mut search = Search::open(alloc, algebra, graph, sources)?;
-    while search.settle_next()? {}
-    Ok(search.into_labels_and_tree())
+    let mut search = Search::new(alloc, algebra, graph)?;
+    search.start(sources)?;
+    loop {
+        let step = search.settle_next(graph)?;
+        if step.is_end() {
+            return Ok(search.into_labels_and_tree());
+        }
+    }
 }
 
 /// Labels by a search, and their tree by a pass over the tight arcs.

@@ -1,13 +1,14 @@
 //! The marks of all vertices, in the lists that labels and trees are made of.
 
-ghost use Rattle.std.specs.Prelude.{◌≡◌, ◌<◌, cond, eqb, length, replicate, IfOk, None, Some, slice_index_or, slice_set};
+ghost use Rattle.std.specs.Prelude.{◌≡◌, ◌<◌, cond, eqb, false, length, replicate, IfOk, None, Some, slice_index_or, slice_set};
+ghost use Rattle.path_plain.specs.Noting.{AreNoted};
 ghost use Rattle.route_tree.specs.Tree.{IsLinked};
 ghost use Rattle.tree_search.specs.Marks.{is_better, is_lesser, values_in, hops_in, parents_in, parent_or_none};
 ghost use Rattle.tree_search.specs.Rows.{number_of};
 
 use crate::mark::Mark;
 use path_algebra::{Labels, PathAlgebra};
-use road_graph::Memory;
+use road_graph::{Memory, Vertex};
 use route_tree::{NumberSlot, Tree};
 use std::alloc::Global;
 use std::marker::Model;
@@ -109,6 +110,40 @@ impl<A: PathAlgebra> MarkTable<A> {
         self.parents[i] = parent_slot(mark.parent);
     }
 
+    /// Takes the mark of a place away.
+    fn clear(&mut self, i: usize)
+        requires { i < length self.old }
+        ensures { self.new ≡ slice_set self.old i None }
+    {
+        self.values[i] = None;
+        self.hops[i] = NumberSlot::none();
+        self.parents[i] = NumberSlot::none();
+    }
+
+    /// The value of a place.
+    pub(crate) fn value(&self, i: usize) -> Option<A::Value>
+        requires { i < length self.now }
+        ensures { result ≡ slice_index_or (values_in self.now) i None }
+    {
+        self.values[i]
+    }
+
+    /// The hops of a place.
+    pub(crate) fn hops(&self, i: usize) -> Option<u32>
+        requires { i < length self.now }
+        ensures { result ≡ slice_index_or (hops_in self.now) i None }
+    {
+        self.hops[i].get()
+    }
+
+    /// The parent of a place.
+    pub(crate) fn parent(&self, i: usize) -> Option<u32>
+        requires { i < length self.now }
+        ensures { result ≡ slice_index_or (parents_in self.now) i None }
+    {
+        self.parents[i].get()
+    }
+
     /// The values as labels, the hops and parents as a tree.
     pub(crate) fn into_labels_and_tree(self) -> (Labels<A::Value>, Tree)
         requires { IsLinked (record { hops = hops_in self; parents = parents_in self }) }
@@ -119,5 +154,23 @@ impl<A: PathAlgebra> MarkTable<A> {
             Labels::from_vec(self.values),
             Tree::from_parts(self.hops, self.parents),
         )
+    }
+}
+
+/// Takes away the mark of each vertex of a list, and that it is settled. No other vertex has one, or is settled.
+pub(crate) fn put_back<A: PathAlgebra>(
+    marks: &mut MarkTable<A>,
+    settled: &mut Vec<bool>,
+    list: &[Vertex],
+)
+    requires count { length settled.old.items ≡ length marks.old }
+    requires noted { AreNoted (length marks.old) list.now marks.old settled.old.items }
+    ensures marks { marks.new ≡ replicate (length marks.old) None }
+    ensures settled { settled.new.items ≡ replicate (length marks.old) false }
+{
+    for v in list {
+        let i = v.0 as usize - 1;
+        marks.clear(i);
+        settled[i] = false;
     }
 }

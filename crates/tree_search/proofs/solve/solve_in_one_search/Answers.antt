@@ -1,62 +1,80 @@
-use Rattle.std.proofs.Common.{◌∙◌, subst, true, false}
-use Rattle.tree_search.specs.Searching.{Proceeds}
-use Rattle.tree_search.proofs.Rounds.{starting}
-use Rattle.tree_search.proofs.Steps.{next_round, last_round, comes_nearer}
+use Rattle.std.proofs.Common.{◌≡◌, ◌∙◌, sym, subst, true, false}
+use Rattle.tree_search.specs.Searching.{Proceeds, is_end}
+use Rattle.tree_search.specs.declared.step.Step.TheVariants.{Ended}
+use Rattle.tree_search.proofs.Listing.{started}
+use Rattle.tree_search.proofs.Steps.{next_round, last_step, last_round, comes_nearer}
 use Rattle.tree_search.proofs.solve.solve_in_one_search.Goals as goal
 
 pub loop-search-init : goal.loop-search-init
-loop-search-init g c = record {
-  algebra = c.in_ok-search.ensures.algebra;
-  graph = c.in_ok-search.ensures.graph;
-  between = rw c.in_ok-search.ensures.settled
-      (starting (g.A.PathAlgebra.meaning c.args.algebra) c.laws_hold.ensures.lawful c.args.graph.now c.holds.ensures c.args.sources.now _ c.in_ok-search.ensures.opening);
-}
+loop-search-init g c =
+    let A = g.A.PathAlgebra.meaning c.args.algebra in
+    let start = started A c.laws_hold.ensures.lawful c.args.graph.now c.holds.ensures c.args.sources.now c.requires c.in_ok-search.search c.start.new.self
+    c.in_ok-search.ensures.graph c.in_ok-search.ensures.blank c.in_ok-start.ensures.same (rw c.in_ok-search.ensures.algebra at c.in_ok-start.ensures.opening) in
+    record {
+      algebra = c.in_ok-start.ensures.same.algebra ∙ c.in_ok-search.ensures.algebra;
+      graph = c.in_ok-start.ensures.same.roads ∙ c.in_ok-search.ensures.graph;
+      between = start.0;
+    }
 
 pub loop-search-preserved : goal.loop-search-preserved
 loop-search-preserved g c =
     let A = g.A.PathAlgebra.meaning c.args.algebra in
-    let step : Proceeds g.A.PathAlgebra.order A true c.loop-search.search c.settle_next.new.self =
-    subst (λ a. Proceeds g.A.PathAlgebra.order (g.A.PathAlgebra.meaning a) true c.loop-search.search c.settle_next.new.self) c.loop-search.invariant.algebra
-    (rw c.if-branch.true at c.in_ok-settle_next.ensures) in
+    let was = c.loop-search.invariant in
+    let step : Proceeds g.A.PathAlgebra.order A c.in_ok-step.step c.loop-search.search c.settle_next.new.self =
+    subst (λ a. Proceeds g.A.PathAlgebra.order (g.A.PathAlgebra.meaning a) c.in_ok-step.step c.loop-search.search c.settle_next.new.self) was.algebra c.in_ok-step.ensures in
+    let more : is_end c.in_ok-step.step ≡ false = sym c.is_end.ensures ∙ c.if-is_end.false in
     record {
-      algebra = step.algebra ∙ c.loop-search.invariant.algebra;
-      graph = step.roads ∙ c.loop-search.invariant.graph;
+      algebra = step.algebra ∙ was.algebra;
+      graph = step.roads ∙ was.graph;
       between = next_round A c.laws_hold.ensures.lawful g.A.PathAlgebra.order c.laws_hold.ensures.order c.args.graph.now c.holds.ensures c.args.sources.now c.requires
-          c.loop-search.search c.settle_next.new.self c.loop-search.invariant.graph c.loop-search.invariant.between step;
+          c.loop-search.search c.settle_next.new.self was.graph was.between c.in_ok-step.step more step;
     }
 
 pub loop-search-smaller : goal.loop-search-smaller
 loop-search-smaller g c =
     let A = g.A.PathAlgebra.meaning c.args.algebra in
-    let step : Proceeds g.A.PathAlgebra.order A true c.loop-search.search c.settle_next.new.self =
-    subst (λ a. Proceeds g.A.PathAlgebra.order (g.A.PathAlgebra.meaning a) true c.loop-search.search c.settle_next.new.self) c.loop-search.invariant.algebra
-    (rw c.if-branch.true at c.in_ok-settle_next.ensures) in
+    let was = c.loop-search.invariant in
+    let step : Proceeds g.A.PathAlgebra.order A c.in_ok-step.step c.loop-search.search c.settle_next.new.self =
+    subst (λ a. Proceeds g.A.PathAlgebra.order (g.A.PathAlgebra.meaning a) c.in_ok-step.step c.loop-search.search c.settle_next.new.self) was.algebra c.in_ok-step.ensures in
+    let more : is_end c.in_ok-step.step ≡ false = sym c.is_end.ensures ∙ c.if-is_end.false in
     comes_nearer A c.laws_hold.ensures.lawful g.A.PathAlgebra.order c.laws_hold.ensures.order c.args.graph.now c.holds.ensures c.args.sources.now c.requires
-    c.loop-search.search c.settle_next.new.self c.loop-search.invariant.graph c.loop-search.invariant.between step
+    c.loop-search.search c.settle_next.new.self was.graph was.between c.in_ok-step.step more step
 
 pub into_labels_and_tree-requires-after_bounds : goal.into_labels_and_tree-requires-after_bounds
 into_labels_and_tree-requires-after_bounds g c κs within =
     let A = g.A.PathAlgebra.meaning c.args.algebra in
-    let step : Proceeds g.A.PathAlgebra.order A false c.loop-search.search c.settle_next.new.self =
-    subst (λ a. Proceeds g.A.PathAlgebra.order (g.A.PathAlgebra.meaning a) false c.loop-search.search c.settle_next.new.self) c.loop-search.invariant.algebra
-    (rw c.if-branch.false at c.in_ok-settle_next.ensures) in
+    let was = c.loop-search.invariant in
+    let step : Proceeds g.A.PathAlgebra.order A c.in_ok-step.step c.loop-search.search c.settle_next.new.self =
+    subst (λ a. Proceeds g.A.PathAlgebra.order (g.A.PathAlgebra.meaning a) c.in_ok-step.step c.loop-search.search c.settle_next.new.self) was.algebra c.in_ok-step.ensures in
+    let here = last_step A c.laws_hold.ensures.lawful g.A.PathAlgebra.order c.laws_hold.ensures.order c.args.graph.now c.holds.ensures c.args.sources.now c.requires
+    c.loop-search.search c.settle_next.new.self was.graph was.between c.in_ok-step.step (sym c.is_end.ensures ∙ c.if-is_end.true) in
+    let last : Proceeds g.A.PathAlgebra.order A Ended c.loop-search.search c.settle_next.new.self =
+    subst (λ s. Proceeds g.A.PathAlgebra.order A s c.loop-search.search c.settle_next.new.self) here step in
     (last_round A c.laws_hold.ensures.lawful g.A.PathAlgebra.order c.laws_hold.ensures.order c.args.graph.now c.holds.ensures c.args.sources.now c.requires
-    c.loop-search.search c.settle_next.new.self c.loop-search.invariant.graph c.loop-search.invariant.between step).2
+    c.loop-search.search c.settle_next.new.self was.graph was.between last).2
 
-pub returns-clause-labels : goal.returns-clause-labels
-returns-clause-labels g c =
+pub returns-then-is_end-clause-labels : goal.returns-then-is_end-clause-labels
+returns-then-is_end-clause-labels g c =
     let A = g.A.PathAlgebra.meaning c.args.algebra in
-    let step : Proceeds g.A.PathAlgebra.order A false c.loop-search.search c.settle_next.new.self =
-    subst (λ a. Proceeds g.A.PathAlgebra.order (g.A.PathAlgebra.meaning a) false c.loop-search.search c.settle_next.new.self) c.loop-search.invariant.algebra
-    (rw c.if-branch.false at c.in_ok-settle_next.ensures) in
+    let was = c.loop-search.invariant in
+    let step : Proceeds g.A.PathAlgebra.order A c.in_ok-step.step c.loop-search.search c.settle_next.new.self =
+    subst (λ a. Proceeds g.A.PathAlgebra.order (g.A.PathAlgebra.meaning a) c.in_ok-step.step c.loop-search.search c.settle_next.new.self) was.algebra c.in_ok-step.ensures in
+    let here = last_step A c.laws_hold.ensures.lawful g.A.PathAlgebra.order c.laws_hold.ensures.order c.args.graph.now c.holds.ensures c.args.sources.now c.requires
+    c.loop-search.search c.settle_next.new.self was.graph was.between c.in_ok-step.step (sym c.is_end.ensures ∙ c.if-is_end.true) in
+    let last : Proceeds g.A.PathAlgebra.order A Ended c.loop-search.search c.settle_next.new.self =
+    subst (λ s. Proceeds g.A.PathAlgebra.order A s c.loop-search.search c.settle_next.new.self) here step in
     rw c.into_labels_and_tree.ensures.labels (last_round A c.laws_hold.ensures.lawful g.A.PathAlgebra.order c.laws_hold.ensures.order c.args.graph.now c.holds.ensures c.args.sources.now c.requires
-    c.loop-search.search c.settle_next.new.self c.loop-search.invariant.graph c.loop-search.invariant.between step).0
+    c.loop-search.search c.settle_next.new.self was.graph was.between last).0
 
-pub returns-clause-tree : goal.returns-clause-tree
-returns-clause-tree g c =
+pub returns-then-is_end-clause-tree : goal.returns-then-is_end-clause-tree
+returns-then-is_end-clause-tree g c =
     let A = g.A.PathAlgebra.meaning c.args.algebra in
-    let step : Proceeds g.A.PathAlgebra.order A false c.loop-search.search c.settle_next.new.self =
-    subst (λ a. Proceeds g.A.PathAlgebra.order (g.A.PathAlgebra.meaning a) false c.loop-search.search c.settle_next.new.self) c.loop-search.invariant.algebra
-    (rw c.if-branch.false at c.in_ok-settle_next.ensures) in
+    let was = c.loop-search.invariant in
+    let step : Proceeds g.A.PathAlgebra.order A c.in_ok-step.step c.loop-search.search c.settle_next.new.self =
+    subst (λ a. Proceeds g.A.PathAlgebra.order (g.A.PathAlgebra.meaning a) c.in_ok-step.step c.loop-search.search c.settle_next.new.self) was.algebra c.in_ok-step.ensures in
+    let here = last_step A c.laws_hold.ensures.lawful g.A.PathAlgebra.order c.laws_hold.ensures.order c.args.graph.now c.holds.ensures c.args.sources.now c.requires
+    c.loop-search.search c.settle_next.new.self was.graph was.between c.in_ok-step.step (sym c.is_end.ensures ∙ c.if-is_end.true) in
+    let last : Proceeds g.A.PathAlgebra.order A Ended c.loop-search.search c.settle_next.new.self =
+    subst (λ s. Proceeds g.A.PathAlgebra.order A s c.loop-search.search c.settle_next.new.self) here step in
     rw c.into_labels_and_tree.ensures.tree (last_round A c.laws_hold.ensures.lawful g.A.PathAlgebra.order c.laws_hold.ensures.order c.args.graph.now c.holds.ensures c.args.sources.now c.requires
-    c.loop-search.search c.settle_next.new.self c.loop-search.invariant.graph c.loop-search.invariant.between step).1
+    c.loop-search.search c.settle_next.new.self was.graph was.between last).1

@@ -9,11 +9,11 @@ invariant_of-self-then-is_better g c =
     let marks = c.self.inside.marks in
     let settled = c.self.inside.settled.items in
     let k = c.v.inside.0 - 1 in
-    let n : c.self.inside.graph.now.vertices ≡ c.args.self.now.roads.vertices = λ i. (c.self.view_is i).roads.vertices in
+    let n : c.self.inside.graph.value.vertices ≡ c.args.self.now.roads.vertices = λ i. (c.self.view_is i).roads.vertices in
     let s : unsettled settled ≡ unsettled c.args.self.now.settled = λ i. unsettled (c.self.view_is i).settled in
     let lt : k < length marks = omega (arith, c.requires.vertex.0, c.requires.vertex.1, n, c.v.view_is, c.self.invariant.marks_count) in
     let few = c.requires.hops in
-    rw c.set.ensures (search_offers (λ o. (o.value, o.rank.hops)) (λ o. o.rank.place) g.A.PathAlgebra.order laws.ordered c.self.inside.graph.now marks settled c.self.inside.queue c.self.invariant k
+    rw c.set.ensures (search_offers (λ o. (o.value, o.rank.hops)) (λ o. o.rank.place) g.A.PathAlgebra.order laws.ordered c.self.inside.graph.value marks settled c.self.inside.queue c.self.invariant k
     (record { value = c.args.value; hops = c.args.hops; parent = c.args.parent }) _ _ lt
     (sym c.is_better.ensures ∙ c.if-is_better.true)
     (omega (arith, few, n, s)) c.in_ok-push.ensures.items refl refl)
@@ -24,11 +24,11 @@ invariant_of-self-then-is_lesser g c =
     let marks = c.self.inside.marks in
     let settled = c.self.inside.settled.items in
     let k = c.v.inside.0 - 1 in
-    let n : c.self.inside.graph.now.vertices ≡ c.args.self.now.roads.vertices = λ i. (c.self.view_is i).roads.vertices in
+    let n : c.self.inside.graph.value.vertices ≡ c.args.self.now.roads.vertices = λ i. (c.self.view_is i).roads.vertices in
     let s : unsettled settled ≡ unsettled c.args.self.now.settled = λ i. unsettled (c.self.view_is i).settled in
     let lt : k < length marks = omega (arith, c.requires.vertex.0, c.requires.vertex.1, n, c.v.view_is, c.self.invariant.marks_count) in
     let few = c.requires.hops in
-    rw c.set-then-is_lesser.ensures (search_lessens (λ o. (o.value, o.rank.hops)) (λ o. o.rank.place) g.A.PathAlgebra.order laws.ordered c.self.inside.graph.now marks settled
+    rw c.set-then-is_lesser.ensures (search_lessens (λ o. (o.value, o.rank.hops)) (λ o. o.rank.place) g.A.PathAlgebra.order laws.ordered c.self.inside.graph.value marks settled
     c.self.inside.queue c.self.invariant k
     (record { value = c.args.value; hops = c.args.hops; parent = c.args.parent }) lt
     (sym c.is_better.ensures ∙ c.if-is_better.false)

@@ -1,16 +1,17 @@
 use Rattle.std.proofs.Common.{◌≡◌, [], length, drop, arith, sym, ap, subst, ◌∙◌}
 use Rattle.std.proofs.lemmas.Grind.{common_steps}
 use Rattle.std.proofs.Math.ListN.{drop_of_length-le}
+use Rattle.road_graph.specs.GraphData.{GraphData}
 use Rattle.path_plain.proofs.Offering.{head_in, roads_short}
-use Rattle.tree_search.specs.Searching.{SearchState, Relaxes}
+use Rattle.tree_search.specs.Searching.{Relaxes}
 use Rattle.tree_search.proofs.Relaxing.{relaxed_by_roads, relaxed_is}
 use Rattle.tree_search.proofs.search.Search.relax.Goals as goal
 
 pub offer_if-requires-clause-vertex : goal.offer_if-requires-clause-vertex
 offer_if-requires-clause-vertex g c κs within =
-    let h = head_in c.self.inside.graph.now c.holds.ensures c.args.v c.roads_from-road-items.result.now c.roads_from-road-items.ensures c.loop-road.road-index c.road-item.result
+    let h = head_in c.args.graph.now c.holds.ensures c.args.v c.roads_from-road-items.result.now c.roads_from-road-items.ensures c.loop-road.road-index c.road-item.result
     c.loop-road-test.true c.road-item.is in
-    let here : c.self.inside.graph.now.vertices ≡ c.args.self.now.roads.vertices = λ i. (c.self.view_is i).roads.vertices in
+    let here : c.args.graph.now.vertices ≡ c.args.self.now.roads.vertices = λ i. (c.requires.graph i).vertices in
     let there : c.loop-road.self.roads.vertices ≡ c.args.self.now.roads.vertices = λ i. (c.loop-road.invariant.same.roads i).vertices in
     (h.0, omega (arith, h.1, here, there))
 
@@ -22,13 +23,15 @@ returns-clause-relaxes g c =
     let lists = c.roads_from-road-items.ensures in
     let past : drop c.loop-road.road-index out ≡ [] = drop_of_length-le out (omega arith) in
     let done : c.loop-road.self.marks ≡ relaxed_by_roads A c.args.v c.args.x c.args.hops marks out = rw past at c.loop-road.invariant.so_far in
-    subst (λ (s : SearchState g.row.A.Denot g.row.A-Value.Denot). Relaxes (g.A.PathAlgebra.meaning s.algebra) s.roads c.args.v c.args.x c.args.hops marks c.loop-road.self.marks) c.self.view_is
-    (lists.0, lists.1, done ∙ ap (relaxed_by_roads A c.args.v c.args.x c.args.hops marks) lists.2 ∙ sym (relaxed_is A c.self.inside.graph.now c.args.v c.args.x c.args.hops marks lists.0))
+    let here : Relaxes A c.args.graph.now c.args.v c.args.x c.args.hops marks c.loop-road.self.marks =
+    (lists.0, lists.1, done ∙ ap (relaxed_by_roads A c.args.v c.args.x c.args.hops marks) lists.2 ∙ sym (relaxed_is A c.args.graph.now c.args.v c.args.x c.args.hops marks lists.0)) in
+    subst (λ (a : g.row.A.Denot). Relaxes (g.A.PathAlgebra.meaning a) c.args.self.now.roads c.args.v c.args.x c.args.hops marks c.loop-road.self.marks) (λ i. (c.self.view_is i).algebra)
+    (subst (λ (r : GraphData). Relaxes A r c.args.v c.args.x c.args.hops marks c.loop-road.self.marks) c.requires.graph here)
 
 pub returns-clause-few : goal.returns-clause-few
 returns-clause-few g c =
-    let here : length c.self.inside.graph.now.arcs ≡ length c.args.self.now.roads.arcs = λ i. length ((c.self.view_is i).roads.arcs) in
-    omega (arith, roads_short c.self.inside.graph.now c.args.v c.roads_from-road-items.result.now c.roads_from-road-items.ensures, c.loop-road.invariant.few, c.loop-road.auto.road-index-end, here)
+    let here : length c.args.graph.now.arcs ≡ length c.args.self.now.roads.arcs = λ i. length ((c.requires.graph i).arcs) in
+    omega (arith, roads_short c.args.graph.now c.args.v c.roads_from-road-items.result.now c.roads_from-road-items.ensures, c.loop-road.invariant.few, c.loop-road.auto.road-index-end, here)
 
 pub loop-road-preserved : goal.loop-road-preserved
 loop-road-preserved g c = grind (arith, common_steps)

@@ -1,0 +1,10 @@
+use Rattle.std.proofs.Common.{take}
+use Rattle.tree_search.specs.Opening.{AreOpening}
+use Rattle.tree_search.specs.Searching.{IsSameSearch}
+use Rattle.tree_search.proofs.search.Search.start.Given as goal
+
+abbrev pub invariant-loop-source : goal.invariant-loop-source
+invariant-loop-source g l = record {
+  same : IsSameSearch l.fn.self l.self;
+  opening : AreOpening (g.A.PathAlgebra.meaning l.algebra).origin l.fn.self.roads.vertices (take l.source-index l.sources) l.self.marks;
+}

@@ -1,0 +1,84 @@
+use Rattle.std.proofs.Common.{◌≡◌, ◌∙◌, sym, subst, true, false, []}
+use Rattle.tree_search.specs.Searching.{Proceeds, is_end}
+use Rattle.tree_search.proofs.Steps.{next_round, comes_nearer}
+use Rattle.tree_search.proofs.Listing.{AreListed, started, listed_next, all_found}
+use Rattle.tree_search.proofs.searcher.settle_all.Goals as goal
+
+pub loop-step-init : goal.loop-step-init
+loop-step-init g c =
+    let A = g.A.PathAlgebra.meaning c.args.algebra in
+    let start = started A c.laws_hold.ensures.lawful c.args.graph.now c.holds.ensures c.args.sources.now c.requires.sources c.args.search.now c.start.new.self
+    c.requires.graph c.requires.blank c.in_ok-start.ensures.same (rw c.requires.algebra at c.in_ok-start.ensures.opening) in
+    record {
+      algebra = c.in_ok-start.ensures.same.algebra ∙ c.requires.algebra;
+      graph = c.in_ok-start.ensures.same.roads ∙ c.requires.graph;
+      between = start.0;
+      listed = rw c.requires.empty start.1;
+    }
+
+pub loop-step-preserved : goal.loop-step-preserved
+loop-step-preserved g c =
+    let A = g.A.PathAlgebra.meaning c.args.algebra in
+    let was = c.loop-step.invariant in
+    let step : Proceeds g.A.PathAlgebra.order A c.in_ok-step.step c.loop-step.search c.settle_next.new.self =
+    subst (λ a. Proceeds g.A.PathAlgebra.order (g.A.PathAlgebra.meaning a) c.in_ok-step.step c.loop-step.search c.settle_next.new.self) was.algebra c.in_ok-step.ensures in
+    let more : is_end c.in_ok-step.step ≡ false = sym c.is_end.ensures ∙ c.if-is_end.false in
+    record {
+      algebra = step.algebra ∙ was.algebra;
+      graph = step.roads ∙ was.graph;
+      between = next_round A c.laws_hold.ensures.lawful g.A.PathAlgebra.order c.laws_hold.ensures.order c.args.graph.now c.holds.ensures c.args.sources.now c.requires.sources
+          c.loop-step.search c.settle_next.new.self was.graph was.between c.in_ok-step.step more step;
+      listed = rw c.in_ok-note.ensures
+          (listed_next A c.laws_hold.ensures.lawful c.args.graph.now c.holds.ensures c.args.sources.now c.requires.sources g.A.PathAlgebra.order c.laws_hold.ensures.order
+          c.loop-step.search c.settle_next.new.self was.graph was.between c.loop-step.reached.items was.listed c.in_ok-step.step more step);
+    }
+
+pub loop-step-smaller : goal.loop-step-smaller
+loop-step-smaller g c =
+    let A = g.A.PathAlgebra.meaning c.args.algebra in
+    let was = c.loop-step.invariant in
+    let step : Proceeds g.A.PathAlgebra.order A c.in_ok-step.step c.loop-step.search c.settle_next.new.self =
+    subst (λ a. Proceeds g.A.PathAlgebra.order (g.A.PathAlgebra.meaning a) c.in_ok-step.step c.loop-step.search c.settle_next.new.self) was.algebra c.in_ok-step.ensures in
+    let more : is_end c.in_ok-step.step ≡ false = sym c.is_end.ensures ∙ c.if-is_end.false in
+    comes_nearer A c.laws_hold.ensures.lawful g.A.PathAlgebra.order c.laws_hold.ensures.order c.args.graph.now c.holds.ensures c.args.sources.now c.requires.sources
+    c.loop-step.search c.settle_next.new.self was.graph was.between c.in_ok-step.step more step
+
+pub returns-then-is_end-clause-reached : goal.returns-then-is_end-clause-reached
+returns-then-is_end-clause-reached g c =
+    let A = g.A.PathAlgebra.meaning c.args.algebra in
+    let was = c.loop-step.invariant in
+    let step : Proceeds g.A.PathAlgebra.order A c.in_ok-step.step c.loop-step.search c.settle_next.new.self =
+    subst (λ a. Proceeds g.A.PathAlgebra.order (g.A.PathAlgebra.meaning a) c.in_ok-step.step c.loop-step.search c.settle_next.new.self) was.algebra c.in_ok-step.ensures in
+    let end : is_end c.in_ok-step.step ≡ true = sym c.is_end.ensures ∙ c.if-is_end.true in
+    (all_found A c.laws_hold.ensures.lawful c.args.graph.now c.holds.ensures c.args.sources.now c.requires.sources g.A.PathAlgebra.order c.laws_hold.ensures.order
+    c.loop-step.search c.settle_next.new.self was.graph was.between c.loop-step.reached.items was.listed c.in_ok-step.step end step).0
+
+pub returns-then-is_end-clause-labels : goal.returns-then-is_end-clause-labels
+returns-then-is_end-clause-labels g c =
+    let A = g.A.PathAlgebra.meaning c.args.algebra in
+    let was = c.loop-step.invariant in
+    let step : Proceeds g.A.PathAlgebra.order A c.in_ok-step.step c.loop-step.search c.settle_next.new.self =
+    subst (λ a. Proceeds g.A.PathAlgebra.order (g.A.PathAlgebra.meaning a) c.in_ok-step.step c.loop-step.search c.settle_next.new.self) was.algebra c.in_ok-step.ensures in
+    let end : is_end c.in_ok-step.step ≡ true = sym c.is_end.ensures ∙ c.if-is_end.true in
+    (all_found A c.laws_hold.ensures.lawful c.args.graph.now c.holds.ensures c.args.sources.now c.requires.sources g.A.PathAlgebra.order c.laws_hold.ensures.order
+    c.loop-step.search c.settle_next.new.self was.graph was.between c.loop-step.reached.items was.listed c.in_ok-step.step end step).1
+
+pub returns-then-is_end-clause-tree : goal.returns-then-is_end-clause-tree
+returns-then-is_end-clause-tree g c =
+    let A = g.A.PathAlgebra.meaning c.args.algebra in
+    let was = c.loop-step.invariant in
+    let step : Proceeds g.A.PathAlgebra.order A c.in_ok-step.step c.loop-step.search c.settle_next.new.self =
+    subst (λ a. Proceeds g.A.PathAlgebra.order (g.A.PathAlgebra.meaning a) c.in_ok-step.step c.loop-step.search c.settle_next.new.self) was.algebra c.in_ok-step.ensures in
+    let end : is_end c.in_ok-step.step ≡ true = sym c.is_end.ensures ∙ c.if-is_end.true in
+    (all_found A c.laws_hold.ensures.lawful c.args.graph.now c.holds.ensures c.args.sources.now c.requires.sources g.A.PathAlgebra.order c.laws_hold.ensures.order
+    c.loop-step.search c.settle_next.new.self was.graph was.between c.loop-step.reached.items was.listed c.in_ok-step.step end step).2
+
+pub returns-then-is_end-clause-noted : goal.returns-then-is_end-clause-noted
+returns-then-is_end-clause-noted g c =
+    let A = g.A.PathAlgebra.meaning c.args.algebra in
+    let was = c.loop-step.invariant in
+    let step : Proceeds g.A.PathAlgebra.order A c.in_ok-step.step c.loop-step.search c.settle_next.new.self =
+    subst (λ a. Proceeds g.A.PathAlgebra.order (g.A.PathAlgebra.meaning a) c.in_ok-step.step c.loop-step.search c.settle_next.new.self) was.algebra c.in_ok-step.ensures in
+    let end : is_end c.in_ok-step.step ≡ true = sym c.is_end.ensures ∙ c.if-is_end.true in
+    (all_found A c.laws_hold.ensures.lawful c.args.graph.now c.holds.ensures c.args.sources.now c.requires.sources g.A.PathAlgebra.order c.laws_hold.ensures.order
+    c.loop-step.search c.settle_next.new.self was.graph was.between c.loop-step.reached.items was.listed c.in_ok-step.step end step).3

@@ -1,3 +1,4 @@
 pub mod Greatest
 pub mod Numbers
+pub mod Reweighing
 pub mod Tails

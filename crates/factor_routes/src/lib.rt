@@ -12,7 +12,9 @@ mod fitting;
 mod least_tail;
 mod numbers;
 mod pairs;
+mod reweighed;
 mod road_factors;
 mod solve;
 
+pub use reweighed::Unweighed;
 pub use road_factors::{RoadFactors, RouteAsker, Unfactored};

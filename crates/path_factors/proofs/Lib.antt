@@ -11,6 +11,7 @@ pub mod HeadRows
 pub mod Setting
 pub mod Listing
 pub mod Joining
+pub mod OldEnds
 pub mod Outlining
 pub mod Trees
 pub mod Climbing

@@ -1,6 +1,7 @@
 -- When a graph can be factored over the links of another one.
-use Rattle.std.specs.Prelude.{◌≡◌}
-use Rattle.road_graph.specs.GraphData.{GraphData}
+use Rattle.std.specs.Prelude.{◌≡◌, ℕ, ◌⊎◌}
+use Rattle.road_graph.specs.GraphData.{GraphData, HasArc, arc_of}
+use Rattle.road_graph.specs.declared.RoadArc.{RoadArc}
 use Rattle.path_factors.specs.declared.reweigh.Unfit.{Unfit}
 use Rattle.path_factors.specs.declared.reweigh.Unfit.TheVariants.{Vertices, Arc}
 use Rattle.path_factors.specs.Factors.{FactorData}
@@ -20,3 +21,13 @@ pub record Fits {T W : Type 0} (g : GraphData) (f : FactorState T W) : Type 0 wh
 abbrev pub IsReason : {T W : Type 0} → Unfit → GraphData → FactorState T W → Type 0
 IsReason Vertices g f = g.vertices ≡ f.roads.vertices → ⊥
 IsReason Arc g f = (g.vertices ≡ f.roads.vertices) × (HasEdges g f.factor → ⊥)
+
+-- an arc joins the same two vertices as another one, this way or that
+abbrev pub HasEndsOf : RoadArc → RoadArc → Type 0
+HasEndsOf a b = ((a.tail ≡ b.tail) × (a.head ≡ b.head)) ⊎ ((a.tail ≡ b.head) × (a.head ≡ b.tail))
+
+-- g has as many vertices as h, and each arc of g leads from a vertex to itself, or joins two that an arc of h joins
+pub record JoinsNoOthers (g h : GraphData) : Type 0 where
+  pub vertices : g.vertices ≡ h.vertices
+  pub ends : (a : ℕ) → HasArc g a →
+      ((arc_of g a).tail ≡ (arc_of g a).head) ⊎ ((b : ℕ) × HasArc h b × HasEndsOf (arc_of g a) (arc_of h b))

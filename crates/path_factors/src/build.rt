@@ -10,8 +10,9 @@ use crate::weighing::Weighing;
 use elimination_order::approximate_minimum_degree;
 use path_algebra::ComposingAlgebra;
 use road_graph::{Memory, OutGraph, Vertex};
-use std::alloc::Global;
+use std::alloc::{AllocError, Global};
 use std::snapshot::Snapshot;
+use std::sync::Arc;
 
 impl<A: ComposingAlgebra> Factors<A> {
     /// The factor of a graph by an order of its vertices; none if the order does not have each vertex once.
@@ -36,7 +37,7 @@ impl<A: ComposingAlgebra> Factors<A> {
         };
         let heads = outline(alloc, graph, &places)?;
         let rows = PackedRows::blank(alloc, heads, algebra.no_walk())?;
-        let order = Snapshot::of(&order);
+        let order = Arc::new(alloc, Snapshot::of(&order)).map_err(AllocError::from)?;
         Ok(Some(Weighing::weigh(algebra, graph, order, places, rows)))
     }
 

@@ -12,6 +12,7 @@ use path_algebra::{ComposingAlgebra, composition_holds, laws_hold};
 use road_graph::{OutGraph, Vertex};
 use std::marker::Model;
 use std::snapshot::Snapshot;
+use std::sync::Arc;
 
 /// Links between the places of an order, from which best values of a graph are found by substitution. Contracts alone
 /// see the graph and the order.
@@ -21,7 +22,7 @@ use std::snapshot::Snapshot;
 pub struct Factors<A: ComposingAlgebra> {
     pub(crate) algebra: A,
     pub(crate) graph: Snapshot<OutGraph>,
-    pub(crate) order: Snapshot<Vec<Vertex>>,
+    pub(crate) order: Arc<Snapshot<Vec<Vertex>>>,
     /// The place of each vertex.
     pub(crate) places: Vec<u32>,
     /// For each place the links to greater places and from them.
@@ -29,14 +30,15 @@ pub struct Factors<A: ComposingAlgebra> {
 }
 
 impl<A: ComposingAlgebra> Model for Factors<A> {
+    ghost use Rattle.std.specs.Arc.{arc_value};
     ghost use Rattle.path_factors.specs.State.{FactorState};
     ghost use Rattle.path_factors.specs.Tree.{IsFactored};
 
     ghost Value = { FactorState A A.Walk };
 
-    ghost view = { λ f. record { algebra = f.algebra; roads = f.graph.value; factor = record { order = f.order.value.items; places = f.places.items; leaving = f.rows.leaving; entering = f.rows.entering } } };
+    ghost view = { λ f. record { algebra = f.algebra; roads = f.graph.value; factor = record { order = (arc_value f.order).value.items; places = f.places.items; leaving = f.rows.leaving; entering = f.rows.entering } } };
 
-    ghost invariant = { λ f. IsFactored (A.meaning f.algebra) (A.walks f.algebra) f.graph.value (record { order = f.order.value.items; places = f.places.items; leaving = f.rows.leaving; entering = f.rows.entering }) };
+    ghost invariant = { λ f. IsFactored (A.meaning f.algebra) (A.walks f.algebra) f.graph.value (record { order = (arc_value f.order).value.items; places = f.places.items; leaving = f.rows.leaving; entering = f.rows.entering }) };
 }
 
 impl<A: ComposingAlgebra> Factors<A> {

@@ -13,6 +13,7 @@ mod climb;
 mod edge;
 mod factors;
 mod find;
+mod fits;
 mod heads;
 mod link;
 mod load;

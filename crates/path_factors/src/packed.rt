@@ -79,6 +79,15 @@ impl<W: Copy> PackedRows<W> {
         })
     }
 
+    /// The same edges, with the same walk both ways at each.
+    pub(crate) fn blank_copy(&self, alloc: Global, none: W) -> Result<Self, Memory>
+        ensures { IfOk result (λ rows. heads_in rows.leaving ≡ heads_in self.now.leaving) }
+    {
+        let starts = self.starts.to_vec(alloc)?;
+        let places = self.places.to_vec(alloc)?;
+        PackedRows::blank(alloc, Heads { starts, places }, none)
+    }
+
     /// How many edges a place has.
     pub(crate) fn count(&self, i: usize) -> usize
         requires { i < length self.now.leaving }

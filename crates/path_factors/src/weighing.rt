@@ -16,6 +16,7 @@ use path_algebra::{ComposingAlgebra, composition_holds};
 use road_graph::{OutGraph, Vertex};
 use std::marker::Model;
 use std::snapshot::Snapshot;
+use std::sync::Arc;
 
 /// A factor in the making, with an edge wherever elimination needs one: its links are worth walks of the graph, and are
 /// closed at the places that are eliminated.
@@ -23,22 +24,23 @@ use std::snapshot::Snapshot;
 pub(crate) struct Weighing<'g, A: ComposingAlgebra> {
     pub(crate) algebra: A,
     pub(crate) graph: &'g OutGraph,
-    pub(crate) order: Snapshot<Vec<Vertex>>,
+    pub(crate) order: Arc<Snapshot<Vec<Vertex>>>,
     pub(crate) places: Vec<u32>,
     pub(crate) rows: PackedRows<A::Walk>,
 }
 
 impl<'g, A: ComposingAlgebra> Model for Weighing<'g, A> {
+    ghost use Rattle.std.specs.Arc.{arc_value};
     ghost use Rattle.path_factors.specs.Eliminating.{IsBegun};
     ghost use Rattle.path_factors.specs.Heads.{IsOutline, heads_in};
     ghost use Rattle.path_factors.specs.State.{FactorState};
 
     ghost Value = { FactorState A A.Walk };
 
-    ghost view = { λ f. record { algebra = f.algebra; roads = f.graph.now; factor = record { order = f.order.value.items; places = f.places.items; leaving = f.rows.leaving; entering = f.rows.entering } } };
+    ghost view = { λ f. record { algebra = f.algebra; roads = f.graph.now; factor = record { order = (arc_value f.order).value.items; places = f.places.items; leaving = f.rows.leaving; entering = f.rows.entering } } };
 
     ghost invariant = { λ f.
-        IsBegun (A.meaning f.algebra) (A.walks f.algebra) f.graph.now (record { order = f.order.value.items; places = f.places.items; leaving = f.rows.leaving; entering = f.rows.entering })
+        IsBegun (A.meaning f.algebra) (A.walks f.algebra) f.graph.now (record { order = (arc_value f.order).value.items; places = f.places.items; leaving = f.rows.leaving; entering = f.rows.entering })
         × IsOutline f.graph.now f.places.items (heads_in f.rows.leaving) };
 }
 

@@ -1,4 +1,5 @@
 use Rattle.std.proofs.Common.{sym, subst}
+use Rattle.std.specs.Arc.{arc_value}
 use Rattle.road_graph.specs.GraphData.{GraphData}
 use Rattle.path_factors.specs.State.{FactorState}
 use Rattle.path_factors.specs.Tree.{IsFactored}
@@ -22,5 +23,5 @@ invariant_of-result g c =
     } in
     let inside = subst (λ (t : FactorState g.row.A.Denot g.row.A-Walk.Denot). IsFactored (g.A.PathAlgebra.meaning t.algebra) (g.A.ComposingAlgebra.walks t.algebra) t.roads t.factor)
     (sym c.self.view_is) made in
-    subst (λ (r : GraphData). IsFactored A C r (record { order = s.order.value.items; places = s.places.items; leaving = s.rows.leaving; entering = s.rows.entering }))
+    subst (λ (r : GraphData). IsFactored A C r (record { order = (arc_value s.order).value.items; places = s.places.items; leaving = s.rows.leaving; entering = s.rows.entering }))
     (sym c.of.ensures) inside

@@ -1,4 +1,5 @@
 use Rattle.std.proofs.Common.{◌∙◌, sym, subst}
+use Rattle.std.specs.Arc.{arc_value}
 use Rattle.path_factors.specs.Edges.{AreBlank}
 use Rattle.path_factors.specs.Heads.{IsOutline}
 use Rattle.path_factors.proofs.Setting.{begun_blank}
@@ -15,6 +16,6 @@ invariant_of-result g c =
     let risers = subst (λ (w : g.row.A-Walk.Denot). AreBlank w rows.leaving) c.no_walk.ensures done.risers in
     let fallers = subst (λ (w : g.row.A-Walk.Denot). AreBlank w rows.entering) c.no_walk.ensures done.fallers in
     let outline = subst (λ h. IsOutline G places h) (sym done.leaving) c.requires.outline in (
-      begun_blank A C c.composition_holds.ensures G c.args.order.value.items places c.requires.places rows outline.are (done.entering ∙ sym done.leaving) risers fallers,
+      begun_blank A C c.composition_holds.ensures G (arc_value c.args.order).value.items places c.requires.places rows outline.are (done.entering ∙ sym done.leaving) risers fallers,
       outline,
     )

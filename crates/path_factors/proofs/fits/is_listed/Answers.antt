@@ -1,7 +1,7 @@
 use Rattle.std.proofs.Common.{sym, subst}
 use Rattle.std.specs.Prelude.{IsTrue}
 use Rattle.path_factors.proofs.HeadRows.{listed_by_search}
-use Rattle.path_factors.proofs.reweigh.is_listed.Goals as goal
+use Rattle.path_factors.proofs.fits.is_listed.Goals as goal
 
 pub returns : goal.returns
 returns c =

@@ -1,0 +1,50 @@
+//! A graph is factored over the links of another one.
+ghost use Rattle.std.specs.Prelude.{◌≡◌, IfOk, IfErr};
+ghost use Rattle.path_factors.specs.Reweighing.{Fits};
+ghost use Rattle.factor_routes.specs.Reweighing.{IsCause};
+
+use crate::fitting::fitting_sums;
+use crate::road_factors::RoadFactors;
+use path_factors::Unfit;
+use road_graph::{InGraph, Memory, OutGraph};
+use std::alloc::Global;
+
+/// Why a graph is not factored over the links of another one.
+#[derive(Clone, Copy, Debug, PartialEq, Eq)]
+pub enum Unweighed {
+    /// Memory was refused.
+    Memory,
+    /// The sums of its costs, with hops, could pass 2^63.
+    Heavy,
+    /// It has another number of vertices, or an arc where there is no link.
+    Unfit(Unfit),
+}
+
+impl RoadFactors {
+    /// The factors of another graph for the sums of the same costs, by the same order and over the same links: in a
+    /// fraction of the time of `of`. `rows` is that graph, with its arcs by head.
+    ///
+    /// # Errors
+    /// `Heavy` as of `of`; `Unfit` if there is not a link for each arc, as there is where an arc joined the same vertices.
+    pub fn reweighed(
+        &self,
+        alloc: Global,
+        graph: &OutGraph,
+        rows: &InGraph,
+    ) -> Result<RoadFactors, Unweighed>
+        requires { rows.now ≡ graph.now }
+        ensures roads { IfOk result (λ f. f.roads ≡ graph.now) }
+        ensures cost { IfOk result (λ f. f.algebra.cost ≡ self.now.algebra.cost) }
+        ensures fits { IfOk result (λ f. Fits graph.now self.now) }
+        ensures cause { IfErr result (λ why. IsCause why graph.now self.now) }
+    {
+        let Some(sums) = fitting_sums(self.sums.cost, rows) else {
+            return Err(Unweighed::Heavy);
+        };
+        match self.factors.reweighed(alloc, sums, graph) {
+            Ok(Ok(factors)) => Ok(RoadFactors { sums, factors }),
+            Ok(Err(why)) => Err(Unweighed::Unfit(why)),
+            Err(Memory) => Err(Unweighed::Memory),
+        }
+    }
+}

@@ -1,0 +1,23 @@
+use Rattle.std.proofs.Common.{◌≡◌, ◌∙◌, arith}
+use Rattle.std.specs.Prelude.{IsTrue}
+use Rattle.path_factors.proofs.OldEnds.{has_old_edges}
+use Rattle.path_factors.proofs.factors.Factors.fits.Goals as goal
+
+pub returns-clause-fits : goal.returns-clause-fits
+returns-clause-fits g c =
+    let s = c.self.inside in
+    let n : c.args.graph.now.vertices ≡ s.graph.value.vertices =
+    omega (arith, c.self.invariant.factor.ordering.places_count, c.vertices.ensures.count, c.len.ensures, c.if-vertices-len.false, s.places.ok.0) in
+    record {
+      vertices = n ∙ (λ i. (c.self.view_is i).roads.vertices);
+      arcs = c.has_edges.ensures.0 c.if-not-has_edges.false;
+    }
+
+pub returns-then-not-has_edges-clause-others : goal.returns-then-not-has_edges-clause-others
+returns-then-not-has_edges-clause-others g c = λ over.
+    let S = c.args.self.now in
+    let all = has_old_edges (g.A.PathAlgebra.meaning S.algebra) (g.A.ComposingAlgebra.walks S.algebra) S.roads S.factor c.holds.ensures.factor
+    c.holds.ensures.aligned c.args.graph.now over in
+    let yes : IsTrue c.has_edges.result = c.has_edges.ensures.1 all in
+    let no = c.if-not-has_edges.true in
+    absurd (cc)

@@ -1,0 +1,19 @@
+use Rattle.std.proofs.Common.{◌≡◌, ◌∙◌, List, ℕ, sym, subst}
+use Rattle.path_factors.specs.Heads.{AreHeads, IsOutline, heads_in}
+use Rattle.path_factors.specs.Reweighing.{HasEdges}
+use Rattle.path_factors.specs.State.{FactorState}
+use Rattle.path_factors.proofs.factors.Factors.reweighed.Goals as goal
+
+pub weigh-requires-clause-outline : goal.weigh-requires-clause-outline
+weigh-requires-clause-outline g c κs within =
+    let s = c.self.inside in
+    let G = c.args.graph.now in
+    let fits = c.in_default.ensures.fits in
+    let n : s.graph.value.vertices ≡ G.vertices = (λ i. (c.self.view_is i).roads.vertices) ∙ sym fits.vertices in
+    let places : c.in_ok-places.places.items ≡ s.places.items = c.in_ok-places.ensures.items_if_clones_equal (λ x y is. is) ∙ c.deref.ensures.value in
+    let outline : IsOutline G s.places.items (heads_in s.rows.leaving) = record {
+      are = subst (λ k. AreHeads k (heads_in s.rows.leaving)) n c.self.invariant.heads;
+      joined = subst (λ (f : FactorState g.row.A.Denot g.row.A-Walk.Denot). HasEdges G f.factor) (sym c.self.view_is) fits.arcs;
+    } in
+    subst (λ (h : List (List ℕ)). IsOutline G c.in_ok-places.places.items h) (sym c.in_ok-rows.ensures)
+    (subst (λ (p : List ℕ). IsOutline G p (heads_in s.rows.leaving)) (sym places) outline)

@@ -16,7 +16,7 @@ use Rattle.post_floor.specs.Closing.{AllSeated, AreJoined}
 use Rattle.post_floor.specs.Data.{SeatData}
 use Rattle.post_floor.specs.Floor.{Slot, FinalView}
 use Rattle.post_floor.specs.Seats.{spent}
-use Rattle.station.specs.Gather.{counts_of, IsGathered, IsThere}
+use Rattle.station.specs.Gather.{counts_in, counts_of, IsGathered, IsThere}
 use Rattle.station.specs.Handing.{AreHanded}
 use Rattle.station.specs.Station.{StationData}
 use Rattle.station.proofs.Places.{counts_there}
@@ -31,6 +31,19 @@ module _ {S V : Type 0} where
   seen_there : (n : ℕ) (w v : View S V) (seats : List (SeatData S V)) → 0 < n → AllSeated n seats → All (λ d. d.knows.seen ≡ true) seats → AreJoined w v seats → w.seen ≡ true
   seen_there n w v [] l a s J = absurd (let k = a 0 l in omega (arith, k))
   seen_there n w v (d ∷ ds) l a s J = J.all_seen.0 s.0
+
+module _ {S V : Type 0} where
+  -- the tally is that of all stations
+  pub all_counted : (id : TableId) (all : List (StationData S V)) (seats : List (SeatData S V)) (tally : Tally) → AreHanded id all [] seats tally → tally ≡ tally_of (counts_in all)
+  all_counted id all seats tally h =
+      let one : (x y : ℕ) → x + 0 ≡ y → x ≡ y = λ x y e. omega (arith, e) in
+      let same : counts_of seats ≡ counts_in all = λ i. record {
+        sent = one (total (λ d. d.knows.sent) seats) (total (λ s. s.seat.knows.sent) all) (h.sums (λ v. v.sent)) i;
+        delivered = one (total (λ d. d.knows.delivered) seats) (total (λ s. s.seat.knows.delivered) all) (h.sums (λ v. v.delivered)) i;
+        signalled = one (total (λ d. d.knows.signalled) seats) (total (λ s. s.seat.knows.signalled) all) (h.sums (λ v. v.signalled)) i;
+        accepted = one (total (λ d. d.knows.accepted) seats) (total (λ s. s.seat.knows.accepted) all) (h.sums (λ v. v.accepted)) i;
+      } in
+      h.counted ∙ ap tally_of same
 
 module _ {S V : Type 0} (meaning : S → Algebra V) (L : AllLawful meaning) where
   -- THE ANSWER

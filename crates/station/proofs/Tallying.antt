@@ -93,7 +93,7 @@ module _ {S V : Type 0} where
       }
 
   pub handed_none : (id : TableId) (all : List (StationData S V)) → AreHanded id all all [] (tally_of (counts_of {S = S} {V = V} []))
-  handed_none id all = record { own = tt; seen = tt; shards = λ j. omega arith; counted = refl }
+  handed_none id all = record { own = tt; seen = tt; shards = λ j. omega arith; sums = λ f. omega arith; counted = refl }
 
   -- one more seat is handed over
   pub handed_more : (id : TableId) (all left rest : List (StationData S V)) (seats more : List (SeatData S V)) (s : StationData S V)
@@ -109,6 +109,12 @@ module _ {S V : Type 0} where
         let u : total f left ≡ total f rest + (f s + 0) = ap (total f) e ∙ total_append f rest (s ∷ []) in
         let k : is j s.seat.shard ≡ is j s.part.shard = ap (is j) same in
         omega (arith, a, b, u, k);
+    sums = λ f.
+        let a = h.sums f in
+        let b : total (λ d. f d.knows) more ≡ total (λ d. f d.knows) seats + f s.seat.knows = ap (total (λ d. f d.knows)) m ∙ total_snoc (λ d. f d.knows) seats s.seat in
+        let F : StationData S V → ℕ = λ z. f z.seat.knows in
+        let u : total F left ≡ total F rest + (F s + 0) = ap (total F) e ∙ total_append F rest (s ∷ []) in
+        omega (arith, a, b, u);
     counted = c ∙ ap (together (tally_in s.part)) h.counted ∙ tally_more s.part s.seat.knows (counts_of seats) (counts_of more) shows
         (ap (total (λ d. d.knows.sent)) m ∙ total_snoc (λ d. d.knows.sent) seats s.seat)
         (ap (total (λ d. d.knows.delivered)) m ∙ total_snoc (λ d. d.knows.delivered) seats s.seat)

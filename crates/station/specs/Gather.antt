@@ -75,6 +75,15 @@ counts_of seats = record {
   accepted = total (λ d. d.knows.accepted) seats;
 }
 
+-- what stations have counted together
+abbrev pub counts_in : {S V : Type 0} → List (StationData S V) → Totals
+counts_in stations = record {
+  sent = total (λ s. s.seat.knows.sent) stations;
+  delivered = total (λ s. s.seat.knows.delivered) stations;
+  signalled = total (λ s. s.seat.knows.signalled) stations;
+  accepted = total (λ s. s.seat.knows.accepted) stations;
+}
+
 -- all four counters are n, which is below their top
 abbrev pub each_shows : ℕ → Tally
 each_shows n = record { sent = n; delivered = n; signalled = n; accepted = n; full = false }

@@ -3,7 +3,8 @@ ghost use Rattle.std.specs.Prelude.{◌≡◌, ◌+◌, ◌<◌, ◌≤◌, [], 
 ghost use Rattle.std.specs.List.{All};
 ghost use Rattle.shard_store.specs.Plans.{HasPlanned};
 ghost use Rattle.shard_store.specs.Setup.{IsPlanned};
-ghost use Rattle.station.specs.Gather.{AllThere, AreOf, ArePlaces, IsAtPlace, IsFirstMissing, IsGathered, IsMissing, IsGatherFault};
+ghost use Rattle.shard_store.specs.Tallies.{tally_of};
+ghost use Rattle.station.specs.Gather.{AllThere, AreOf, ArePlaces, IsAtPlace, IsFirstMissing, IsGathered, IsMissing, IsGatherFault, counts_in};
 ghost use Rattle.station.specs.Handing.{AreHanded};
 ghost use Rattle.station.specs.Station.{AreBestFor, BelongsTo, IsBestFor};
 
@@ -189,6 +190,7 @@ pub fn gather<'g, A: PathAlgebra>(
     requires { All (BelongsTo floor) stations.items }
     ensures gathered { IfOk result (λ g. AllThere floor.setup.plan.shards stations.entry.items ×
         IsGathered A.meaning floor.setup g) }
+    ensures counted { IfOk result (λ g. g.tally ≡ tally_of (counts_in stations.entry.items)) }
     ensures refused { IfErr result (λ u. (u.floor ≡ floor) ×
         (u.stations.items ≡ stations.entry.items) × IsGatherFault floor.setup.plan.shards stations.entry.items u.fault) }
 {

@@ -1,7 +1,7 @@
 use Rattle.std.proofs.Common.{ℕ, ◌<◌, ◌∷◌, [], sym, subst}
 use Rattle.path_algebra.specs.Walks.{AreBest}
 use Rattle.station.specs.Gather.{IsThere}
-use Rattle.station.proofs.Closed.{all_seated, gathered}
+use Rattle.station.proofs.Closed.{all_counted, all_seated, gathered}
 use Rattle.station.proofs.gathering.gather.Goals as goal
 
 pub unreachable-requires : goal.unreachable-requires
@@ -20,3 +20,7 @@ returns-in-Ok-close-clause-gathered g c =
           c.from_vec-labels.result closed.1.0 _ _ c.in-Ok.ensures.planned
           (subst (AreBest A f.setup.diffusion.roads (f.setup.diffusion.source ∷ [])) (sym c.from_vec-labels.ensures) c.in-Ok.ensures.labels) closed.0 c.hand_over-seats.ensures closed.1.1 closed.1.2,
     )
+
+pub returns-in-Ok-close-clause-counted : goal.returns-in-Ok-close-clause-counted
+returns-in-Ok-close-clause-counted g c =
+    all_counted c.args.floor.id c.args.stations.items c.hand_over-seats.result.0.items c.hand_over-seats.result.1 c.hand_over-seats.ensures

@@ -1,5 +1,6 @@
 -- Solvers between two questions.
-use Rattle.std.specs.Prelude.{◌≡◌, List, Option, Some, None, option_map, IfSome, IsSome, slice_get}
+use Rattle.std.specs.Prelude.{◌≡◌, List, Option, Some, None, option_map, IfSome, IsNone, IsSome, slice_get}
+use Rattle.std.specs.Option.{IsSomeAnd}
 use Rattle.std.specs.List.{All}
 use Rattle.road_graph.specs.GraphData.{GraphData}
 use Rattle.road_files.specs.Asked.{Asked}
@@ -7,10 +8,12 @@ use Rattle.road_files.specs.declared.questions.Kind.TheVariants.{Pairs}
 use Rattle.path_algebra.specs.declared.algebra.PathAlgebra.{Ghosts}
 use Rattle.path_algebra.specs.Algebra.{Algebra}
 use Rattle.path_algebra.specs.Carried.{IsCarried}
-use Rattle.path_algebra.specs.Counted.{cost_of}
+use Rattle.path_algebra.specs.Counted.{cost_of, CountsFit}
 pub use Rattle.route_tree.specs.Searchers.{IsSearcherOf}
 use Rattle.question_solvers.specs.Solved.{IsSearched}
 use Rattle.question_solvers.specs.declared.factor_solver.FactorSolver.{FactorSolver}
+use Rattle.question_solvers.specs.declared.factor_solver.Factoring.{Factoring}
+use Rattle.question_solvers.specs.declared.factor_solver.Factoring.TheVariants.{Untried, Made, Refused}
 use Rattle.question_solvers.specs.declared.pair_solver.PairSolver.{PairSolver}
 use Rattle.question_solvers.specs.declared.plain_solver.PlainSolver.{PlainSolver}
 use Rattle.question_solvers.specs.declared.solved.Solved.{Solved}
@@ -31,6 +34,17 @@ pub record IsFactorReady {S V : Type 0} {G : Ghosts S V} (meaning : S → Algebr
   pub ahead : All (IsSearched (meaning algebra) s.plain.graph asked) s.ahead.items
   pub rows : IfSome s.factored (λ f. IsSome s.plain.by_head)
   pub carried : IfSome s.factored (λ f. IsCarried (meaning algebra) (cost_of f.factors.algebra.cost))
+
+-- its factors are for costs that carry the values of this algebra; and if it has none, the graph was refused for such costs
+pub record IsFactoredFor {S V : Type 0} {G : Ghosts S V} (A : Algebra V) (s : FactorSolver S V G) : Type 0 where
+  pub factored : IfSome s.factored (λ f. IsCarried A (cost_of f.factors.algebra.cost))
+  pub refused : IsNone s.factored → IfSome s.refused (λ r. IsCarried A (cost_of r.0))
+
+-- what became of factoring its graph: there are factors, of sums that fit; or none, and why the graph was refused; or neither
+abbrev pub IsFactoringBy : {S V : Type 0} {G : Ghosts S V} → FactorSolver S V G → Factoring → Type 0
+IsFactoringBy s Untried = IsNone s.factored × IsNone s.refused
+IsFactoringBy s Made = IsSomeAnd s.factored (λ f. CountsFit f.factors.roads (cost_of f.factors.algebra.cost) f.factors.algebra.bits)
+IsFactoringBy s (Refused why) = IsNone s.factored × IsSomeAnd s.refused (λ r. r.1 ≡ why)
 
 -- what the plain solver solved last
 abbrev pub last_of_plain : {S V : Type 0} {G : Ghosts S V} → PlainSolver S V G → Option (Solved V)

@@ -81,7 +81,7 @@ pub struct FactorSolver<A: PathAlgebra> {
 
 impl<A: PathAlgebra> FactorSolver<A> {
     ghost use Rattle.road_graph.specs.GraphData.{IsGraph};
-    ghost use Rattle.question_solvers.specs.Solvers.{last_by_factors};
+    ghost use Rattle.question_solvers.specs.Solvers.{IsFactoringBy, last_by_factors};
 
     /// The solver over a graph, which is not factored yet.
     pub fn new(alloc: Global, graph: OutGraph) -> Self
@@ -120,9 +120,13 @@ impl<A: PathAlgebra> FactorSolver<A> {
         ensures made { (result ≡ Factoring.Made) ↔ IsSome self.now.factored }
         ensures refused { (why : Refusal) → (result ≡ Factoring.Refused why) ↔
             (IsNone self.now.factored × IsSomeAnd self.now.refused (λ r. r.1 ≡ why)) }
+        ensures by { IsFactoringBy self.now result }
     {
         match (&self.factored, self.refused) {
-            (Some(_), _) => Factoring::Made,
+            (Some(factored), _) => {
+                factored.factors.holds();
+                Factoring::Made
+            }
             (None, Some((_, why))) => Factoring::Refused(why),
             (None, None) => Factoring::Untried,
         }

@@ -1,10 +1,10 @@
 //! Solves questions by the factors of the graph.
-ghost use Rattle.std.specs.Prelude.{◌≡◌, ◌<◌, length, All, IfOk, OnOk, IfSome, IsSome};
+ghost use Rattle.std.specs.Prelude.{◌≡◌, ◌<◌, length, All, IfOk, OnOk, IfSome, IsNone, IsSome};
 ghost use Rattle.path_algebra.specs.Carried.{IsCarried};
 ghost use Rattle.path_algebra.specs.Counted.{cost_of};
 ghost use Rattle.road_files.specs.Asked.{AreQuestionsOf, asked_of};
 ghost use Rattle.question_solvers.specs.Solved.{IsSearched, IsSolvedFor};
-ghost use Rattle.question_solvers.specs.Solvers.{IsFactorReady, last_by_factors};
+ghost use Rattle.question_solvers.specs.Solvers.{IsFactorReady, IsFactoredFor, last_by_factors};
 
 use crate::askers::solve_pair;
 use crate::factor_solver::{FactorSolver, Factored};
@@ -66,9 +66,12 @@ pub fn factor<A: PathAlgebra>(
     ensures made { OnOk result (IfSome solver.new.factored (λ f. IsSome solver.new.plain.by_head)) }
     ensures carried { OnOk result (IfSome solver.new.factored (λ f.
         IsCarried (A.meaning algebra) (cost_of f.factors.algebra.cost))) }
+    ensures refused { OnOk result (IsNone solver.new.factored → IfSome solver.new.refused (λ r.
+        IsCarried (A.meaning algebra) (cost_of r.0))) }
 {
     let Some(cost) = algebra.cost() else {
         solver.factored = None;
+        solver.refused = None;
         return Ok(());
     };
     make_rows(alloc, &mut solver.plain)?;
@@ -83,6 +86,7 @@ pub fn start_factors<A: PathAlgebra, R>(
     ensures graph { solver.new.plain.graph ≡ solver.old.plain.graph }
     ensures ready { OnOk result (IsFactorReady A.meaning task.now.algebra
         (asked_of task.now.questions.now) solver.new) }
+    ensures factored { OnOk result (IsFactoredFor (A.meaning task.now.algebra) solver.new) }
 {
     solver.last = None;
     start_plain(task, &mut solver.plain)?;

@@ -8,5 +8,6 @@ mod EndLaws
 mod ServeLaws
 mod Pieces
 mod AnswerLaws
+mod OverLaws
 mod RunLaws
 mod Staying

@@ -1,6 +1,6 @@
--- What a service promises of its inputs and its output when it is stopped, from what reading and serving promise.
-use Rattle.std.proofs.Common.{◌≡◌, ◌≢◌, ◌⊎◌, ◌↔◌, inl, inr, Bool, true, false, eqb, ℕ, ◌+◌, ◌≤◌, Result, Err, refl, ap, subst, arith}
-use Rattle.std.specs.Prelude.{IfSome, []}
+-- What a service promises of its inputs and its output, from what reading and serving promise.
+use Rattle.std.proofs.Common.{◌≡◌, ◌≢◌, ◌⊎◌, ◌↔◌, inl, inr, Bool, true, false, eqb, ℕ, ◌+◌, ◌≤◌, Result, Ok, Err, refl, sym, ap, ◌∙◌, subst, arith}
+use Rattle.std.specs.Prelude.{IfSome}
 use Rattle.std.proofs.lemmas.Bool.{eqb-true}
 use Rattle.std.specs.Io.KnownBytes.{IsAtEnd}
 use Rattle.text_lines.specs.declared.faults.ReadFault.{ReadFault}
@@ -15,9 +15,8 @@ use Rattle.batch_run.specs.declared.settings.Settings.{Settings}
 use Rattle.batch_run.specs.InRange.{AreInRange}
 use Rattle.batch_run.specs.Ran.{IsReadAs, IsRoadNumber}
 use Rattle.batch_run.specs.Runs.{Input, Output}
-use Rattle.service.specs.Fed.{ServedSoFar, ServedToLimit, ServedPart}
-use Rattle.service.specs.Answering.{MayAnswer}
-use Rattle.service.specs.Served.{RanService}
+use Rattle.service.specs.Over.{IsOverFault, RanOver}
+use Rattle.service.specs.Served.{IsStopOfInput, RanService}
 
 -- two faults are one outcome
 abbrev IsOutcome : RunFault → RunFault → Type 0
@@ -36,6 +35,10 @@ number_of : (r : Result (Unit {0}) RunFault) (f h : RunFault) → r ≡ Err f �
 number_of r f h p q =
     let same : f ≡ h = cc in ap (λ (x : RunFault). x.number) same
 
+file_of : (r : Result (Unit {0}) RunFault) (f h : RunFault) → r ≡ Err f → r ≡ Err h → f.file ≡ h.file
+file_of r f h p q =
+    let same : f ≡ h = cc in ap (λ (x : RunFault). x.file) same
+
 -- a read that failed is reported as one
 is_one : (n a b : ℕ) → (n ≢ 1 → a ≡ b) → a ≢ b → n ≡ 1
 is_one n a b untold failed = by_test (eqb n 1) refl
@@ -44,101 +47,85 @@ is_one n a b untold failed = by_test (eqb n 1) refl
     by_test true e = eqb-true n 1 e
     by_test false e = absurd (failed (untold (λ h. let bad : true ≡ false = subst (λ k. eqb k 1 ≡ false) h e in cc)))
 
-questions_or_graph : Questions ≡ Graph → ⊥
-questions_or_graph e = cc
-
 graph_or_questions : Graph ≡ Questions → ⊥
 graph_or_questions e = cc
 
 graph_or_none : Graph ≡ NoFile → ⊥
 graph_or_none e = cc
 
+-- what stops a service over a graph is no fault of the graph, and no setting
+not_of_graph : (f : RunFault) → IsOverFault f → f.file ≡ Graph → ⊥
+not_of_graph f (inl (file, (which, line))) e = let bad : Questions ≡ Graph = sym file ∙ e in cc
+not_of_graph f (inr (file, line, which)) e = let bad : NoFile ≡ Graph = sym file ∙ e in cc
+
+not_a_setting : (f : RunFault) → IsOverFault f → f.number ≡ 43 → ⊥
+not_a_setting f (inl (file, (inl one, line))) e = omega (arith, one, e)
+not_a_setting f (inl (file, (inr two, line))) e = omega (arith, two, e)
+not_a_setting f (inr (file, line, inl three)) e = omega (arith, three, e)
+not_a_setting f (inr (file, line, inr write)) e = omega (arith, write, e)
+
+in_no_line : (f : RunFault) → IsOverFault f → f.line ≡ 0
+in_no_line f (inl (file, (which, line))) = line
+in_no_line f (inr (file, line, which)) = line
+
+-- it is of one of the kinds of a service
+kind_of_service : (f : RunFault) → IsOverFault f → ((f.file ≡ Graph) × IsRoadNumber f.number)
+    ⊎ (((f.file ≡ Questions) × IsStopOfInput f) ⊎ ((f.file ≡ NoFile) × (f.line ≡ 0) × ((f.number ≡ 3) ⊎ ((f.number ≡ 42) ⊎ (f.number ≡ 43)))))
+kind_of_service f (inl stop) = inr (inl stop)
+kind_of_service f (inr (file, line, inl three)) = inr (inr (file, line, inl three))
+kind_of_service f (inr (file, line, inr write)) = inr (inr (file, line, inr (inl write)))
+
+-- a success is no fault
+no_fault : (r : Result (Unit {0}) RunFault) (u : Unit {0}) (f : RunFault) → r ≡ Ok u → r ≡ Err f → ⊥
+no_fault r u f p q = cc
+
+-- what serving over a graph promises is what a service does that read the graph from an input
 module _ {V G Q W : Type 0} (A : Algebra V) (how : Settings) (gate : ℕ → ℕ → Bool → Type 0) (graph graph_after : Input G) (input input_after : Input Q) (out out_after : Output W)
     (inside : AreInRange how) (g : GraphData) (read : IsReadAs gr_rules graph.left g) (sound : graph_after.failures ≡ graph.failures) (end : IsAtEnd graph_after.left)
     (asked : graph_after.asked ≤ graph.asked + 4294967297) where
-  -- the input of requests stopped it: by a read that failed, and by nothing else it has this number
-  pub stopped : (number : ℕ) → ((number ≡ 1) ⊎ (number ≡ 2))
-      → (number ≡ 1 → ServedSoFar (MayAnswer A how gate g) g.vertices input.left input_after.left out out_after)
-      → (number ≡ 2 → ServedToLimit (MayAnswer A how gate g) g.vertices input.left input_after.left out out_after)
-      → out_after.held ≡ [] → (number ≡ 1) ↔ (input_after.failures ≢ input.failures) → RanService A how gate graph graph_after input input_after out out_after (Err (record { number = number; file = Questions; line = 0 }))
-  stopped number which first long held failed = record {
-    done = tt;
-    passed_on = tt;
-    sound = tt;
-    ends = tt;
-    stopped = λ file one. (g, read, first one);
-    too_long = λ file two. (g, read, long two);
-    nothing_held = λ file. held;
-    fell = λ write. absurd (low 42 (omega arith) write);
+  pub over_graph : (r : Result (Unit {0}) RunFault) → RanOver A how gate g input input_after out out_after r → RanService A how gate graph graph_after input input_after out out_after r
+  over_graph (Ok u) over = record {
+    done = (g, read, over.done);
+    passed_on = over.passed_on;
+    sound = (sound, over.sound.0, over.sound.1);
+    ends = (end, over.ends);
+    stopped = tt;
+    too_long = tt;
+    nothing_held = tt;
+    fell = tt;
     refused = λ no. absurd (no inside);
-    settings = λ e. absurd (other_number _ _ _ (low 43 (omega arith)) refl e);
-    graph_fault = λ file. absurd (questions_or_graph file);
-    graph_memory = λ file. absurd (questions_or_graph file);
-    read_graph = (λ e. absurd (other_file _ _ _ questions_or_graph refl e), λ failed. absurd (failed sound));
-    read_input = (λ e. failed.0 (number_of _ _ _ refl e), λ lost. rw (failed.1 lost) refl);
-    kinds = inr (inl (refl, (which, refl)));
-    unfactored = λ file. absurd (let bad : Questions ≡ NoFile = file in cc);
-    placed = λ few. refl;
-    before_requests = λ file. absurd (questions_or_graph file);
-    untouched = λ setting. absurd (low 43 (omega arith) setting);
+    settings = λ e. absurd (no_fault _ u _ refl e);
+    graph_fault = tt;
+    graph_memory = tt;
+    read_graph = (λ e. absurd (no_fault _ u _ refl e), λ failed. absurd (failed sound));
+    read_input = over.read_input;
+    kinds = tt;
+    unfactored = tt;
+    placed = tt;
+    before_requests = tt;
+    untouched = tt;
     asked = asked;
   }
-    where
-      low : (n : ℕ) → 3 ≤ n → number ≢ n
-      low n high e = elim which [
-        | inl one ↦ omega (arith, high, e, one)
-        | inr two ↦ omega (arith, high, e, two)
-      ]
-
-  -- memory was refused while the graph was factored
-  pub unfactored : how.factors ≡ true → input_after ≡ input → out_after ≡ out
-      → RanService A how gate graph graph_after input input_after out out_after (Err (record { number = 3; file = NoFile; line = 0 }))
-  unfactored chosen unread unwritten = record {
+  over_graph (Err f) over = record {
     done = tt;
     passed_on = tt;
     sound = tt;
     ends = tt;
-    stopped = λ file one. absurd (let bad : NoFile ≡ Questions = file in cc);
-    too_long = λ file two. absurd (let bad : NoFile ≡ Questions = file in cc);
-    nothing_held = λ file. absurd (let bad : NoFile ≡ Questions = file in cc);
-    fell = λ write. absurd (omega (arith, write));
+    stopped = λ file one. (g, read, over.stopped file one);
+    too_long = λ file two. (g, read, over.too_long file two);
+    nothing_held = over.nothing_held;
+    fell = λ write. (g, read, over.fell write);
     refused = λ no. absurd (no inside);
-    settings = λ e. absurd (other_number _ _ _ (λ n. omega (arith, n)) refl e);
-    graph_fault = λ file. absurd (let bad : NoFile ≡ Graph = file in cc);
-    graph_memory = λ file. absurd (let bad : NoFile ≡ Graph = file in cc);
-    read_graph = (λ e. absurd (other_number _ _ _ (λ n. omega (arith, n)) refl e), λ failed. absurd (failed sound));
-    read_input = (λ e. absurd (other_number _ _ _ (λ n. omega (arith, n)) refl e), λ failed. absurd (failed (ap (λ (i : Input Q). i.failures) unread)));
-    kinds = inr (inr (refl, refl, inl refl));
-    unfactored = λ file three. (chosen, (g, read, tt), end, unread, unwritten);
-    placed = λ few. refl;
-    before_requests = λ file. absurd (let bad : NoFile ≡ Graph = file in cc);
-    untouched = λ setting. absurd (omega (arith, setting));
-    asked = asked;
-  }
-
-  -- a write failed
-  pub fell : ServedPart (MayAnswer A how gate g) g.vertices input.left out out_after → input_after.failures ≡ input.failures
-      → RanService A how gate graph graph_after input input_after out out_after (Err (record { number = 42; file = NoFile; line = 0 }))
-  fell part input_sound = record {
-    done = tt;
-    passed_on = tt;
-    sound = tt;
-    ends = tt;
-    stopped = λ file one. absurd (let bad : NoFile ≡ Questions = file in cc);
-    too_long = λ file two. absurd (let bad : NoFile ≡ Questions = file in cc);
-    nothing_held = λ file. absurd (let bad : NoFile ≡ Questions = file in cc);
-    fell = λ write. (g, read, part);
-    refused = λ no. absurd (no inside);
-    settings = λ e. absurd (other_number _ _ _ (λ n. omega (arith, n)) refl e);
-    graph_fault = λ file. absurd (let bad : NoFile ≡ Graph = file in cc);
-    graph_memory = λ file. absurd (let bad : NoFile ≡ Graph = file in cc);
-    read_graph = (λ e. absurd (other_number _ _ _ (λ n. omega (arith, n)) refl e), λ failed. absurd (failed sound));
-    read_input = (λ e. absurd (other_number _ _ _ (λ n. omega (arith, n)) refl e), λ failed. absurd (failed input_sound));
-    kinds = inr (inr (refl, refl, inr (inl refl)));
-    unfactored = λ file three. absurd (omega (arith, three));
-    placed = λ few. refl;
-    before_requests = λ file. absurd (let bad : NoFile ≡ Graph = file in cc);
-    untouched = λ setting. absurd (omega (arith, setting));
+    settings = λ e. absurd (not_a_setting f over.kinds (number_of _ _ _ refl e));
+    graph_fault = λ file. absurd (not_of_graph f over.kinds file);
+    graph_memory = λ file. absurd (not_of_graph f over.kinds file);
+    read_graph = (λ e. absurd (not_of_graph f over.kinds (file_of _ _ _ refl e)), λ failed. absurd (failed sound));
+    read_input = over.read_input;
+    kinds = kind_of_service f over.kinds;
+    unfactored = λ file three. let (chosen, unread, unwritten) = over.unfactored file three in (chosen, (g, read, tt), end, unread, unwritten);
+    placed = λ few. in_no_line f over.kinds;
+    before_requests = λ file. absurd (not_of_graph f over.kinds file);
+    untouched = λ setting. absurd (not_a_setting f over.kinds setting);
     asked = asked;
   }
 

@@ -5,3 +5,4 @@ pub mod Answering
 pub mod Giving
 pub mod Fed
 pub mod Served
+pub mod Over

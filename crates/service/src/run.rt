@@ -5,7 +5,9 @@ ghost use Rattle.graph_text.specs.GraphFiles.{gr_rules};
 ghost use Rattle.batch_run.specs.Causes.{number_of};
 ghost use Rattle.batch_run.specs.Choice.{without_diffusions};
 ghost use Rattle.batch_run.specs.Factored.{HasFactorsOf, is_by_factors};
+ghost use Rattle.batch_run.specs.InRange.{AreInRange};
 ghost use Rattle.batch_run.specs.Solvers.{IsSameSolver, graph_of, is_plain};
+ghost use Rattle.service.specs.Over.{RanOver, fault_of_stop};
 ghost use Rattle.service.specs.Served.{RanService};
 
 use crate::batch_answers::BatchAnswers;
@@ -72,6 +74,40 @@ fn factor_graph<A: PathAlgebra, R, T>(
     Ok(())
 }
 
+/// The fault that reports why serving stopped.
+fn fault_of_stop(stop: Stopped) -> RunFault
+    ensures { result ≡ fault_of_stop stop }
+{
+    match stop {
+        Stopped::Read => fault_of_requests(READ_FAILED),
+        Stopped::TooLong => fault_of_requests(TOO_LONG),
+        Stopped::Write => fault_of_run(WRITE),
+    }
+}
+
+/// Replies to each request of an input over the graph of a solver, which is factored first if factors are to answer.
+fn serve_over<A: PathAlgebra, Q: RoadRead, W: RoadWrite, R: Threads + Wait + Sync, T: Gate>(
+    run: &Run<'_, R, T>,
+    algebra: A,
+    solver: &mut Solver<A>,
+    requests_in: &mut Q,
+    out: &mut W,
+) -> Result<(), RunFault>
+    requires in_range { AreInRange run.now.settings.now }
+    requires kind { is_plain solver.old ≡ without_diffusions run.now.settings.now }
+    requires factors { is_by_factors solver.old ≡ run.now.settings.now.factors }
+    ensures ran { RanOver (A.meaning algebra) run.now.settings.now (T.may_answer run.now.gate.now)
+        (graph_of solver.old) (Q.seen requests_in.old) (Q.seen requests_in.new) (W.seen out.old)
+        (W.seen out.new) result }
+{
+    factor_graph(run, algebra, solver)?;
+    let answers = BatchAnswers { run, algebra };
+    match serve(&answers, solver, requests_in, out) {
+        Ok(()) => Ok(()),
+        Err(stop) => Err(fault_of_stop(stop)),
+    }
+}
+
 /// Reads a graph from one input, and replies to each request of another input as soon as it is whole.
 ///
 /// A request is a question text: a problem line and its lines. The reply is the text of its answers, as a batch writes
@@ -104,18 +140,8 @@ pub fn run_service<
     if !run.settings.suit(algebra) {
         return Err(fault_of_run(SETTINGS));
     }
-    let mut solver: Solver<A> = match read_solver(run, graph_in) {
-        Ok(solver) => solver,
-        Err(fault) => return Err(fault_in(File::Graph, fault)),
-    };
-    factor_graph(run, algebra, &mut solver)?;
-    let answers = BatchAnswers { run, algebra };
-    let served = serve(&answers, &mut solver, requests_in, out);
-    drop(solver);
-    match served {
-        Ok(()) => Ok(()),
-        Err(Stopped::Read) => Err(fault_of_requests(READ_FAILED)),
-        Err(Stopped::TooLong) => Err(fault_of_requests(TOO_LONG)),
-        Err(Stopped::Write) => Err(fault_of_run(WRITE)),
+    match read_solver(run, graph_in) {
+        Ok(mut solver) => serve_over(run, algebra, &mut solver, requests_in, out),
+        Err(fault) => Err(fault_in(File::Graph, fault)),
     }
 }

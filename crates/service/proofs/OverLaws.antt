@@ -1,0 +1,116 @@
+-- What serving over a graph promises, by how it ends.
+use Rattle.std.proofs.Common.{◌≡◌, ◌≢◌, inl, inr, Bool, true, ℕ, ◌+◌, [], Result, Ok, Err, refl, ap, arith}
+use Rattle.std.specs.Io.KnownBytes.{IsAtEnd}
+use Rattle.road_graph.specs.GraphData.{GraphData}
+use Rattle.path_algebra.specs.Algebra.{Algebra}
+use Rattle.batch_run.specs.declared.faults.File.TheVariants.{Questions, NoFile}
+use Rattle.batch_run.specs.declared.faults.RunFault.{RunFault}
+use Rattle.batch_run.specs.declared.settings.Settings.{Settings}
+use Rattle.text_lines.specs.Streams.{Input, Output}
+use Rattle.service.specs.declared.serving.Stopped.{Stopped}
+use Rattle.service.specs.declared.serving.Stopped.TheVariants.{Read, Write, TooLong}
+use Rattle.service.specs.Fed.{Served, ServedSoFar, ServedToLimit, ServedPart}
+use Rattle.service.specs.Answering.{MayAnswer}
+use Rattle.service.specs.Over.{RanOver, fault_of_stop}
+
+-- an outcome is no other
+no_fault : (r : Result (Unit {0}) RunFault) (f : RunFault) → r ≡ Ok tt → r ≡ Err f → ⊥
+no_fault r f p q = cc
+
+other_number : (r : Result (Unit {0}) RunFault) (f h : RunFault) → f.number ≢ h.number → r ≡ Err f → r ≡ Err h → ⊥
+other_number r f h ne p q =
+    let same : f ≡ h = cc in ne (ap (λ (x : RunFault). x.number) same)
+
+-- nor is a reason to stop
+read_no_write : (r : Result (Unit {0}) Stopped) → r ≡ Err Read → r ≡ Err Write → ⊥
+read_no_write r p e = cc
+
+long_no_write : (r : Result (Unit {0}) Stopped) → r ≡ Err TooLong → r ≡ Err Write → ⊥
+long_no_write r p e = cc
+
+long_no_read : (r : Result (Unit {0}) Stopped) → r ≡ Err TooLong → r ≡ Err Read → ⊥
+long_no_read r p e = cc
+
+write_no_read : (r : Result (Unit {0}) Stopped) → r ≡ Err Write → r ≡ Err Read → ⊥
+write_no_read r p e = cc
+
+module _ {V Q W : Type 0} (A : Algebra V) (how : Settings) (gate : ℕ → ℕ → Bool → Type 0) (g : GraphData) (input input_after : Input Q) (out out_after : Output W) where
+  -- all requests were replied to
+  pub all_served : Served (MayAnswer A how gate g) g.vertices input.left out out_after → out_after.held ≡ [] → IsAtEnd input_after.left → input_after.failures ≡ input.failures
+      → RanOver A how gate g input input_after out out_after (Ok tt)
+  all_served served held end sound = record {
+    done = served;
+    passed_on = held;
+    sound = let (text, rs, all, has, replied) = served in (sound, replied.sound);
+    ends = end;
+    stopped = tt;
+    too_long = tt;
+    nothing_held = tt;
+    fell = tt;
+    read_input = (λ e. absurd (no_fault _ _ refl e), λ lost. absurd (lost sound));
+    kinds = tt;
+    unfactored = tt;
+  }
+
+  -- memory was refused while the graph was factored
+  pub unfactored : how.factors ≡ true → input_after ≡ input → out_after ≡ out → RanOver A how gate g input input_after out out_after (Err (record { number = 3; file = NoFile; line = 0 }))
+  unfactored chosen unread unwritten = record {
+    done = tt;
+    passed_on = tt;
+    sound = tt;
+    ends = tt;
+    stopped = λ file one. absurd (omega (arith, one));
+    too_long = λ file two. absurd (omega (arith, two));
+    nothing_held = λ file. absurd (let bad : NoFile ≡ Questions = file in cc);
+    fell = λ write. absurd (omega (arith, write));
+    read_input = (λ e. absurd (other_number _ _ _ (λ n. omega (arith, n)) refl e), λ lost. absurd (lost (ap (λ (i : Input Q). i.failures) unread)));
+    kinds = inr (refl, refl, inl refl);
+    unfactored = λ file three. (chosen, unread, unwritten);
+  }
+
+  -- serving stopped for this reason
+  pub stopped : (s : Stopped) (r : Result (Unit {0}) Stopped) → r ≡ Err s
+      → (r ≡ Err Read → ServedSoFar (MayAnswer A how gate g) g.vertices input.left input_after.left out out_after × (input_after.failures ≡ input.failures + 1))
+      → (r ≡ Err Write → ServedPart (MayAnswer A how gate g) g.vertices input.left out out_after)
+      → (r ≡ Err TooLong → ServedToLimit (MayAnswer A how gate g) g.vertices input.left input_after.left out out_after)
+      → (r ≢ Err Write → out_after.held ≡ []) → (r ≢ Err Read → input_after.failures ≡ input.failures)
+      → RanOver A how gate g input input_after out out_after (Err (fault_of_stop s))
+  stopped Read r is read write long held sound = record {
+    done = tt;
+    passed_on = tt;
+    sound = tt;
+    ends = tt;
+    stopped = λ file one. (read is).0;
+    too_long = λ file two. absurd (omega (arith, two));
+    nothing_held = λ file. held (read_no_write r is);
+    fell = λ write. absurd (omega (arith, write));
+    read_input = (λ e. λ same. omega (arith, same, (read is).1), λ lost. refl);
+    kinds = inl (refl, (inl refl, refl));
+    unfactored = λ file three. absurd (omega (arith, three));
+  }
+  stopped TooLong r is read write long held sound = record {
+    done = tt;
+    passed_on = tt;
+    sound = tt;
+    ends = tt;
+    stopped = λ file one. absurd (omega (arith, one));
+    too_long = λ file two. long is;
+    nothing_held = λ file. held (long_no_write r is);
+    fell = λ write. absurd (omega (arith, write));
+    read_input = (λ e. absurd (other_number _ _ _ (λ n. omega (arith, n)) refl e), λ lost. absurd (lost (sound (long_no_read r is))));
+    kinds = inl (refl, (inr refl, refl));
+    unfactored = λ file three. absurd (omega (arith, three));
+  }
+  stopped Write r is read write long held sound = record {
+    done = tt;
+    passed_on = tt;
+    sound = tt;
+    ends = tt;
+    stopped = λ file one. absurd (omega (arith, one));
+    too_long = λ file two. absurd (omega (arith, two));
+    nothing_held = λ file. absurd (let bad : NoFile ≡ Questions = file in cc);
+    fell = λ _. write is;
+    read_input = (λ e. absurd (other_number _ _ _ (λ n. omega (arith, n)) refl e), λ lost. absurd (lost (sound (write_no_read r is))));
+    kinds = inr (refl, refl, inr refl);
+    unfactored = λ file three. absurd (omega (arith, three));
+  }

@@ -60,20 +60,22 @@ struct diffuse_graph {
 /* The status that a call returns: the first that applies of those listed with it, in their order.
 
    After DIFFUSE_STATUS_DONE the answer is written. After a refusal the handle is as it was, and only what explains the refusal
-   is written: code and hops of a route that is longer than the room, the number of arcs that are more than there are places,
-   vertex and reason of a wrong tree, the line of a text. */
+   is written: code and hops of a route that is longer than the room, the number of arcs or vertices that are more than there
+   are places, vertex and reason of a wrong tree, the line of a text. */
 enum diffuse_status {
     DIFFUSE_STATUS_DONE = 0,
     DIFFUSE_STATUS_NO_ROUTE = 1,        /* no walk from the source to the target has a value */
-    DIFFUSE_STATUS_NO_ROOM = 2,         /* route and arcs_from: fewer places than are needed; tree and check: a list does not
-                                           have exactly one place for each vertex (for tree, or none); table: the list does not
-                                           have exactly n_sources * n_targets elements; read: a text of more than 2^32 bytes */
+    DIFFUSE_STATUS_NO_ROOM = 2,         /* route, near and arcs_from: fewer places than are needed; tree and check: a list
+                                           does not have exactly one place for each vertex (for tree, or none); table: the list
+                                           does not have exactly n_sources * n_targets elements; read: a text of more than 2^32
+                                           bytes */
     DIFFUSE_STATUS_MEMORY = 3,          /* out of memory */
     DIFFUSE_STATUS_CLOSED = 4,          /* the handle has no graph */
     DIFFUSE_STATUS_OPEN = 5,            /* the handle that was to be opened has a graph already */
     DIFFUSE_STATUS_WRONG = 6,           /* check: the lists are not the tree */
     DIFFUSE_STATUS_DENSE = 7,           /* factor: factors would need too many links: no small separators */
-    DIFFUSE_STATUS_HEAVY = 8,           /* factor: the weights are so great that a sum with its arcs may not fit into 63 bits */
+    DIFFUSE_STATUS_HEAVY = 8,           /* factor and reweigh: the weights are so great that a sum with its arcs may not fit into
+                                           63 bits */
     DIFFUSE_STATUS_NO_FACTORS = 9,      /* factor: the algebra has no factors */
     DIFFUSE_STATUS_NO_PROBLEM = 10,     /* read: a line before the problem line, or no problem line */
     DIFFUSE_STATUS_SECOND_PROBLEM = 11, /* read: a second problem line */
@@ -81,11 +83,12 @@ enum diffuse_status {
     DIFFUSE_STATUS_UNKNOWN_LINE = 13,   /* read: a line that begins with none of c, p and a */
     DIFFUSE_STATUS_FIELDS = 14,         /* read: an arc line with another number of fields than four */
     DIFFUSE_STATUS_NOT_A_NUMBER = 15,   /* read: a field that should be a number and is none */
-    DIFFUSE_STATUS_LIMIT = 16,          /* open: too many vertices or arcs; read: a number above its limit */
+    DIFFUSE_STATUS_LIMIT = 16,          /* open and reweigh: too many vertices or arcs; read: a number above its limit */
     DIFFUSE_STATUS_NO_VERTEX = 17,      /* a source, a target, an end of an arc or the vertex of arcs_from is none of the graph */
     DIFFUSE_STATUS_TOO_MANY = 18,       /* read: more arc lines than announced */
     DIFFUSE_STATUS_TOO_FEW = 19,        /* read: fewer arc lines than announced */
-    DIFFUSE_STATUS_NO_ALGEBRA = 43      /* there is no such algebra, or its limit is above 2^63 */
+    DIFFUSE_STATUS_NO_ALGEBRA = 43,     /* there is no such algebra, or its limit is above 2^63 */
+    DIFFUSE_STATUS_NO_LINK = 44         /* reweigh: an arc between vertices between which the factors have no link */
 };
 
 /* What is best, and what a code is. Only DIFFUSE_ALGEBRA_WITHIN reads the limit of a call. Any number of 32 bits may be given;
@@ -168,9 +171,10 @@ enum diffuse_status diffuse_graph_arcs_from(struct diffuse_graph *graph, uint32_
 
 /* The best value from a source to a target, as a code, the least hops of a walk of tight arcs (each gives its head's best
    value from its tail's), and the route along least parents: hops + 1 vertices, from the source on. The room after them is
-   left as it is. If the room is shorter, code and hops are written all the same. A search needs lists of all vertices, which
-   the handle keeps for later routes by the same algebra, until it searches by another one or is closed; a later search
-   puts back only what the one before touched, and goes on with it if the source is the same.
+   left as it is. If the room is shorter, code and hops are written all the same. A search needs lists of all vertices, 26 bytes
+   a vertex, which the handle keeps for later routes by the same algebra, until it searches by another one or is closed; a later
+   search puts back only what the one before touched, and goes on with it if the source is the same. With factors a near route
+   is found by a search, and a far one by the factors.
    CLOSED, NO_VERTEX, NO_ALGEBRA, MEMORY, NO_ROUTE, NO_ROOM or DONE. */
 DIFFUSE_CHECKED((1))
 enum diffuse_status diffuse_graph_route(struct diffuse_graph *graph, enum diffuse_algebra algebra, uint64_t limit,
@@ -183,6 +187,17 @@ DIFFUSE_CHECKED((1))
 enum diffuse_status diffuse_graph_tree(struct diffuse_graph *graph, enum diffuse_algebra algebra, uint64_t limit,
     const uint32_t *sources, size_t n_sources, uint64_t *codes, size_t n_codes, uint32_t *hops, size_t n_hops,
     uint32_t *parents, size_t n_parents);
+
+/* The vertices that are reached from the nearest of the sources, the best first: in the first *count places of each list, in
+   this order, the vertices, and the code, the hops and the parent of each, as diffuse_graph_tree gives them. The places after
+   them are left as they are. A list of no places is not wanted. If a list has fewer places, *count is written all the same, and
+   the lists are left as they are. The time is that of what is reached; lists of all vertices are made by the first such call,
+   and kept in the handle until one is by another algebra, or it is closed. Factors are not used.
+   CLOSED, NO_VERTEX, NO_ALGEBRA, MEMORY, NO_ROOM or DONE. */
+DIFFUSE_CHECKED((1))
+enum diffuse_status diffuse_graph_near(struct diffuse_graph *graph, enum diffuse_algebra algebra, uint64_t limit,
+    const uint32_t *sources, size_t n_sources, uint32_t *vertices, size_t n_vertices, uint64_t *codes, size_t n_codes,
+    uint32_t *hops, size_t n_hops, uint32_t *parents, size_t n_parents, size_t *count);
 
 /* Whether these lists are what diffuse_graph_tree writes, by the same algebra, limit and sources. Nothing is solved: each line
    is judged by itself and those of the vertices with an arc to it. If the lists are not the tree, the status is WRONG; then
@@ -201,13 +216,25 @@ DIFFUSE_CHECKED((1))
 enum diffuse_status diffuse_graph_table(struct diffuse_graph *graph, enum diffuse_algebra algebra, uint64_t limit,
     const uint32_t *sources, size_t n_sources, const uint32_t *targets, size_t n_targets, uint64_t *codes, size_t n_codes);
 
-/* Factors the graph for an algebra. Afterwards routes, trees and tables of this handle, and of those opened from it by
-   diffuse_graph_share later, use the factors, and answer the same in a fraction of the time. SHORTEST and WITHIN at every limit
-   have one factoring, HOPS has its own, and the other algebras have none. It takes the time of some tens of routes. Once it is
-   done, a second call for the same factoring does nothing. After a refusal calls search, as before, and a second call tries again.
+/* Factors the graph for an algebra. Afterwards far routes, trees and tables of this handle, and of those opened from it by
+   diffuse_graph_share later, use the factors, and answer the same in a fraction of the time. A route is searched for first, among
+   some hundred vertices, and asked of the factors if that does not decide it; so each handle also keeps the lists of a search,
+   26 bytes a vertex, beside its own lists for the factors, 21 bytes a vertex. SHORTEST and WITHIN at every limit have one
+   factoring, HOPS has its own, and the other algebras have none. It takes the time of some tens of routes. Once it is done, a
+   second call for the same factoring does nothing. After a refusal calls search, as before, and a second call tries again.
    CLOSED, NO_ALGEBRA, NO_FACTORS, MEMORY, HEAVY, DENSE or DONE. */
 DIFFUSE_CHECKED((1))
 enum diffuse_status diffuse_graph_factor(struct diffuse_graph *graph, enum diffuse_algebra algebra);
+
+/* Opens a second, closed handle with the graph of these arcs on the same vertices, factored as the first one is, over the links
+   that it has: in a fraction of the time of diffuse_graph_factor. Weights may change, and arcs may go, come back or have others
+   beside them; there is always a link between two vertices that an arc of the first graph joins, this way or that. If the first
+   graph is not factored, neither is the second. The first handle goes on to answer about its own graph, and so do those that
+   share it, on other threads meanwhile too. The arcs may be changed or freed afterwards.
+   OPEN, CLOSED, LIMIT, NO_VERTEX, MEMORY, HEAVY, NO_LINK or DONE. */
+DIFFUSE_CHECKED((1, 4))
+enum diffuse_status diffuse_graph_reweigh(struct diffuse_graph *graph, const struct diffuse_arc *arcs, size_t n_arcs,
+    struct diffuse_graph *second);
 
 /* The library's version, as DIFFUSE_VERSION is made: 1.1.0 is 10100. */
 uint32_t diffuse_version(void);
@@ -227,6 +254,10 @@ enum diffuse_status diffuse_graph_arcs_from_of_library(struct diffuse_graph *gra
 DIFFUSE_CHECKED((1, 6, 7))
 enum diffuse_status diffuse_graph_route_of_library(struct diffuse_graph *graph, enum diffuse_algebra algebra, uint64_t limit, uint32_t source, uint32_t target,
     uint64_t *code, uint32_t *hops, uint32_t *room, size_t n_room) __asm__("diffuse_graph_route");
+DIFFUSE_CHECKED((1, 14))
+enum diffuse_status diffuse_graph_near_of_library(struct diffuse_graph *graph, enum diffuse_algebra algebra, uint64_t limit, const uint32_t *sources, size_t n_sources,
+    uint32_t *vertices, size_t n_vertices, uint64_t *codes, size_t n_codes, uint32_t *hops, size_t n_hops, uint32_t *parents, size_t n_parents,
+    size_t *count) __asm__("diffuse_graph_near");
 DIFFUSE_CHECKED((1, 12, 13))
 enum diffuse_status diffuse_graph_check_of_library(struct diffuse_graph *graph, enum diffuse_algebra algebra, uint64_t limit, const uint32_t *sources, size_t n_sources,
     const uint64_t *codes, size_t n_codes, const uint32_t *hops, size_t n_hops, const uint32_t *parents, size_t n_parents,
@@ -243,6 +274,7 @@ enum diffuse_status diffuse_graph_check_of_library(struct diffuse_graph *graph, 
 #define diffuse_graph_read_of_library diffuse_graph_read
 #define diffuse_graph_arcs_from_of_library diffuse_graph_arcs_from
 #define diffuse_graph_route_of_library diffuse_graph_route
+#define diffuse_graph_near_of_library diffuse_graph_near
 #define diffuse_graph_check_of_library diffuse_graph_check
 #endif
 
@@ -269,6 +301,15 @@ enum diffuse_status DIFFUSE_NULLABLE(diffuse_graph_route)(struct diffuse_graph *
 }
 
 DIFFUSE_INLINE DIFFUSE_CHECKED((1))
+enum diffuse_status DIFFUSE_NULLABLE(diffuse_graph_near)(struct diffuse_graph *graph, enum diffuse_algebra algebra,
+    uint64_t limit, const uint32_t *sources, size_t n_sources, uint32_t *vertices, size_t n_vertices, uint64_t *codes,
+    size_t n_codes, uint32_t *hops, size_t n_hops, uint32_t *parents, size_t n_parents, size_t *count) {
+    size_t unwanted = 0;
+    return diffuse_graph_near_of_library(graph, algebra, limit, sources, n_sources, vertices, n_vertices, codes, n_codes, hops,
+        n_hops, parents, n_parents, count ? count : &unwanted);
+}
+
+DIFFUSE_INLINE DIFFUSE_CHECKED((1))
 enum diffuse_status DIFFUSE_NULLABLE(diffuse_graph_check)(struct diffuse_graph *graph, enum diffuse_algebra algebra,
     uint64_t limit, const uint32_t *sources, size_t n_sources, const uint64_t *codes, size_t n_codes, const uint32_t *hops,
     size_t n_hops, const uint32_t *parents, size_t n_parents, uint32_t *vertex, uint32_t *reason) {
@@ -281,6 +322,7 @@ enum diffuse_status DIFFUSE_NULLABLE(diffuse_graph_check)(struct diffuse_graph *
 #define diffuse_graph_read diffuse_graph_read_nullable
 #define diffuse_graph_arcs_from diffuse_graph_arcs_from_nullable
 #define diffuse_graph_route diffuse_graph_route_nullable
+#define diffuse_graph_near diffuse_graph_near_nullable
 #define diffuse_graph_check diffuse_graph_check_nullable
 #endif
 
@@ -318,6 +360,7 @@ static inline const char *diffuse_status_text(int32_t status) {
     case DIFFUSE_STATUS_TOO_MANY: return "more lines than the problem line announces";
     case DIFFUSE_STATUS_TOO_FEW: return "fewer lines than the problem line announces";
     case DIFFUSE_STATUS_NO_ALGEBRA: return "no such algebra, or a limit above 9223372036854775808";
+    case DIFFUSE_STATUS_NO_LINK: return "an arc between vertices between which the factors have no link";
     default: return "no status";
     }
 }

@@ -50,6 +50,15 @@ struct tree {
     std::vector<std::uint32_t> hops, parents;
 };
 
+// The vertices that are reached, the best first, and in the same places what diffuse_graph_near writes of them.
+struct near_lines {
+    std::vector<std::uint32_t> vertices;
+    std::vector<std::uint64_t> codes;
+    std::vector<std::uint32_t> hops, parents;
+
+    void resize(std::size_t n) { vertices.resize(n), codes.resize(n), hops.resize(n), parents.resize(n); }
+};
+
 // The first vertex whose line is wrong, and why; vertex 0 if none is.
 struct verdict {
     std::uint32_t vertex = 0, reason = 0;
@@ -136,6 +145,22 @@ public:
         return found;
     }
 
+    near_lines near(const std::vector<std::uint32_t>& sources, algebra by = DIFFUSE_ALGEBRA_SHORTEST, std::uint64_t limit = 0) {
+        near_lines found;
+        std::size_t count = vertices() < 1024 ? vertices() : 1024;
+        auto ask = [&] {
+            std::size_t n = count;
+            found.resize(n);
+            return diffuse_graph_near(&at, by, limit, sources.data(), sources.size(), found.vertices.data(), n, found.codes.data(), n,
+                                      found.hops.data(), n, found.parents.data(), n, &count);
+        };
+        auto status = ask();
+        if (status == DIFFUSE_STATUS_NO_ROOM) status = ask();
+        expect(status);
+        found.resize(count);
+        return found;
+    }
+
     verdict check(const diffuse::tree& lines, const std::vector<std::uint32_t>& sources, algebra by = DIFFUSE_ALGEBRA_SHORTEST,
                   std::uint64_t limit = 0) {
         verdict wrong;
@@ -159,6 +184,13 @@ public:
         auto status = diffuse_graph_factor(&at, by);
         if (status != DIFFUSE_STATUS_DENSE && status != DIFFUSE_STATUS_HEAVY) expect(status);
         return status;
+    }
+
+    // A second graph with these arcs on the same vertices, factored as this one is, over its links.
+    graph reweigh(const std::vector<arc>& arcs) {
+        graph second;
+        expect(diffuse_graph_reweigh(&at, arcs.data(), arcs.size(), &second.at));
+        return second;
     }
 };
 

@@ -7,6 +7,7 @@
 #include <stdio.h>
 #include <stdlib.h>
 #include <string.h>
+#include <time.h>
 
 static const struct diffuse_arc ARCS[] = {{1, 2, 4}, {1, 3, 1}, {3, 2, 2}, {2, 4, 5}, {3, 4, 8}, {4, 4, 0}, {5, 1, 3}};
 static const char TEXT[] = "p sp 5 7\na 1 2 4\na 1 3 1\na 3 2 2\na 2 4 5\na 3 4 8\na 4 4 0\na 5 1 3\n";
@@ -30,18 +31,19 @@ void *__wrap_realloc(void *p, size_t n) { return refused() ? NULL : __real_reall
 struct places {
     struct diffuse_graph graph, second;
     uint64_t line, code, codes[5], table[4];
+    size_t count;
     uint32_t length, route[5], hops[5], parents[5], vertex, reason;
 };
 
 static const uint32_t SOURCE = 1, SOURCES[] = {1, 5}, TARGETS[] = {4, 1};
 
-/* A ROUTE_AFTER is asked of a handle that keeps the searcher of another algebra, and a ROUTE_ON of one that keeps a searcher
+/* A ROUTE_AFTER or NEAR_AFTER is asked of a handle that keeps the searcher of another algebra, and a ROUTE_ON of one that keeps a searcher
    by its own, from another source. From BY_FACTORS on the calls are made after the graph was factored. */
-enum call { OPEN, READ, SHARE, ROUTE, ROUTE_AFTER, ROUTE_ON, TREE, CHECK, TABLE, FACTOR, BY_FACTORS,
-            SHARE_FACTORS = BY_FACTORS, ROUTE_BY, TREE_BY, TABLE_BY, CALLS };
+enum call { OPEN, READ, SHARE, ROUTE, ROUTE_AFTER, ROUTE_ON, TREE, NEAR, NEAR_AFTER, CHECK, TABLE, FACTOR, BY_FACTORS,
+            SHARE_FACTORS = BY_FACTORS, ROUTE_BY, TREE_BY, TABLE_BY, REWEIGH, CALLS };
 static const char *const NAMES[] = {"open", "read", "share", "route", "route after another algebra", "route from another source",
-                                    "tree", "check", "table", "factor", "share of factors", "route by factors", "tree by factors",
-                                    "table by factors"};
+                                    "tree", "near", "near after another algebra", "check", "table", "factor", "share of factors", "route by factors", "tree by factors",
+                                    "table by factors", "reweigh"};
 
 /* A route before that of a call, to places of its own. */
 static int32_t route_before(enum diffuse_algebra algebra, uint32_t source, struct places *p) {
@@ -50,11 +52,17 @@ static int32_t route_before(enum diffuse_algebra algebra, uint32_t source, struc
     return diffuse_graph_route(&p->graph, algebra, 0, source, 4, &code, &hops, room, 5);
 }
 
+/* What is reached from 1, or what is near by another algebra before that. */
+static int32_t near_by(enum diffuse_algebra algebra, struct places *p) {
+    return diffuse_graph_near(&p->graph, algebra, 0, &SOURCE, 1, p->route, 5, p->codes, 5, p->hops, 5, p->parents, 5, &p->count);
+}
+
 static int is_route(enum call call) { return call == ROUTE || call == ROUTE_AFTER || call == ROUTE_ON || call == ROUTE_BY; }
 
-/* Whether a route that was asked is that from 1 to 4. */
+/* Whether a route that was asked is that from 1 to 4, and what is near its vertices. */
 static int is_right(enum call call, const struct places *p) {
     static const uint32_t WANTED[] = {1, 3, 2, 4};
+    if (call == NEAR || call == NEAR_AFTER) return p->count == 4 && p->codes[3] == 8 && memcmp(p->route, WANTED, sizeof WANTED) == 0;
     return !is_route(call) || (p->code == 8 && p->length == 3 && memcmp(p->route, WANTED, sizeof WANTED) == 0);
 }
 
@@ -67,8 +75,10 @@ static int32_t make(enum call call, struct places *p) {
         return diffuse_graph_route(&p->graph, DIFFUSE_ALGEBRA_SHORTEST, 0, 1, 4, &p->code, &p->length, p->route, 5);
     case TREE: case TREE_BY: return diffuse_graph_tree(&p->graph, DIFFUSE_ALGEBRA_SHORTEST, 0, &SOURCE, 1, p->codes, 5, p->hops, 5,
                                          p->parents, 5);
+    case NEAR: case NEAR_AFTER: return near_by(DIFFUSE_ALGEBRA_SHORTEST, p);
     case TABLE: case TABLE_BY: return diffuse_graph_table(&p->graph, DIFFUSE_ALGEBRA_SHORTEST, 0, SOURCES, 2, TARGETS, 2, p->table, 4);
     case FACTOR: return diffuse_graph_factor(&p->graph, DIFFUSE_ALGEBRA_SHORTEST);
+    case REWEIGH: return diffuse_graph_reweigh(&p->graph, ARCS, 6, &p->second);
     default: return diffuse_graph_check(&p->graph, DIFFUSE_ALGEBRA_SHORTEST, 0, &SOURCE, 1, p->codes, 5, p->hops, 5,
                                         p->parents, 5, &p->vertex, &p->reason);
     }
@@ -77,10 +87,11 @@ static int32_t make(enum call call, struct places *p) {
 /* Places as they are before a call: with an open graph unless the call opens it, factored if the call is by factors, and with a
    tree if one is checked. */
 static int begin(enum call call, struct places *p) {
-    *p = (struct places){.graph = DIFFUSE_CLOSED, .second = DIFFUSE_CLOSED, .line = 7, .code = 7, .length = 7, .vertex = 7};
+    *p = (struct places){.graph = DIFFUSE_CLOSED, .second = DIFFUSE_CLOSED, .line = 7, .code = 7, .count = 7, .length = 7, .vertex = 7};
     if (call > READ && make(OPEN, p) != DIFFUSE_STATUS_DONE) return 0;
     if (call == ROUTE_AFTER && route_before(DIFFUSE_ALGEBRA_WIDEST, 1, p) != DIFFUSE_STATUS_DONE) return 0;
     if (call == ROUTE_ON && route_before(DIFFUSE_ALGEBRA_SHORTEST, 5, p) != DIFFUSE_STATUS_DONE) return 0;
+    if (call == NEAR_AFTER && near_by(DIFFUSE_ALGEBRA_WIDEST, p) != DIFFUSE_STATUS_DONE) return 0;
     if (call >= BY_FACTORS && make(FACTOR, p) != DIFFUSE_STATUS_DONE) return 0;
     return call != CHECK || make(TREE, p) == DIFFUSE_STATUS_DONE;
 }
@@ -133,8 +144,9 @@ static void *ask(void *at) {
     struct places p = {.graph = *(struct diffuse_graph *)at, .second = DIFFUSE_CLOSED};
     long right = 0;
     for (int i = 0; i < 1000; i++) {
-        int done = make(ROUTE, &p) == DIFFUSE_STATUS_DONE && make(TREE, &p) == DIFFUSE_STATUS_DONE && make(CHECK, &p) == DIFFUSE_STATUS_DONE
-            && make(TABLE, &p) == DIFFUSE_STATUS_DONE;
+        int done = make(ROUTE, &p) == DIFFUSE_STATUS_DONE && make(NEAR, &p) == DIFFUSE_STATUS_DONE && make(TREE, &p) == DIFFUSE_STATUS_DONE
+            && make(CHECK, &p) == DIFFUSE_STATUS_DONE && make(TABLE, &p) == DIFFUSE_STATUS_DONE && (i % 100 || make(REWEIGH, &p) == DIFFUSE_STATUS_DONE);
+        diffuse_graph_close(&p.second);
         right += done && p.code == 8 && p.length == 3 && p.codes[1] == 3 && p.parents[3] == 2 && p.table[2] == 11;
     }
     end(&p);
@@ -168,6 +180,8 @@ static int opens(long count) {
         if (!begin(i % 2 ? READ : CHECK, &p)) return 1;
         if (i % 2 && make(READ, &p) != DIFFUSE_STATUS_DONE) return 1;
         if (i % 3 == 0 && make(FACTOR, &p) != DIFFUSE_STATUS_DONE) return 1;
+        if (i % 3 == 0 && make(REWEIGH, &p) != DIFFUSE_STATUS_DONE) return 1;
+        diffuse_graph_close(&p.second);
         if (make(SHARE, &p) != DIFFUSE_STATUS_DONE || route_before(DIFFUSE_ALGEBRA_WIDEST, 1, &p) != DIFFUSE_STATUS_DONE) return 1;
         if (make(ROUTE, &p) != DIFFUSE_STATUS_DONE || !is_right(ROUTE, &p)) return 1;
         end(&p);
@@ -178,10 +192,72 @@ static int opens(long count) {
     return 0;
 }
 
+enum { SIDE = 150, PLACES = SIDE * SIDE };
+
+/* A square of streets that lead both ways, with weights from 1 to 1000. */
+static int open_square(struct diffuse_graph *graph) {
+    static struct diffuse_arc arcs[4 * PLACES];
+    size_t n = 0;
+    uint32_t weight = 1;
+    for (uint32_t v = 1; v <= PLACES; v++) {
+        uint32_t next[] = {v % SIDE ? v + 1 : v, v + SIDE <= PLACES ? v + SIDE : v};
+        for (int i = 0; i < 2; i++) {
+            if (next[i] == v) continue;
+            weight = weight * 31 % 997 + 1;
+            arcs[n++] = (struct diffuse_arc){v, next[i], weight};
+            arcs[n++] = (struct diffuse_arc){next[i], v, weight};
+        }
+    }
+    return diffuse_graph_open(PLACES, arcs, n, graph);
+}
+
+/* The sum of the codes and of the vertices of routes from the middle of each row to a place so many further on; 0 if a call fails. */
+static uint64_t routes_on(struct diffuse_graph *graph, uint32_t further) {
+    static uint32_t room[PLACES];
+    uint64_t sum = 0, code;
+    for (uint32_t row = 0; row < SIDE; row++) {
+        uint32_t source = row * SIDE + SIDE / 2, target = (source + further) % PLACES + 1, hops;
+        if (diffuse_graph_route(graph, DIFFUSE_ALGEBRA_SHORTEST, 0, source, target, &code, &hops, room, PLACES) != DIFFUSE_STATUS_DONE) return 0;
+        sum += code;
+        for (uint32_t i = 0; i <= hops; i++) sum = sum * 31 + room[i];
+    }
+    return sum;
+}
+
+/* The least time of near routes, of nine runs after the first, which makes the lists. */
+static clock_t near_time(struct diffuse_graph *graph) {
+    clock_t least = 0;
+    for (int run = 0; run < 10; run++) {
+        clock_t before = clock();
+        routes_on(graph, 2);
+        clock_t took = clock() - before;
+        if (run == 1 || (run > 1 && took < least)) least = took;
+    }
+    return least;
+}
+
+/* Routes by factors are those by searches, near and far, and near ones take hardly longer. */
+static int near(void) {
+    struct diffuse_graph searched = DIFFUSE_CLOSED, factored = DIFFUSE_CLOSED;
+    if (open_square(&searched) != DIFFUSE_STATUS_DONE || open_square(&factored) != DIFFUSE_STATUS_DONE) return 1;
+    if (diffuse_graph_factor(&factored, DIFFUSE_ALGEBRA_SHORTEST) != DIFFUSE_STATUS_DONE) return 1;
+    for (uint32_t further = 1; further < PLACES; further = further * 5 + 1) {
+        uint64_t sum = routes_on(&searched, further);
+        if (sum == 0 || sum != routes_on(&factored, further)) printf("other routes, %u places on\n", further);
+    }
+    clock_t by_search = near_time(&searched), by_factors = near_time(&factored);
+    if (by_factors > 2 * by_search) printf("slower: %ld clocks, and %ld by searches\n", (long)by_factors, (long)by_search);
+    printf("near\n");
+    diffuse_graph_close(&searched);
+    diffuse_graph_close(&factored);
+    return 0;
+}
+
 int main(int count, char **words) {
     if (count == 2 && strcmp(words[1], "refusals") == 0) return refusals();
     if (count == 2 && strcmp(words[1], "threads") == 0) return threads();
     if (count == 3 && strcmp(words[1], "opens") == 0) return opens(atol(words[2]));
-    fprintf(stderr, "usage: c_library refusals | threads | opens COUNT\n");
+    if (count == 2 && strcmp(words[1], "near") == 0) return near();
+    fprintf(stderr, "usage: c_library refusals | threads | opens COUNT | near\n");
     return 2;
 }

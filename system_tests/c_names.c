@@ -115,16 +115,18 @@ static void tables(void) {
     IS(DIFFUSE_STATUS_DONE, diffuse_graph_table(&graph, DIFFUSE_ALGEBRA_SHORTEST, 0, SOURCES, 0, TARGETS, 3, codes, 0));
 }
 
-/* Opens a star, from vertex 1 to all others, or a chain through all vertices. */
-static void open_shape(int is_star, uint32_t n, uint32_t weight) {
+/* The arcs of a star, from vertex 1 to all others, or of a chain through all vertices. */
+static const struct diffuse_arc *shape(int is_star, uint32_t n, uint32_t weight) {
     static struct diffuse_arc arcs[65536];
     for (uint32_t v = 2; v <= n; v++) {
         arcs[v - 2].tail = is_star ? 1 : v - 1;
         arcs[v - 2].head = v;
         arcs[v - 2].weight = weight;
     }
-    open(arcs, n, n - 1);
+    return arcs;
 }
+
+static void open_shape(int is_star, uint32_t n, uint32_t weight) { open(shape(is_star, n, weight), n, n - 1); }
 
 /* Opens a graph with an arc from each vertex to each, itself included. */
 static void open_complete(uint32_t n) {
@@ -171,6 +173,41 @@ static void factors(void) {
     IS(DIFFUSE_STATUS_DONE, diffuse_graph_factor(&graph, DIFFUSE_ALGEBRA_HOPS));
     IS(DIFFUSE_STATUS_DONE, route(DIFFUSE_ALGEBRA_HOPS, 0, 1, 3, 8));
     IS(2, code);
+}
+
+static enum diffuse_status reweigh(const struct diffuse_arc *arcs, size_t n) { return diffuse_graph_reweigh(&graph, arcs, n, &second); }
+
+/* Whether the shortest walk from 1 to 4 has this code, by a handle. */
+static int is_far(struct diffuse_graph *handle, uint64_t wanted) {
+    return diffuse_graph_route(handle, DIFFUSE_ALGEBRA_SHORTEST, 0, 1, 4, &code, &hops, room, 8) == DIFFUSE_STATUS_DONE && code == wanted;
+}
+
+/* Other weights over the links of a graph, and why it is refused. The first handle answers as before. */
+static void reweighs(void) {
+    static const struct diffuse_arc OTHERS[] = {{4, 2, 0}, {1, 2, 9}, {1, 2, 1}, {2, 4, 30}, {3, 4, 3}, {1, 3, 40}}, FAR[] = {{4, 5, 1}};
+    diffuse_graph_close(&graph);
+    IS(DIFFUSE_STATUS_CLOSED, reweigh(OTHERS, 6));
+    open(FIVE, 5, 7);
+    IS(DIFFUSE_STATUS_DONE, reweigh(FAR, 1)); /* there are no factors */
+    IS(DIFFUSE_STATUS_OPEN, reweigh(OTHERS, 6));
+    diffuse_graph_close(&second);
+    for (int i = 0; i < 2; i++) {
+        IS(DIFFUSE_STATUS_DONE, diffuse_graph_factor(&graph, i ? DIFFUSE_ALGEBRA_SHORTEST : DIFFUSE_ALGEBRA_HOPS));
+        IS(DIFFUSE_STATUS_NO_VERTEX, reweigh(BAD, 2));
+        IS(DIFFUSE_STATUS_NO_LINK, reweigh(FAR, 1));
+        IS(DIFFUSE_STATUS_DONE, reweigh(OTHERS, 6));
+        IS(1, is_far(&second, 31) && is_far(&graph, 8) && diffuse_graph_arcs(&second) == 6);
+        diffuse_graph_close(&second);
+    }
+    IS(DIFFUSE_STATUS_DONE, reweigh(NULL, 0));
+    IS(0, is_far(&second, 31));
+    diffuse_graph_close(&second);
+    open_shape(0, 65536, 1);
+    IS(DIFFUSE_STATUS_DONE, diffuse_graph_factor(&graph, DIFFUSE_ALGEBRA_SHORTEST));
+    IS(DIFFUSE_STATUS_HEAVY, reweigh(shape(0, 65536, 4294967295u), 65535));
+    IS(DIFFUSE_STATUS_DONE, reweigh(shape(0, 65536, 2), 65535));
+    IS(1, is_far(&second, 6) && is_far(&graph, 3));
+    diffuse_graph_close(&second);
 }
 
 /* What a share of a factored handle and each call of factor take: a share makes neither rows nor factors, and a call only
@@ -271,8 +308,11 @@ static void limits(void) {
     open(FIVE, DIFFUSE_MAX_VERTICES, 7);
     IS(DIFFUSE_STATUS_DONE, route(DIFFUSE_ALGEBRA_WITHIN, DIFFUSE_MAX_LIMIT, 1, 4, 8));
     IS(DIFFUSE_STATUS_NO_ALGEBRA, route(DIFFUSE_ALGEBRA_WITHIN, DIFFUSE_MAX_LIMIT + 1, 1, 4, 8));
-    diffuse_graph_close(&graph);
     is_short_of_memory = 1;
+    IS(DIFFUSE_STATUS_LIMIT, reweigh(many, DIFFUSE_MAX_ARCS + 1));
+    IS(DIFFUSE_STATUS_NO_VERTEX, reweigh(many, 1));
+    IS(DIFFUSE_STATUS_MEMORY, reweigh(FIVE, 7));
+    diffuse_graph_close(&graph);
     IS(DIFFUSE_STATUS_MEMORY, diffuse_graph_open(5, FIVE, 7, &graph));
     IS(DIFFUSE_STATUS_MEMORY, read("p sp 2 1\na 1 2 3\n"));
     IS(DIFFUSE_STATUS_LIMIT, diffuse_graph_open(DIFFUSE_MAX_VERTICES + 1, FIVE, 7, &graph));
@@ -319,6 +359,40 @@ static void arcs_from(void) {
     IS(0, memcmp(arcs, WANTED, sizeof arcs));
     IS(5, diffuse_graph_vertices(&graph));
     IS(7, diffuse_graph_arcs(&graph));
+}
+
+/* What is reached from vertex 1 within a limit, the best first, the places after it, and lists that are too short. */
+struct near_places {
+    uint64_t codes[5];
+    size_t count;
+    uint32_t vertices[6], hops[6], parents[6];
+};
+
+static enum diffuse_status ask_near(enum diffuse_algebra algebra, uint32_t from, size_t n, struct near_places *p) {
+    return diffuse_graph_near(&graph, algebra, 3, &from, 1, p->vertices, n, p->codes, 5, p->hops, 3, p->parents, 5, &p->count);
+}
+
+static void near_lists(void) {
+    static const struct near_places NONE = {{7, 7, 7, 7, 7}, 7, {7, 7, 7, 7, 7, 7}, {7, 7, 7, 7, 7, 7}, {7, 7, 7, 7, 7, 7}};
+    static const struct near_places WANTED = {{0, 1, 3, 7, 7}, 3, {1, 3, 2, 7, 7, 7}, {0, 1, 2, 7, 7, 7}, {0, 1, 3, 7, 7, 7}};
+    struct near_places p = NONE;
+    diffuse_graph_close(&graph);
+    IS(DIFFUSE_STATUS_CLOSED, ask_near(DIFFUSE_ALGEBRA_WITHIN, 1, 5, &p));
+    open(FIVE, 5, 7);
+    IS(DIFFUSE_STATUS_NO_VERTEX, ask_near((enum diffuse_algebra)6, 6, 5, &p));
+    IS(DIFFUSE_STATUS_NO_ALGEBRA, ask_near((enum diffuse_algebra)6, 1, 5, &p));
+    IS(7, p.count);
+    IS(DIFFUSE_STATUS_NO_ROOM, ask_near(DIFFUSE_ALGEBRA_WITHIN, 1, 2, &p));
+    IS(3, p.count);
+    p.count = 7;
+    IS(0, memcmp(&p, &NONE, sizeof p));
+    IS(DIFFUSE_STATUS_DONE, ask_near(DIFFUSE_ALGEBRA_WITHIN, 1, 3, &p));
+    IS(0, memcmp(&p, &WANTED, sizeof p));
+    p = NONE;
+    IS(DIFFUSE_STATUS_DONE, diffuse_graph_near(&graph, DIFFUSE_ALGEBRA_WITHIN, 3, &ONE, 1, NULL, 0, p.codes, 5, NULL, 0, NULL, 0, NULL));
+    IS(0, memcmp(p.codes, WANTED.codes, sizeof p.codes));
+    IS(DIFFUSE_STATUS_DONE, diffuse_graph_near(&graph, DIFFUSE_ALGEBRA_SHORTEST, 0, NULL, 0, NULL, 0, NULL, 0, NULL, 0, NULL, 0, &p.count));
+    IS(0, p.count);
 }
 
 /* NULL for each single number that is not wanted: the others are written, and the statuses are the same. */
@@ -399,7 +473,7 @@ static void texts(void) {
                 IS(0, strcmp(diffuse_reason_text((uint32_t)i), diffuse_reason_text(0)));
         }
     }
-    IS(21, statuses);
+    IS(22, statuses);
     IS(6, reasons);
 }
 
@@ -410,11 +484,13 @@ static void *all(void *nothing) {
     reasons();
     rooms();
     arcs_from();
+    near_lists();
     unwanted_numbers();
     empty_lists();
     unwanted_lists();
     factors();
     factors_once();
+    reweighs();
     texts();
     IS(DIFFUSE_VERSION, diffuse_version());
     diffuse_graph_close(&graph);

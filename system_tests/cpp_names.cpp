@@ -37,12 +37,18 @@ int main() {
     expect(graph.route(1, 4, DIFFUSE_ALGEBRA_HOPS).code == 2, "route by hops");
     auto tree = graph.tree({1});
     expect(tree.codes == codes({0, 3, 1, 8, DIFFUSE_UNREACHED}) && tree.parents == numbers({0, 3, 1, 2, 0}), "tree");
+    auto near = graph.near({1}, DIFFUSE_ALGEBRA_WITHIN, 3);
+    expect(near.vertices == numbers({1, 3, 2}) && near.codes == codes({0, 1, 3}) && near.hops == numbers({0, 1, 2}), "near");
+    expect(near.parents == numbers({0, 1, 3}) && graph.near({}).vertices.empty(), "parents of near");
     expect(graph.check(tree, {1}).right(), "check of the tree");
     tree.codes[3] = 9;
     auto verdict = graph.check(tree, {1});
     expect(verdict.vertex == 4 && verdict.reason == DIFFUSE_REASON_NOT_BEST, "check of another tree");
     expect(graph.table({1, 5}, {4, 1}) == codes({8, 0, 11, 3}) && graph.table({1}, {}).empty(), "table");
     expect(graph.factor() == DIFFUSE_STATUS_DONE && graph.route(1, 4).vertices == numbers({1, 3, 2, 4}), "factor");
+    diffuse::graph other = graph.reweigh({{1, 2, 1}, {2, 4, 30}, {3, 4, 3}});
+    expect(other.route(1, 4).code == 31 && graph.route(1, 4).code == 8, "reweigh");
+    expect(refused(DIFFUSE_STATUS_NO_LINK, [&] { graph.reweigh({{4, 5, 1}}); }), "no link");
     diffuse::graph second = graph.share();
     std::thread([&] { expect(second.route(1, 4).code == 8, "share"); }).join();
     diffuse::graph moved = std::move(graph);
@@ -62,5 +68,8 @@ int main() {
     std::string text = "p sp 100 99\n";
     for (int v = 1; v < 100; v++) text += "a " + std::to_string(v) + " " + std::to_string(v + 1) + " 1\n";
     expect(diffuse::graph::read(text).route(1, 100).hops() == 99, "a long route");
+    std::vector<diffuse::arc> star;
+    for (std::uint32_t v = 2; v <= 3000; v++) star.push_back({1, v, v});
+    expect(diffuse::graph(3000, star).near({1}).vertices.back() == 3000, "near with many places");
     return wrong;
 }

@@ -1,5 +1,7 @@
 mod Filling
 mod Judged
+mod NearLines
+mod NearLists
 mod Spelled
 mod Tabling
 mod Telling

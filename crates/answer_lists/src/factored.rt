@@ -1,6 +1,6 @@
 //! A factored graph, and what asks it.
 
-ghost use Rattle.std.specs.Prelude.{◌≡◌, ◌∷◌, [], IfOk};
+ghost use Rattle.std.specs.Prelude.{◌≡◌, ◌∷◌, [], IfOk, IfErr};
 ghost use Rattle.std.specs.List.{All};
 ghost use Rattle.road_graph.specs.GraphData.{HasVertex};
 ghost use Rattle.path_algebra.specs.Carried.{IsCarried};
@@ -8,13 +8,14 @@ ghost use Rattle.path_algebra.specs.Counted.{cost_of};
 ghost use Rattle.path_algebra.specs.Walks.{AreBest};
 ghost use Rattle.route_tree.specs.Tree.{IsTree};
 ghost use Rattle.route_tree.specs.Found.{IsPairFound};
+ghost use Rattle.factor_routes.specs.Reweighing.{IsCause};
 ghost use Rattle.answer_lists.specs.Table.{AreRowCodes};
 ghost use Rattle.answer_lists.specs.Tree.{HasLowCodes};
 
 use crate::codes::{code_for, push_code};
-use factor_routes::{RoadFactors, RouteAsker};
+use factor_routes::{RoadFactors, RouteAsker, Unweighed};
 use path_algebra::{Cost, Labels, PathAlgebra, laws_hold};
-use road_graph::{InGraph, Memory, Vertex};
+use road_graph::{InGraph, Memory, OutGraph, Vertex};
 use route_tree::{Found, Tree};
 use std::alloc::{AllocError, Global};
 use std::marker::Model;
@@ -61,6 +62,25 @@ impl Factored {
             factors,
             asker: None,
         })
+    }
+
+    /// The first owner of the factors of another graph, over the same links.
+    pub(crate) fn reweighed(
+        &self,
+        alloc: Global,
+        graph: &OutGraph,
+        rows: &InGraph,
+    ) -> Result<Factored, Unweighed>
+        requires { rows.now ≡ graph.now }
+        ensures roads { IfOk result (λ f. f.roads ≡ graph.now) }
+        ensures cost { IfOk result (λ f. f.algebra.cost ≡ self.now.algebra.cost) }
+        ensures cause { IfErr result (λ why. IsCause why graph.now self.now) }
+    {
+        let factors = self.factors.reweighed(alloc, graph, rows)?;
+        match Factored::of(alloc, factors) {
+            Ok(factored) => Ok(factored),
+            Err(AllocError) => Err(Unweighed::Memory),
+        }
     }
 
     /// What an arc costs.

@@ -4,12 +4,12 @@ ghost use Rattle.std.specs.Prelude.{◌≡◌, IfOk, IsTrue};
 ghost use Rattle.road_graph.specs.GraphData.{HasVertex};
 ghost use Rattle.path_algebra.specs.Choices.{Under};
 ghost use Rattle.path_plain.specs.Searcher.{IsOfSameGraph};
-ghost use Rattle.route_tree.specs.Found.{IsPairFound};
+ghost use Rattle.route_tree.specs.Found.{IsFoundIfNear, IsPairFound};
 ghost use Rattle.answer_lists.specs.Kept.{IsKeptFor, algebra_of, graph_of};
 
 use path_algebra::{AlgebraChoice, Hops, PathAlgebra, Reach, Reliable, Shortest, Widest, Within};
 use road_graph::{InGraph, Memory, OutGraph, Vertex};
-use route_tree::{Found, PairSearcher};
+use route_tree::{Found, Nearby, PairSearcher};
 use std::alloc::Global;
 
 /// A searcher for the pairs of a graph, by one of the given algebras.
@@ -103,6 +103,31 @@ impl KeptSearcher {
             KeptSearcher::Hops(searcher) => searcher.solve(graph, rows, ends),
             KeptSearcher::Reliable(searcher) => searcher.solve(graph, rows, ends),
             KeptSearcher::Within(searcher) => searcher.solve(graph, rows, ends),
+        }
+    }
+    /// The same by a search that takes no more than `most` entries from its queue: it may leave the pair undecided.
+    pub(crate) fn route_near(
+        &mut self,
+        graph: &OutGraph,
+        rows: &InGraph,
+        ends: (Vertex, Vertex),
+        most: u32,
+    ) -> Result<Nearby, Memory>
+        requires graph { graph.now ≡ graph_of self.old }
+        requires rows { rows.now ≡ graph.now }
+        requires source { HasVertex graph.now ends.0 }
+        requires target { HasVertex graph.now ends.1 }
+        ensures found { Under (algebra_of self.old) (λ V A. IfOk result
+            (IsFoundIfNear A graph.now ends.0 ends.1)) }
+        ensures graph { graph_of self.new ≡ graph_of self.old }
+    {
+        match self {
+            KeptSearcher::Shortest(searcher) => searcher.solve_near(graph, rows, ends, most),
+            KeptSearcher::Widest(searcher) => searcher.solve_near(graph, rows, ends, most),
+            KeptSearcher::Reach(searcher) => searcher.solve_near(graph, rows, ends, most),
+            KeptSearcher::Hops(searcher) => searcher.solve_near(graph, rows, ends, most),
+            KeptSearcher::Reliable(searcher) => searcher.solve_near(graph, rows, ends, most),
+            KeptSearcher::Within(searcher) => searcher.solve_near(graph, rows, ends, most),
         }
     }
 }

@@ -1,4 +1,4 @@
-//! Routes, trees, tables and the check of a tree, in lists of numbers that a caller lends.
+//! Routes, trees, tables, what is near and the check of a tree, in lists of numbers that a caller lends.
 #![tactic(auto)]
 
 mod codes;
@@ -6,7 +6,11 @@ mod factored;
 mod factoring;
 mod judging;
 mod kept_searcher;
+mod kept_tree;
 mod lines;
+mod near;
+mod near_lists;
+mod reweigh;
 mod route;
 mod shared_graph;
 mod sources;
@@ -16,10 +20,13 @@ mod tree;
 
 pub use factoring::factor_graph;
 pub use judging::check_tree;
+pub use near::answer_near;
+pub use reweigh::reweigh_graph;
 pub use route::answer_route;
 pub use shared_graph::SharedGraph;
 pub use status::{
-    DENSE, DONE, HEAVY, MEMORY, NO_ALGEBRA, NO_FACTORS, NO_ROOM, NO_ROUTE, NO_VERTEX, WRONG,
+    DENSE, DONE, HEAVY, MEMORY, NO_ALGEBRA, NO_FACTORS, NO_LINK, NO_ROOM, NO_ROUTE, NO_VERTEX,
+    WRONG,
 };
 pub use table::answer_table;
 pub use tree::answer_tree;

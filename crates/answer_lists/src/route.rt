@@ -13,8 +13,12 @@ use crate::shared_graph::SharedGraph;
 use crate::status::{DONE, MEMORY, NO_ALGEBRA, NO_ROOM, NO_ROUTE, NO_VERTEX};
 use path_algebra::{AlgebraChoice, with_algebra};
 use road_graph::{InGraph, Memory, Vertex};
-use route_tree::Found;
+use route_tree::{Found, Nearby};
 use std::alloc::Global;
+
+/// How many entries a search on a factored graph takes from its queue, at most, before the factors are asked: most near routes
+/// need fewer, and a far one loses some hundredths of its time.
+const NEAR: u32 = 500;
 
 /// Takes the factors out for an algebra, if there are any.
 fn take_factored(chosen: AlgebraChoice, shared: &mut SharedGraph) -> Option<Factored>
@@ -44,6 +48,33 @@ fn query(
     with_algebra!(chosen, |algebra| factored.route(alloc, algebra, rows, ends))
 }
 
+/// The best code and the route on a factored graph: by a search if it decides the pair soon, and else by the factors.
+fn find_factored(
+    alloc: Global,
+    chosen: AlgebraChoice,
+    shared: &mut SharedGraph,
+    factored: &mut Factored,
+    rows: &InGraph,
+    source: Vertex,
+    target: Vertex,
+) -> Result<Option<Found>, Memory>
+    requires carried { Under chosen (λ V A. IsCarried A (cost_of factored.old.algebra.cost)) }
+    requires roads { factored.old.roads ≡ shared.old }
+    requires rows { rows.now ≡ shared.old }
+    requires source { HasVertex shared.old source }
+    requires target { HasVertex shared.old target }
+    ensures graph { shared.new ≡ shared.old }
+    ensures kept { factored.new ≡ factored.old }
+    ensures found { Under chosen (λ V A. IfOk result (IsPairFound A shared.old source target)) }
+{
+    match shared.search_near(alloc, chosen, rows, (source, target), NEAR) {
+        Ok(Nearby::Decided(found)) => Ok(found),
+        Ok(Nearby::Undecided) | Err(Memory) => {
+            query(alloc, chosen, factored, rows, (source, target))
+        }
+    }
+}
+
 /// The best code and the route; none if no walk to the target has a value.
 fn find(
     alloc: Global,
@@ -61,13 +92,13 @@ fn find(
     let Some(mut factored) = take_factored(chosen, shared) else {
         return shared.search(alloc, chosen, &rows, (source, target));
     };
-    let found = query(alloc, chosen, &mut factored, &rows, (source, target));
+    let found = find_factored(alloc, chosen, shared, &mut factored, &rows, source, target);
     shared.put_factored(factored);
     found
 }
 
 /// Copies the vertices of a route into the room.
-fn copy(list: &[Vertex], room: &mut [u32])
+pub(crate) fn copy(list: &[Vertex], room: &mut [u32])
     requires { length list.now ≤ length room.old }
     ensures list { take (length list.now) room.new ≡ list.now }
     ensures rest { drop (length list.now) room.new ≡ drop (length list.now) room.old }

@@ -6,22 +6,24 @@ ghost use Rattle.path_algebra.specs.Carried.{IsCarried};
 ghost use Rattle.path_algebra.specs.Choices.{Under};
 ghost use Rattle.path_algebra.specs.Counted.{cost_of, CountsFit};
 ghost use Rattle.road_graph.specs.GraphData.{HasVertex};
-ghost use Rattle.route_tree.specs.Found.{IsPairFound};
+ghost use Rattle.route_tree.specs.Found.{IsFoundIfNear, IsPairFound};
 ghost use Rattle.answer_lists.specs.Kept.{IsKeptFor};
+ghost use Rattle.answer_lists.specs.KeptTree.{IsTreeKeptFor, graph_in};
 ghost use Rattle.factor_routes.specs.declared.road_factors.Unfactored.TheVariants.{Dense, Heavy};
 
 use crate::factored::Factored;
 use crate::kept_searcher::KeptSearcher;
+use crate::kept_tree::KeptTree;
 use factor_routes::{RoadFactors, Unfactored};
 use path_algebra::{AlgebraChoice, Cost, PathAlgebra};
 use road_graph::{InGraph, Memory, OutGraph, Vertex};
-use route_tree::Found;
+use route_tree::{Found, Nearby};
 use std::alloc::{AllocError, Global};
 use std::marker::Model;
 use std::sync::Arc;
 
 /// An owner of a graph, of its rows by head if they were made, and of its factors by weights and by arcs if it was factored;
-/// and the searcher of its last route, which no other owner has.
+/// and the searchers of its last route and its last near answer, which no other owner has.
 #[derive(Drop)]
 pub struct SharedGraph {
     graph: Arc<OutGraph>,
@@ -29,6 +31,7 @@ pub struct SharedGraph {
     by_weights: Option<Factored>,
     by_arcs: Option<Factored>,
     searcher: Option<Box<KeptSearcher>>,
+    tree: Option<KeptTree>,
 }
 
 impl Model for SharedGraph {
@@ -38,6 +41,7 @@ impl Model for SharedGraph {
     ghost use Rattle.path_algebra.specs.declared.counted_sums.Cost.TheVariants.{Weight, One};
     ghost use Rattle.answer_lists.specs.Factoring.{IsFactorOf};
     ghost use Rattle.answer_lists.specs.Kept.{graph_of};
+    ghost use Rattle.answer_lists.specs.KeptTree.{graph_in};
 
     ghost Value = { GraphData };
 
@@ -46,7 +50,8 @@ impl Model for SharedGraph {
     ghost invariant = { λ s. IfSome s.rows (λ r. arc_value r ≡ arc_value s.graph)
         × IfSome s.by_weights (IsFactorOf (arc_value s.graph) Weight)
         × IfSome s.by_arcs (IsFactorOf (arc_value s.graph) One)
-        × IfSome s.searcher (λ k. graph_of k.value ≡ arc_value s.graph) };
+        × IfSome s.searcher (λ k. graph_of k.value ≡ arc_value s.graph)
+        × IfSome s.tree (λ k. graph_in k ≡ arc_value s.graph) };
 }
 
 /// One more owner of what is there.
@@ -71,6 +76,7 @@ impl SharedGraph {
             by_weights: None,
             by_arcs: None,
             searcher: None,
+            tree: None,
         })
     }
 
@@ -91,6 +97,7 @@ impl SharedGraph {
             by_weights,
             by_arcs,
             searcher: None,
+            tree: None,
         })
     }
 
@@ -113,6 +120,17 @@ impl SharedGraph {
         let again = Arc::try_clone(&rows)?;
         self.rows = Some(rows);
         Ok(again)
+    }
+
+    /// The factors for arcs that cost this, if there are any.
+    pub(crate) fn factored(&self, cost: Cost) -> Option<&Factored>
+        ensures roads { IfSome result (λ f. f.now.roads ≡ self.now) }
+        ensures cost { IfSome result (λ f. f.now.algebra.cost ≡ cost) }
+    {
+        match cost {
+            Cost::Weight => self.by_weights.as_ref(),
+            Cost::One => self.by_arcs.as_ref(),
+        }
     }
 
     /// Whether it is factored for arcs that cost this.
@@ -194,6 +212,53 @@ impl SharedGraph {
         let found = searcher.route(&self.graph, rows, ends);
         self.searcher = Some(searcher);
         found
+    }
+
+    /// The same by a search that takes no more than `most` entries from its queue: it may leave the pair undecided. Where that
+    /// search stopped the next one from the same source goes on.
+    pub(crate) fn search_near(
+        &mut self,
+        alloc: Global,
+        chosen: AlgebraChoice,
+        rows: &InGraph,
+        ends: (Vertex, Vertex),
+        most: u32,
+    ) -> Result<Nearby, Memory>
+        requires rows { rows.now ≡ self.old }
+        requires source { HasVertex self.old ends.0 }
+        requires target { HasVertex self.old ends.1 }
+        ensures kept { self.new ≡ self.old }
+        ensures found { Under chosen (λ V A. IfOk result (IsFoundIfNear A self.old ends.0 ends.1)) }
+    {
+        let mut searcher = self.take_searcher(alloc, chosen)?;
+        let found = searcher.route_near(&self.graph, rows, ends, most);
+        self.searcher = Some(searcher);
+        found
+    }
+
+    /// Takes the searcher for trees out if it serves this algebra. Else it is freed, and another is made.
+    pub(crate) fn take_tree(
+        &mut self,
+        alloc: Global,
+        chosen: AlgebraChoice,
+    ) -> Result<KeptTree, Memory>
+        ensures kept { self.new ≡ self.old }
+        ensures tree { IfOk result (IsTreeKeptFor chosen self.old) }
+    {
+        if let Some(mut tree) = self.tree.take() {
+            if tree.turn_to(chosen) {
+                return Ok(tree);
+            }
+        }
+        KeptTree::new(alloc, chosen, &self.graph)
+    }
+
+    /// Puts a searcher for trees in.
+    pub(crate) fn put_tree(&mut self, tree: KeptTree)
+        requires { graph_in tree ≡ self.old }
+        ensures { self.new ≡ self.old }
+    {
+        self.tree = Some(tree);
     }
 
     /// Factors the graph for arcs that cost this, unless that is done.

@@ -20,3 +20,5 @@ pub const NO_FACTORS: i32 = 9;
 pub const NO_VERTEX: i32 = 17;
 /// The number names no algebra, or its limit is too great.
 pub const NO_ALGEBRA: i32 = 43;
+/// An arc joins vertices between which factors have no link.
+pub const NO_LINK: i32 = 44;

@@ -20,7 +20,7 @@ use route_tree::{Tree, labels_and_trees_agree};
 use std::alloc::Global;
 use tree_search::solve_with_tree;
 
-fn hops_for(hops: Option<u32>) -> u32
+pub(crate) fn hops_for(hops: Option<u32>) -> u32
     ensures { result ≡ number_for hops }
 {
     match hops {
@@ -29,7 +29,7 @@ fn hops_for(hops: Option<u32>) -> u32
     }
 }
 
-fn parent_for(parent: Option<Vertex>) -> u32
+pub(crate) fn parent_for(parent: Option<Vertex>) -> u32
     ensures { result ≡ number_for parent }
 {
     match parent {

@@ -1,4 +1,5 @@
 mod ArcsOut
 mod FaultNumbers
 mod LentArcs
+mod Refusing
 mod Values

@@ -1,4 +1,5 @@
 pub mod Holding
 pub mod Leaving
 pub mod Lent
+pub mod Reweighing
 pub mod Texts

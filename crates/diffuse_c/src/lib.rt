@@ -1,4 +1,4 @@
-//! The engine for callers in C: a graph behind a handle, routes, trees and tables by six algebras, and whether a tree is right.
+//! The engine for callers in C: a graph behind a handle, routes, trees, tables and what is near by six algebras, and whether a tree is right.
 #![tactic(auto)]
 
 ghost use Rattle.std.specs.Prelude.{◌≡◌};
@@ -11,10 +11,12 @@ mod held;
 mod joining;
 mod leaving;
 mod loose;
+mod near;
 mod opening;
 mod owners;
 mod questions;
 mod reading;
+mod reweigh;
 mod status;
 mod tables;
 
@@ -26,8 +28,10 @@ pub use graphs::{
 };
 pub use handle::DiffuseGraph;
 pub use leaving::diffuse_graph_arcs_from;
+pub use near::diffuse_graph_near;
 pub use questions::{diffuse_graph_check, diffuse_graph_route, diffuse_graph_tree};
 pub use reading::diffuse_graph_read;
+pub use reweigh::diffuse_graph_reweigh;
 pub use tables::diffuse_graph_table;
 
 /// The library's version: 10,000 times the first number, 100 times the second, and the third.

@@ -12,7 +12,7 @@ use road_graph::{Memory, OutGraph};
 use std::alloc::{AllocError, Global};
 
 /// The graph of these arcs. Whether there is one is found before anything is allocated.
-fn graph_of(alloc: Global, vertices: u32, arcs: &[DiffuseArc]) -> Result<OutGraph, i32>
+pub(crate) fn graph_of(alloc: Global, vertices: u32, arcs: &[DiffuseArc]) -> Result<OutGraph, i32>
     ensures graph { IfOk result (λ g. g ≡ lent vertices arcs.now) }
     ensures fits { IfOk result (λ g. Fits vertices arcs.now) }
     ensures fault { IfErr result (λ n. IsFault vertices arcs.now n) }

@@ -3,9 +3,9 @@ use crate::handle::closed;
 use crate::held::discard;
 use crate::{
     DiffuseArc, DiffuseGraph, diffuse_graph_arcs, diffuse_graph_arcs_from, diffuse_graph_check,
-    diffuse_graph_close, diffuse_graph_factor, diffuse_graph_open, diffuse_graph_read,
-    diffuse_graph_route, diffuse_graph_share, diffuse_graph_table, diffuse_graph_tree,
-    diffuse_graph_vertices, diffuse_version,
+    diffuse_graph_close, diffuse_graph_factor, diffuse_graph_near, diffuse_graph_open,
+    diffuse_graph_read, diffuse_graph_reweigh, diffuse_graph_route, diffuse_graph_share,
+    diffuse_graph_table, diffuse_graph_tree, diffuse_graph_vertices, diffuse_version,
 };
 use std::alloc::Global;
 use std::marker::Send;
@@ -162,6 +162,73 @@ fn assert_parts_of_a_tree(rt: &impl Abort, alloc: Global, handle: &mut DiffuseGr
     assert_eq!(rt; status, 0);
 }
 
+/// What is reached from 1 within a limit: a status, a count, and the vertices and codes in lists of four places, which were 7.
+fn assert_near(
+    rt: &impl Abort,
+    alloc: Global,
+    handle: &mut DiffuseGraph,
+    limit: u64,
+    wanted: (i32, usize),
+    listed: ([u32; 4], [u64; 4]),
+) {
+    let (mut vertices, mut codes, mut count) = ([7; 4], [7; 4], 7);
+    let (mut hops, mut parents) = ([7; 4], []);
+    let status = diffuse_graph_near(
+        alloc,
+        handle,
+        5,
+        limit,
+        &[1],
+        &mut vertices,
+        &mut codes,
+        &mut hops,
+        &mut parents,
+        &mut count,
+    );
+    assert_eq!(rt; (status, count), wanted);
+    assert_eq!(rt; vertices, listed.0);
+    assert_eq!(rt; codes, listed.1);
+}
+
+/// Within one limit after the other, and within one that is too great.
+fn assert_nears(rt: &impl Abort, alloc: Global, handle: &mut DiffuseGraph) {
+    assert_near(rt, alloc, handle, 8, (0, 4), ([1, 3, 2, 4], [0, 1, 3, 8]));
+    assert_near(rt, alloc, handle, 2, (0, 2), ([1, 3, 7, 7], [0, 1, 7, 7]));
+    assert_near(rt, alloc, handle, 0, (0, 1), ([1, 7, 7, 7], [0, 7, 7, 7]));
+    assert_near(rt, alloc, handle, (1 << 63) + 1, (43, 7), ([7; 4], [7; 4]));
+}
+
+/// Lists of one place are too short for what is reached by the shortest walks; it is counted, with lists or with none.
+fn assert_counts(rt: &impl Abort, alloc: Global, handle: &mut DiffuseGraph) {
+    let (mut vertices, mut count) = ([7], 7);
+    let status = diffuse_graph_near(
+        alloc,
+        handle,
+        0,
+        0,
+        &[5, 3],
+        &mut vertices,
+        &mut [],
+        &mut [],
+        &mut [],
+        &mut count,
+    );
+    assert_eq!(rt; (status, count, vertices), (2, 5, [7]));
+    let status = diffuse_graph_near(
+        alloc,
+        handle,
+        0,
+        0,
+        &[2],
+        &mut [],
+        &mut [],
+        &mut [],
+        &mut [],
+        &mut count,
+    );
+    assert_eq!(rt; (status, count), (0, 2));
+}
+
 /// The table from 1 and 5 to 4, 1 and 5, by the shortest walks.
 fn assert_table(rt: &impl Abort, alloc: Global, handle: &mut DiffuseGraph) {
     let mut codes = [0; 6];
@@ -178,6 +245,21 @@ fn assert_factored(rt: &impl Abort, alloc: Global, handle: &mut DiffuseGraph) {
     assert_routes(rt, alloc, handle);
     assert_tree(rt, alloc, handle);
     assert_table(rt, alloc, handle);
+}
+
+/// Over the links of a factored handle another is opened, in which 1 to 4 is 6 long; an arc from 4 to 5 has no link.
+fn assert_reweighed(rt: &impl Abort, alloc: Global, handle: &mut DiffuseGraph) {
+    let mut other = closed();
+    let status = diffuse_graph_reweigh(alloc, handle, &[arc(4, 5, 1)], &mut other);
+    assert_eq!(rt; status, 44);
+    let arcs = [arc(1, 2, 1), arc(2, 4, 5), arc(2, 1, 7)];
+    assert_eq!(rt; diffuse_graph_reweigh(alloc, handle, &arcs, &mut other), 0);
+    assert_eq!(rt; diffuse_graph_reweigh(alloc, handle, &arcs, &mut other), 5);
+    let mut codes = [0];
+    let status = diffuse_graph_table(alloc, &mut other, 0, 0, &[1], &[4], &mut codes);
+    assert_eq!(rt; (status, codes), (0, [6]));
+    assert_table(rt, alloc, handle);
+    close(alloc, other);
 }
 
 /// A check of lists from vertex 1 by the shortest walks has this status, and reports this vertex and reason.
@@ -266,9 +348,12 @@ fn a_handle_is_opened_shared_asked_and_closed(rt: HostRuntime) {
     assert_pairs(&rt, alloc, &mut second);
     assert_tree(&rt, alloc, &mut second);
     assert_parts_of_a_tree(&rt, alloc, &mut second);
+    assert_nears(&rt, alloc, &mut second);
+    assert_counts(&rt, alloc, &mut second);
     assert_checks(&rt, alloc, &mut second);
     assert_table(&rt, alloc, &mut second);
     assert_factored(&rt, alloc, &mut second);
+    assert_reweighed(&rt, alloc, &mut second);
     close(alloc, second);
     assert_reads(&rt, alloc);
     assert_eq!(&rt; diffuse_version(), 10_100);

@@ -11,6 +11,7 @@ use denote.Param.Send.{IsSend, owning_send, part_keyless, sendable}
 use Rattle.std.proofs.Crossing.{crosses, frees}
 use Rattle.road_graph.specs.GraphData.{GraphData}
 use Rattle.answer_lists.specs.contracts.kept_searcher.KeptSearcher as kept
+use Rattle.answer_lists.specs.contracts.kept_tree.KeptTree as kept_tree
 use Rattle.diffuse_c.specs.Holding.{held_at, shared_row, the_heap}
 use Rattle.diffuse_c.specs.contracts.held.Held.{the_row, the_type}
 
@@ -21,8 +22,11 @@ lies R s null_ptr x = tt
 searching : IsSend kept.the_row
 searching = search (sendable, crosses) depth 60 fits 100000
 
+growing : IsSend kept_tree.the_row
+growing = search (sendable, crosses) depth 60 fits 100000
+
 inside : IsSend shared_row
-inside = search (sendable, crosses, searching) depth 60 fits 100000
+inside = search (sendable, crosses, searching, growing) depth 60 fits 100000
 
 keyless : (p : Ptr) (x : Option (GraphData)) → Keyless (held_at p x)
 keyless p None = tt

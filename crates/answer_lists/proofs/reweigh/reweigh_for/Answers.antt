@@ -1,0 +1,21 @@
+use Rattle.std.proofs.Common.{rules, ◌≡◌, ◌∙◌, ℕ, inl, inr, refl, subst}
+use Rattle.std.specs.Prelude.{pos}
+use Rattle.road_graph.specs.GraphData.{GraphData}
+use Rattle.path_algebra.specs.Counted.{cost_of, CountsFit}
+use Rattle.path_factors.specs.Reweighing.{JoinsNoOthers}
+use Rattle.factor_routes.specs.Reweighing.{IsCause}
+use Rattle.factor_routes.specs.declared.reweighed.Unweighed.{Unweighed}
+use Rattle.answer_lists.proofs.reweigh.reweigh_for.Goals as goal
+
+pub returns-in-Err-Heavy-clause-refusal : goal.returns-in-Err-Heavy-clause-refusal
+returns-in-Err-Heavy-clause-refusal c =
+    let f = c.in-Some.factored.now in
+    let here : c.graph.result.now ≡ c.args.second.now = c.graph.ensures ∙ c.rows.ensures.kept in
+    let cause = subst (λ (why : Unweighed). IsCause why c.graph.result.now f) c.in-Err-Heavy.field-0-is c.in-Err-Heavy.ensures.cause in
+    let none = subst (λ (g : GraphData). (k : ℕ) → CountsFit g (cost_of f.algebra.cost) k → ⊥) here cause in
+    let link : pos 8 ≡ pos 44 → JoinsNoOthers c.args.second.now c.args.first.now → ⊥ = search rules in
+    record {
+      one_of = inr (inl refl);
+      heavy = λ _. (f.algebra.cost, none);
+      link = link;
+    }

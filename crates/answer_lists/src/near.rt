@@ -1,0 +1,126 @@
+//! What is reached from the nearest of some sources, the best first, written to four lists of the caller.
+
+ghost use Rattle.std.specs.Prelude.{◌≡◌, ◌∷◌, [], IfOk, map, pos};
+ghost use Rattle.std.specs.List.{All};
+ghost use Rattle.road_graph.specs.GraphData.{HasVertex};
+ghost use Rattle.path_algebra.specs.Choices.{OfAlgebra, Under};
+ghost use Rattle.answer_lists.specs.Answers.{IsFound, IsOneOf};
+ghost use Rattle.answer_lists.specs.KeptTree.{code_in, graph_in, tree_in, vertices_in};
+ghost use Rattle.answer_lists.specs.Near.{AreLongOrNone, AreNearLines, AreNearLists, IsReachedCount, IsSameAfter, ReportsNearRefusals, hops_at, parent_at};
+
+use crate::kept_tree::KeptTree;
+use crate::near_lists::write_lists;
+use crate::shared_graph::SharedGraph;
+use crate::sources::{are_vertices, vertices_of};
+use crate::status::{MEMORY, NO_ALGEBRA, NO_VERTEX};
+use path_algebra::AlgebraChoice;
+use road_graph::{Memory, Vertex};
+use std::alloc::Global;
+
+/// Searches by the chosen algebra. The searcher is taken out of the graph.
+fn search(
+    alloc: Global,
+    chosen: AlgebraChoice,
+    shared: &mut SharedGraph,
+    sources: &[Vertex],
+) -> Result<KeptTree, Memory>
+    requires { All (HasVertex shared.old) sources.now }
+    ensures graph { shared.new ≡ shared.old }
+    ensures roads { IfOk result (λ k. graph_in k ≡ shared.old) }
+    ensures vertices { IfOk result (λ k. All (HasVertex shared.old) (vertices_in k)) }
+    ensures lines { Under chosen (λ V A. IfOk result (λ k. AreNearLines A shared.old sources.now
+        (vertices_in k) (map (code_in k) (vertices_in k))
+        (map (hops_at (tree_in k)) (vertices_in k))
+        (map (parent_at (tree_in k)) (vertices_in k)))) }
+{
+    let kept = shared.take_tree(alloc, chosen)?;
+    kept.solve(shared.graph(), sources)
+}
+
+/// Searches by the chosen algebra, counts what is reached, and writes it if there is room.
+fn answer(
+    alloc: Global,
+    chosen: AlgebraChoice,
+    shared: &mut SharedGraph,
+    sources: &[u32],
+    vertices: &mut [u32],
+    codes: &mut [u64],
+    hops: &mut [u32],
+    parents: &mut [u32],
+    count: &mut usize,
+) -> i32
+    requires { All (HasVertex shared.old) sources.now }
+    ensures graph { shared.new ≡ shared.old }
+    ensures count { IsFound result → Under chosen (λ V A. IsReachedCount A shared.old sources.now
+        count.new) }
+    ensures lists { result ≡ pos 0 → Under chosen (λ V A. AreNearLists A shared.old sources.now
+        count.new vertices.new codes.new hops.new parents.new) }
+    ensures rest { result ≡ pos 0 → IsSameAfter count.new vertices.old vertices.new ×
+        IsSameAfter count.new codes.old codes.new × IsSameAfter count.new hops.old hops.new ×
+        IsSameAfter count.new parents.old parents.new }
+    ensures short { result ≡ pos 2 → AreLongOrNone count.new vertices.old codes.old hops.old
+        parents.old → ⊥ }
+    ensures long { result ≡ pos 0 → AreLongOrNone count.new vertices.old codes.old hops.old
+        parents.old }
+    ensures kept { (result ≡ pos 0 → ⊥) → (vertices.new ≡ vertices.old) × (codes.new ≡ codes.old) ×
+        (hops.new ≡ hops.old) × (parents.new ≡ parents.old) }
+    ensures place { (IsFound result → ⊥) → count.new ≡ count.old }
+    ensures status { IsOneOf (0 ∷ 2 ∷ 3 ∷ []) result }
+{
+    let Ok(list) = vertices_of(alloc, sources) else {
+        return MEMORY;
+    };
+    let Ok(kept) = search(alloc, chosen, shared, &list) else {
+        return MEMORY;
+    };
+    *count = kept.reached().len();
+    let status = write_lists(&kept, vertices, codes, hops, parents);
+    shared.put_tree(kept);
+    status
+}
+
+/// Finds by the algebra of a number what is reached from the nearest of some sources, and writes it, the best first, if each
+/// source is a vertex, there is such an algebra, and each list has a place for each vertex that is reached.
+///
+/// A list without places is not wanted. If a list is too short, the count is still written.
+#[tactic(auto, using(path_algebra::proofs::Chosen::of_numbered))]
+pub fn answer_near(
+    alloc: Global,
+    number: u32,
+    limit: u64,
+    shared: &mut SharedGraph,
+    sources: &[u32],
+    vertices: &mut [u32],
+    codes: &mut [u64],
+    hops: &mut [u32],
+    parents: &mut [u32],
+    count: &mut usize,
+) -> i32
+    ensures graph { shared.new ≡ shared.old }
+    ensures count { IsFound result → OfAlgebra number limit (λ V A. IsReachedCount A shared.old
+        sources.now count.new) }
+    ensures lists { result ≡ pos 0 → OfAlgebra number limit (λ V A. AreNearLists A shared.old
+        sources.now count.new vertices.new codes.new hops.new parents.new) }
+    ensures rest { result ≡ pos 0 → IsSameAfter count.new vertices.old vertices.new ×
+        IsSameAfter count.new codes.old codes.new × IsSameAfter count.new hops.old hops.new ×
+        IsSameAfter count.new parents.old parents.new }
+    ensures short { result ≡ pos 2 → AreLongOrNone count.new vertices.old codes.old hops.old
+        parents.old → ⊥ }
+    ensures long { result ≡ pos 0 → AreLongOrNone count.new vertices.old codes.old hops.old
+        parents.old }
+    ensures kept { (result ≡ pos 0 → ⊥) → (vertices.new ≡ vertices.old) × (codes.new ≡ codes.old) ×
+        (hops.new ≡ hops.old) × (parents.new ≡ parents.old) }
+    ensures place { (IsFound result → ⊥) → count.new ≡ count.old }
+    ensures refusals { ReportsNearRefusals shared.old number limit sources.now result }
+    ensures status { IsOneOf (0 ∷ 2 ∷ 3 ∷ 17 ∷ 43 ∷ []) result }
+{
+    if !are_vertices(shared.graph(), sources) {
+        return NO_VERTEX;
+    }
+    let Some(chosen) = AlgebraChoice::numbered(number, limit) else {
+        return NO_ALGEBRA;
+    };
+    answer(
+        alloc, chosen, shared, sources, vertices, codes, hops, parents, count,
+    )
+}

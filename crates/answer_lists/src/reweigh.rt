@@ -1,0 +1,59 @@
+//! A graph that is factored over the links of another one.
+
+ghost use Rattle.std.specs.Prelude.{◌≡◌, IfOk, IfErr};
+ghost use Rattle.answer_lists.specs.Reweighing.{IsRefusal};
+
+use crate::shared_graph::SharedGraph;
+use crate::status::{HEAVY, MEMORY, NO_LINK};
+use factor_routes::Unweighed;
+use path_algebra::Cost;
+use road_graph::OutGraph;
+use std::alloc::Global;
+
+/// Factors a second graph for arcs that cost this, over the links of the first, if that is factored for them.
+fn reweigh_for(
+    alloc: Global,
+    cost: Cost,
+    first: &SharedGraph,
+    second: &mut SharedGraph,
+) -> Result<(), i32>
+    ensures kept { second.new ≡ second.old }
+    ensures refusal { IfErr result (IsRefusal second.old first.now) }
+{
+    let Some(factored) = first.factored(cost) else {
+        return Ok(());
+    };
+    let Ok(rows) = second.rows(alloc) else {
+        return Err(MEMORY);
+    };
+    match factored.reweighed(alloc, second.graph(), &rows) {
+        Ok(reweighed) => {
+            second.put_factored(reweighed);
+            Ok(())
+        }
+        Err(Unweighed::Memory) => Err(MEMORY),
+        Err(Unweighed::Heavy) => Err(HEAVY),
+        Err(Unweighed::Unfit(_)) => Err(NO_LINK),
+    }
+}
+
+/// The first owner of a graph, which is factored for each cost for which another one is, over the links of that: in a
+/// fraction of the time in which it would be factored by itself.
+///
+/// What is asked of it has the same answers, whether there are factors or not. Else the status says why: it is `MEMORY`,
+/// `HEAVY`, or `NO_LINK` for an arc between vertices with no link.
+pub fn reweigh_graph(
+    alloc: Global,
+    first: &SharedGraph,
+    graph: OutGraph,
+) -> Result<SharedGraph, i32>
+    ensures graph { IfOk result (λ s. s ≡ graph) }
+    ensures refusal { IfErr result (IsRefusal graph first.now) }
+{
+    let Ok(mut second) = SharedGraph::of(alloc, graph) else {
+        return Err(MEMORY);
+    };
+    reweigh_for(alloc, Cost::Weight, first, &mut second)?;
+    reweigh_for(alloc, Cost::One, first, &mut second)?;
+    Ok(second)
+}

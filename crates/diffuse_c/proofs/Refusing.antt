@@ -1,0 +1,44 @@
+-- Why no handle is opened over the factors of another one: the graph of the arcs is not factored over the links.
+use Rattle.std.proofs.Common.{◌≡◌, ℕ, inl, inr, List, [], ◌∷◌, Option, Some, arith, subst, sym}
+use Rattle.std.specs.Prelude.{ℤ, pos}
+use Rattle.road_graph.specs.GraphData.{GraphData}
+use Rattle.answer_lists.specs.Answers.{IsOneOf}
+use Rattle.answer_lists.specs.Reweighing.{IsHeavy, IsRefusal}
+use Rattle.diffuse_c.specs.declared.arcs.DiffuseArc.{DiffuseArc}
+use Rattle.diffuse_c.specs.Holding.{OfGraph}
+use Rattle.diffuse_c.specs.Lent.{Fits, lent}
+use Rattle.diffuse_c.specs.Reweighing.{IsReweighFault}
+
+same_number : (n : ℤ) (i j : ℕ) → n ≡ pos i → n ≡ pos j → i ≡ j
+same_number n i j a b = cc
+
+-- one of three numbers is no other one
+is_no_other : (i j k m : ℕ) (n : ℤ) → IsOneOf (i ∷ j ∷ k ∷ []) n → (i ≡ m → ⊥) → (j ≡ m → ⊥) → (k ≡ m → ⊥) → n ≡ pos m → ⊥
+is_no_other i j k m n (inl x) a b c e = a (same_number n i m x e)
+is_no_other i j k m n (inr (inl x)) a b c e = b (same_number n j m x e)
+is_no_other i j k m n (inr (inr (inl x))) a b c e = c (same_number n k m x e)
+is_no_other i j k m n (inr (inr (inr none))) a b c e = none
+
+listed : (n : ℤ) → IsOneOf (3 ∷ 8 ∷ 44 ∷ []) n → IsOneOf (3 ∷ 8 ∷ 16 ∷ 17 ∷ 44 ∷ []) n
+listed n (inl x) = inl x
+listed n (inr (inl x)) = inr (inl x)
+listed n (inr (inr (inl x))) = inr (inr (inr (inr (inl x))))
+listed n (inr (inr (inr none))) = absurd none
+
+pub not_factored : (g : GraphData) (arcs : List DiffuseArc) (n : ℤ) → Fits g.vertices arcs → IsRefusal (lent g.vertices arcs) g n → IsReweighFault g arcs n
+not_factored g arcs n fits r =
+    let no_limit : n ≡ pos 16 → ⊥ = is_no_other 3 8 44 16 n r.one_of (λ e. omega (arith, e)) (λ e. omega (arith, e)) (λ e. omega (arith, e)) in
+    let no_vertex : n ≡ pos 17 → ⊥ = is_no_other 3 8 44 17 n r.one_of (λ e. omega (arith, e)) (λ e. omega (arith, e)) (λ e. omega (arith, e)) in
+    record {
+      one_of = listed n r.one_of;
+      limit = (λ e. absurd (no_limit e), λ large. absurd (fits.small large));
+      bad = (λ e. absurd (no_vertex e), λ bad. absurd (bad.1 fits.roads));
+      roads = λ _. fits.roads;
+      heavy = r.heavy;
+      link = r.link;
+    }
+
+-- so it is said of the graph that a handle has
+pub heavy_of : (roads : Option GraphData) (g : GraphData) (arcs : List DiffuseArc) (n : ℤ) → roads ≡ Some g → IsReweighFault g arcs n →
+    OfGraph roads (λ (h : GraphData). n ≡ pos 8 → IsHeavy (lent h.vertices arcs))
+heavy_of roads g arcs n is fault = subst (λ (r : Option GraphData). OfGraph r (λ (h : GraphData). n ≡ pos 8 → IsHeavy (lent h.vertices arcs))) (sym is) fault.heavy

@@ -15,7 +15,7 @@ FILES = {
     "wrong": "p ans ss 1 shortest\ns 1\nd 1 0 0 0\nd 2 3 2 3\nd 3 1 1 1\nd 4 9 2 3\nu 5\n",
     "own": SHORTEST.replace("shortest", "own"), "30": "s 1\n", "31": "p ans ss 1 fastest\n", "32": "p ans ss 1 shortest\nq 1 2\n",
     "33": "p ans ss 1 shortest\ns\n", "34": "p ans ss 1 shortest\ns x\n", "35": "p ans ss 1048577 shortest\n", "36": "p ans ss 1 shortest\n",
-    "-": FROM_ONE, "pairs": "p aux sp p2p 2\nq 4 1\nq 1 4\n", "lists": "p aux sp ms 2\nm 5 4\nm 1\n", "none.ss": "p aux sp ss 0\n",
+    "-": FROM_ONE, "pairs": "p aux sp p2p 2\nq 4 1\nq 1 4\n", "three": "p aux sp p2p 3\nq 1 4\nq 4 1\nq 5 5\n", "lists": "p aux sp ms 2\nm 5 4\nm 1\n", "none.ss": "p aux sp ss 0\n",
 }
 
 STDIN_TWICE = "error: only one of the files can be `-`, standard input\n"
@@ -159,7 +159,9 @@ PROGRESS = [
 
 # What is counted: under `reach` each arc that leads on once, and the message that opens.
 ACCOUNTS = [
-    ("solve g q3 --algebra reach", "p tally 3 reach\nt 1 1 7 7 7 7\nt 2 4 2 2 2 2\nt 3 5 8 8 8 8\n"),
+    *((f"solve g q3 --algebra reach {width}", "p tally 3 reach\nt 1 1 7 7 7 7\nt 2 4 2 2 2 2\nt 3 5 8 8 8 8\n")
+      for width in ("", "--width 2", "--width 64")),
+    ("solve g three --algebra reach", "p tally 3 reach\nt 1 1 7 7 7 7\nt 2 4 2 2 2 2\nt 3 5 8 8 8 8\n"),
     ("solve g pairs --algebra reach", "p tally 2 reach\nt 1 4 2 2 2 2\nt 2 1 7 7 7 7\n"),
     ("solve g lists --algebra reach --width 3", "p tally 3 reach\nt 1 5 8 8 8 8\nt 1 4 2 2 2 2\nt 2 1 7 7 7 7\n"),
     ("solve g none.ss --algebra reach", "p tally 0 reach\n"),

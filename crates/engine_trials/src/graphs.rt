@@ -93,25 +93,6 @@ pub fn two_chains(rt: &(impl Abort + AllocGlobal), walk: [u32; 8]) -> Graph {
     graph_of(rt, 8, &arcs)
 }
 
-/// This many locks, one after the other. Each is a diamond with a dear way and a free one that is an arc longer, and the dear way of a lock
-/// costs more than those of all later ones together.
-pub fn locks_of(rt: &(impl Abort + AllocGlobal), count: u32) -> Graph {
-    assert!(rt; 1 <= count && count <= 20);
-    let mut arcs = Vec::new(rt.alloc());
-    for k in 0..count {
-        let (door, dear) = (3 * k + 1, 1 << (count - 1 - k));
-        for arc in [
-            (door, door + 1, 0),
-            (door + 1, door + 3, dear),
-            (door + 1, door + 2, 0),
-            (door + 2, door + 3, 0),
-        ] {
-            arcs.push(arc).expect(rt, "memory");
-        }
-    }
-    graph_of(rt, 3 * count + 1, &arcs)
-}
-
 /// Vertices 1 to n in blocks. If memory is refused, the plan is made once more.
 pub fn blocks_of(rt: &(impl Abort + AllocGlobal), n: u32, shards: u8) -> Plan {
     assert!(rt; n <= 1_000_000);

@@ -1,9 +1,9 @@
 //! Plans, counters, and parts worked out by hand.
 ghost use Rattle.post_floor.specs.Data.{IsFresh};
 
-use crate::graphs::{Ground, ORDERS, blocks_of, chain_of, five, ground_of, locks_of, two_vertices};
-use path_algebra::{Hops, PathAlgebra, Reach, Reliable, Shortest, Widest, Within};
-use road_graph::{ArcNo, Graph, Vertex};
+use crate::graphs::{Ground, ORDERS, blocks_of, chain_of, ground_of, two_vertices};
+use path_algebra::{PathAlgebra, Shortest};
+use road_graph::{ArcNo, Vertex};
 use shard_part::{Batch, Part, Plan, PlanFault, QueueOrder, Shard, Tally};
 use std::process::Abort;
 
@@ -299,71 +299,6 @@ fn tallies_of_two_parts(rt: HostRuntime) {
     let ground = two_vertices(&rt);
     for order in ORDERS {
         assert_tallies(&rt, &mut parts_of(&rt, Shortest, &ground, order));
-    }
-}
-
-/// Asserts that the first part alone ends the diffusion, and sends nothing to two others.
-fn assert_ends_alone<A: PathAlgebra<Value = u64>>(rt: &impl Abort, parts: &mut [Part<'_, A>]) {
-    let [first, _, _] = parts else {
-        panic!(rt; "not three parts")
-    };
-    assert_handled(rt, first, 9, 2);
-    assert_ended(rt, first, true);
-    assert_label(rt, first, 1, Some(0));
-    assert_label(rt, first, 2, None);
-    assert_outgoing(rt, first, 1, 0);
-    assert_outgoing(rt, first, 2, 0);
-    assert_counts(rt, first.tally(), [1, 1, 1, 1]);
-}
-
-#[test]
-fn limit_zero_in_parts(rt: HostRuntime) {
-    let ground = ground_of(&rt, five(&rt), 3);
-    let algebra = Within::new(0).expect(&rt, "a small limit");
-    for order in ORDERS {
-        assert_ends_alone(&rt, &mut parts_of(&rt, algebra, &ground, order));
-    }
-}
-
-/// Asserts that the part of a graph in one shard ends a diffusion from vertex 1, and what each of its counters then is.
-fn assert_alone<A: PathAlgebra>(
-    rt: &(impl Abort + AllocGlobal),
-    algebra: A,
-    graph: Graph,
-    order: QueueOrder,
-    count: u64,
-) {
-    let ground = ground_of(rt, graph, 1);
-    let mut parts = parts_of(rt, algebra, &ground, order);
-    let part = parts.first_mut().expect(rt, "a part");
-    assert!(rt; part.handle(1_000_000) < 1_000_000);
-    assert_ended(rt, part, true);
-    assert_counts(rt, part.tally(), [count; 4]);
-}
-
-#[test]
-fn five_vertices_in_both_orders(rt: HostRuntime) {
-    // First come, first served: vertex 2 has 4 and then 3, and vertex 4 has 9 and then 8, so two arcs are told twice.
-    assert_alone(&rt, Shortest, five(&rt), QueueOrder::Arrival, 9);
-    // Best first: one message goes along each of the six arcs out of a reached vertex, under every algebra.
-    let best = QueueOrder::BestFirst;
-    assert_alone(&rt, Shortest, five(&rt), best, 7);
-    assert_alone(&rt, Widest, five(&rt), best, 7);
-    assert_alone(&rt, Reach, five(&rt), best, 7);
-    assert_alone(&rt, Hops, five(&rt), best, 7);
-    assert_alone(&rt, Reliable, five(&rt), best, 7);
-    // Two of the six would pass the limit.
-    assert_alone(&rt, Within { limit: 5 }, five(&rt), best, 4);
-}
-
-#[test]
-fn locks_in_both_orders(rt: HostRuntime) {
-    // First come, first served 2^(k + 2) - 3 messages, best first 4 k + 1.
-    for (count, arrival, best) in [(1, 5, 5), (2, 13, 9), (6, 253, 25), (10, 4093, 41)] {
-        let graph = locks_of(&rt, count);
-        assert_alone(&rt, Shortest, graph, QueueOrder::Arrival, arrival);
-        let graph = locks_of(&rt, count);
-        assert_alone(&rt, Shortest, graph, QueueOrder::BestFirst, best);
     }
 }
 

@@ -13,7 +13,7 @@ mod threads;
 
 use crate::graphs::{ORDERS, SHORTEST, blocks_of, five};
 use crate::parts::assert_counts;
-use path_algebra::{Hops, PathAlgebra, Reach, Reliable, Shortest, Widest, Within};
+use path_algebra::{PathAlgebra, Reach, Shortest, Widest, Within};
 use post_floor::Floor;
 use road_graph::{Graph, Vertex};
 use shard_part::{Plan, QueueOrder, Shard};
@@ -309,54 +309,9 @@ fn stations_in_turn(rt: HostRuntime) {
     assert_answer(&rt, Shortest, &blocks_of(&rt, 5, 3), 1, 200, SHORTEST);
 }
 
-/// Asserts that all stations of a diffusion from vertex 1 have ended, after this many turns.
-fn assert_all_ended<A: PathAlgebra>(
-    rt: &(impl Abort + AllocGlobal),
-    algebra: A,
-    graph: &Graph,
-    plan: &Plan,
-    order: QueueOrder,
-    turns: usize,
-) {
-    let (floor, stations) = opened(rt, algebra, graph, plan, 1, order);
-    for station in &turned(rt, &floor, stations, 1, turns) {
-        assert!(rt; station.ended());
-    }
-}
-
-#[test]
-fn ends_within_two_hundred_turns(rt: HostRuntime) {
-    for order in ORDERS {
-        assert_all_ended(&rt, Shortest, &five(&rt), &blocks_of(&rt, 5, 3), order, 200);
-    }
-}
-
 #[test]
 fn any_plan(rt: HostRuntime) {
-    for shards in [1, 2, 5, 64] {
-        let plan = blocks_of(&rt, 5, shards);
-        assert_answer(&rt, Shortest, &plan, 1024, 1000, SHORTEST);
-    }
     assert_answer(&rt, Shortest, &by_table(&rt), 2, 200, SHORTEST);
-}
-
-#[test]
-fn each_algebra(rt: HostRuntime) {
-    let plan = blocks_of(&rt, 5, 3);
-    let widest = [Some(4_294_967_296), Some(4), Some(1), Some(4), None];
-    assert_answer(&rt, Widest, &plan, 3, 200, widest);
-    let hops = [Some(0), Some(1), Some(1), Some(2), None];
-    assert_answer(&rt, Hops, &plan, 3, 200, hops);
-    let reliable = [
-        Some(1_000_000_000_000),
-        Some(4_000_000),
-        Some(1_000_000),
-        Some(20),
-        None,
-    ];
-    assert_answer(&rt, Reliable, &plan, 3, 200, reliable);
-    let near = [Some(0), Some(3), Some(1), None, None];
-    assert_answer(&rt, Within { limit: 5 }, &plan, 3, 200, near);
 }
 
 /// The answer of reachability: in every schedule each counter is one, and one more for each arc whose tail is reached.

@@ -4,7 +4,7 @@ ghost use Rattle.std.specs.List.{All};
 ghost use Rattle.station.specs.Station.{BelongsTo};
 ghost use Rattle.worker_fleet.specs.Turns.{IsOnItsFloor};
 
-use crate::graphs::{SHORTEST, blocks_of, chain_of, five};
+use crate::graphs::{SHORTEST, blocks_of, five};
 use crate::stations::{opened, peeked};
 use path_algebra::{PathAlgebra, Shortest};
 use post_floor::Floor;
@@ -102,25 +102,6 @@ fn assert_driven<A: PathAlgebra<Value = u64>>(
     assert_labels(rt, &ended, wanted);
 }
 
-/// Asserts that one worker drives a chain of this many vertices over 64 shards to its end, and that the label of each vertex is its distance.
-fn assert_chain<A: PathAlgebra<Value = u64>>(
-    rt: &(impl Abort + AllocGlobal),
-    algebra: A,
-    vertices: u32,
-) {
-    let graph = chain_of(rt, vertices, 3);
-    let plan = blocks_of(rt, vertices, 64);
-    let (floor, stations) = opened(rt, algebra, &graph, &plan, 1, QueueOrder::Arrival);
-    let stations = placed(rt, &floor, stations);
-    let back = drive(&[floor], stations, 0, 1024, 1_000_000, &OpenGate);
-    assert!(rt; back.outcome == Outcome::Ended);
-    assert!(rt; back.stations.len() == 64);
-    for arcs in 0..vertices {
-        let label = label_of(rt, &back.stations, arcs + 1);
-        assert!(rt; label == Some(u64::from(arcs) * 3));
-    }
-}
-
 /// Asserts that a gate that lets two turns pass stops a worker after two.
 fn assert_gated<A: PathAlgebra>(rt: &(impl Abort + AllocGlobal), algebra: A) {
     let graph = five(rt);
@@ -163,11 +144,6 @@ fn makes_no_turn_once_it_is_called_off(rt: HostRuntime) {
 #[test]
 fn stops_where_the_gate_closes(rt: HostRuntime) {
     assert_gated(&rt, Shortest);
-}
-
-#[test]
-fn drives_a_chain_over_64_shards(rt: HostRuntime) {
-    assert_chain(&rt, Shortest, 320);
 }
 
 #[test]

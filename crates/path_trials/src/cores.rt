@@ -64,30 +64,9 @@ impl<'g, A: PathAlgebra> Trial<'g, A> {
         self.core.token(ArcNo(a))
     }
 
-    /// Delivers the message on an arc, and says whether it had one.
-    fn deliver(&mut self, a: u32) -> bool {
-        self.core.deliver(ArcNo(a)).is_ok()
-    }
-
-    /// Accepts the signal on an arc, and says whether it had one.
-    fn accept(&mut self, a: u32) -> bool {
-        self.core.accept(ArcNo(a)).is_ok()
-    }
-
     /// Makes the event of an arc, if one is enabled, and says whether one was.
     fn step(&mut self, a: u32) -> bool {
-        if self.deliver(a) {
-            return true;
-        }
-        self.accept(a)
-    }
-
-    fn ended(&self) -> bool {
-        self.core.ended()
-    }
-
-    fn quiet(&self) -> bool {
-        self.core.quiet()
+        self.core.deliver(ArcNo(a)).is_ok() || self.core.accept(ArcNo(a)).is_ok()
     }
 
     /// The event of the least enabled arc, if there is one.
@@ -131,113 +110,138 @@ impl<'g, A: PathAlgebra> Trial<'g, A> {
             for a in 0..arcs {
                 self.step(a);
             }
-            if self.ended() {
+            if self.core.ended() {
                 return;
             }
         }
-        assert!(rt; self.ended());
+        assert!(rt; self.core.ended());
     }
 }
 
-/// Asserts what is on an arc.
-fn assert_token<A: PathAlgebra<Value = u64>>(
-    rt: &impl Abort,
-    trial: &Trial<'_, A>,
-    a: u32,
-    wanted: Token<u64>,
-) {
-    assert!(rt; trial.token(rt, a) == wanted);
+/// An event, and whether it was enabled; or what is to be seen of a core.
+#[derive(Clone, Copy)]
+enum Step {
+    Deliver(u32, bool),
+    Accept(u32, bool),
+    /// What is on an arc.
+    OnArc(u32, Token<u64>),
+    Label(u32, Option<u64>),
+    /// The arc that engages a vertex.
+    Engager(u32, Option<ArcNo>),
+    /// How many arcs out of a vertex are busy.
+    Deficit(u32, u32),
+    /// Whether the diffusion has ended, with every arc idle.
+    Ended(bool),
 }
 
-/// Asserts the labels of some vertices.
-fn assert_labels<A: PathAlgebra<Value = u64>>(
-    rt: &impl Abort,
-    trial: &Trial<'_, A>,
-    wanted: &[(u32, Option<u64>)],
-) {
-    for (v, label) in wanted {
-        assert!(rt; trial.label(rt, *v) == *label, "at {v}");
-    }
-}
-
-/// Asserts the arc that engages a vertex.
-fn assert_engager<A: PathAlgebra>(
-    rt: &impl Abort,
-    trial: &Trial<'_, A>,
-    v: u32,
-    wanted: Option<ArcNo>,
-) {
-    assert!(rt; trial.engager(rt, v) == wanted);
-}
-
-/// Asserts how many of these events happen, each in its turn.
-fn assert_run<A: PathAlgebra>(
+/// Asserts one step.
+fn assert_step<A: PathAlgebra<Value = u64>>(
     rt: &impl Abort,
     trial: &mut Trial<'_, A>,
-    events: &[Event],
-    wanted: usize,
+    step: &Step,
 ) {
-    assert!(rt; trial.core.run(events) == wanted);
+    match *step {
+        Step::Deliver(a, had) => assert!(rt; trial.core.deliver(ArcNo(a)).is_ok() == had),
+        Step::Accept(a, had) => assert!(rt; trial.core.accept(ArcNo(a)).is_ok() == had),
+        Step::OnArc(a, wanted) => assert!(rt; trial.token(rt, a) == wanted),
+        Step::Label(v, wanted) => assert!(rt; trial.label(rt, v) == wanted, "at {v}"),
+        Step::Engager(v, wanted) => assert!(rt; trial.engager(rt, v) == wanted),
+        Step::Deficit(v, wanted) => assert!(rt; trial.deficit(rt, v) == wanted),
+        Step::Ended(wanted) => {
+            assert!(rt; trial.core.ended() == wanted);
+            assert!(rt; trial.core.quiet() == wanted);
+        }
+    }
 }
 
-/// Asserts how many arcs out of a vertex are busy.
-fn assert_deficit<A: PathAlgebra>(rt: &impl Abort, trial: &Trial<'_, A>, v: u32, wanted: u32) {
-    assert!(rt; trial.deficit(rt, v) == wanted);
+/// Asserts steps, one after the other.
+fn assert_steps<A: PathAlgebra<Value = u64>>(
+    rt: &impl Abort,
+    trial: &mut Trial<'_, A>,
+    steps: &[Step],
+) {
+    for step in steps {
+        assert_step(rt, trial, step);
+    }
 }
 
-/// Asserts whether an arc has a message, which is delivered then.
-fn assert_deliver<A: PathAlgebra>(rt: &impl Abort, trial: &mut Trial<'_, A>, a: u32, wanted: bool) {
-    assert!(rt; trial.deliver(a) == wanted);
+/// Asserts the steps of a fresh core.
+fn assert_from_start<A: PathAlgebra<Value = u64>>(
+    rt: &(impl Abort + AllocGlobal),
+    algebra: A,
+    graph: &Graph,
+    steps: &[Step],
+) {
+    let mut trial = Trial::open(rt, algebra, graph);
+    assert_steps(rt, &mut trial, steps);
 }
 
-/// Asserts whether an arc has a signal, which is accepted then.
-fn assert_accept<A: PathAlgebra>(rt: &impl Abort, trial: &mut Trial<'_, A>, a: u32, wanted: bool) {
-    assert!(rt; trial.accept(a) == wanted);
+/// Asserts that four of these events happen from the start, each in its turn, and that the diffusion has ended then.
+fn assert_four_happen(rt: &(impl Abort + AllocGlobal), graph: &Graph, events: &[Event]) {
+    let mut trial = Trial::open(rt, Shortest, graph);
+    assert!(rt; trial.core.run(events) == 4);
+    assert_step(rt, &mut trial, &Step::Ended(true));
 }
 
-/// Asserts whether the diffusion has ended, with every arc idle.
-fn assert_ended<A: PathAlgebra>(rt: &impl Abort, trial: &Trial<'_, A>, wanted: bool) {
-    assert!(rt; trial.ended() == wanted);
-    assert!(rt; trial.quiet() == wanted);
-}
+/// One arc of weight 7, from its first message to its last signal; arcs that are none have neither.
+const STEP_BY_STEP: [Step; 22] = [
+    Step::OnArc(0, Token::Message(0)),
+    Step::Deliver(1, false),
+    Step::Deliver(0, true),
+    Step::Label(1, Some(0)),
+    Step::Engager(1, Some(ArcNo(0))),
+    Step::OnArc(0, Token::Held),
+    Step::OnArc(1, Token::Message(7)),
+    Step::Deficit(1, 1),
+    Step::Accept(0, false),
+    Step::Deliver(1, true),
+    Step::Label(2, Some(7)),
+    Step::Engager(2, None),
+    Step::OnArc(1, Token::Signal),
+    Step::Accept(1, true),
+    Step::OnArc(1, Token::Idle),
+    Step::Engager(1, None),
+    Step::OnArc(0, Token::Signal),
+    Step::Ended(false),
+    Step::Accept(0, true),
+    Step::Ended(true),
+    Step::Deliver(2, false),
+    Step::Accept(4_000_000_000, false),
+];
+
+/// The five vertices when all has ended.
+const FIVE_ENDED: [Step; 6] = [
+    Step::Ended(true),
+    Step::Label(1, Some(0)),
+    Step::Label(2, Some(3)),
+    Step::Label(3, Some(1)),
+    Step::Label(4, Some(8)),
+    Step::Label(5, None),
+];
+
+/// The five vertices where no arc is within the limit.
+const FIVE_AT_ONCE: [Step; 8] = [
+    Step::Deliver(0, true),
+    Step::Accept(0, true),
+    Step::Ended(true),
+    Step::Label(1, Some(0)),
+    Step::Label(2, None),
+    Step::Label(3, None),
+    Step::Label(4, None),
+    Step::Label(5, None),
+];
 
 #[test]
 fn core_step_by_step(rt: HostRuntime) {
     let graph = graph_of(&rt, 2, &[(1, 2, 7)]);
-    let mut trial = Trial::open(&rt, Shortest, &graph);
-    assert_token(&rt, &trial, 0, Token::Message(0));
-    assert_deliver(&rt, &mut trial, 1, false);
-    assert_deliver(&rt, &mut trial, 0, true);
-    assert_labels(&rt, &trial, &[(1, Some(0))]);
-    assert_engager(&rt, &trial, 1, Some(ArcNo(0)));
-    assert_token(&rt, &trial, 0, Token::Held);
-    assert_token(&rt, &trial, 1, Token::Message(7));
-    assert_deficit(&rt, &trial, 1, 1);
-    assert_accept(&rt, &mut trial, 0, false);
-    assert_deliver(&rt, &mut trial, 1, true);
-    assert_labels(&rt, &trial, &[(2, Some(7))]);
-    assert_engager(&rt, &trial, 2, None);
-    assert_token(&rt, &trial, 1, Token::Signal);
-    assert_accept(&rt, &mut trial, 1, true);
-    assert_token(&rt, &trial, 1, Token::Idle);
-    assert_engager(&rt, &trial, 1, None);
-    assert_token(&rt, &trial, 0, Token::Signal);
-    assert_ended(&rt, &trial, false);
-    assert_accept(&rt, &mut trial, 0, true);
-    assert_ended(&rt, &trial, true);
-    assert_deliver(&rt, &mut trial, 2, false);
-    assert_accept(&rt, &mut trial, 4_000_000_000, false);
+    assert_from_start(&rt, Shortest, &graph, &STEP_BY_STEP);
 }
 
 #[test]
 fn events_are_counted_once(rt: HostRuntime) {
     let graph = graph_of(&rt, 2, &[(1, 2, 7)]);
-    let mut trial = Trial::open(&rt, Shortest, &graph);
-    assert_run(&rt, &mut trial, &ONCE, 4);
-    assert_ended(&rt, &trial, true);
-    let mut trial = Trial::open(&rt, Shortest, &graph);
-    assert_run(&rt, &mut trial, &TWICE, 4);
-    assert_ended(&rt, &trial, true);
+    assert_four_happen(&rt, &graph, &ONCE);
+    assert_four_happen(&rt, &graph, &TWICE);
 }
 
 #[test]
@@ -246,18 +250,7 @@ fn three_orders_of_events(rt: HostRuntime) {
     for order in 0..3 {
         let mut trial = Trial::open(&rt, Shortest, &graph);
         trial.run_in_order(order);
-        assert_ended(&rt, &trial, true);
-        assert_labels(
-            &rt,
-            &trial,
-            &[
-                (1, Some(0)),
-                (2, Some(3)),
-                (3, Some(1)),
-                (4, Some(8)),
-                (5, None),
-            ],
-        );
+        assert_steps(&rt, &mut trial, &FIVE_ENDED);
     }
 }
 
@@ -265,15 +258,7 @@ fn three_orders_of_events(rt: HostRuntime) {
 fn limit_zero_core(rt: HostRuntime) {
     let graph = graph_of(&rt, 5, &FIVE);
     let algebra = Within::new(0).expect(&rt, "a small limit");
-    let mut trial = Trial::open(&rt, algebra, &graph);
-    assert_deliver(&rt, &mut trial, 0, true);
-    assert_accept(&rt, &mut trial, 0, true);
-    assert_ended(&rt, &trial, true);
-    assert_labels(
-        &rt,
-        &trial,
-        &[(1, Some(0)), (2, None), (3, None), (4, None), (5, None)],
-    );
+    assert_from_start(&rt, algebra, &graph, &FIVE_AT_ONCE);
 }
 
 /// A hub with 40,000 leaves, each joined to it both ways.
@@ -286,7 +271,8 @@ fn star_of_forty_thousand_leaves(rt: HostRuntime) {
     let graph = graph_of(&rt, 40_001, &arcs);
     let mut trial = Trial::open(&rt, Shortest, &graph);
     trial.run_to_the_end(&rt, 80_001);
-    assert_labels(&rt, &trial, &[(1, Some(0)), (40_001, Some(5))]);
+    let ends = [Step::Label(1, Some(0)), Step::Label(40_001, Some(5))];
+    assert_steps(&rt, &mut trial, &ends);
 }
 
 /// A grid of 64 times 64 vertices, cheap to the right and down and dear to the left and up.
@@ -307,5 +293,6 @@ fn two_way_grid(rt: HostRuntime) {
     let graph = graph_of(&rt, 4_096, &arcs);
     let mut trial = Trial::open(&rt, Shortest, &graph);
     trial.run_to_the_end(&rt, 16_129);
-    assert_labels(&rt, &trial, &[(4_096, Some(126)), (64, Some(63))]);
+    let corners = [Step::Label(4_096, Some(126)), Step::Label(64, Some(63))];
+    assert_steps(&rt, &mut trial, &corners);
 }

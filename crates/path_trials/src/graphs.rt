@@ -121,11 +121,16 @@ fn rows_by_tail_and_head(rt: HostRuntime) {
     let graph = five_vertices(rt.alloc()).expect(&rt, "memory");
     assert_sizes(&rt, &graph, 5, 6);
     assert_arc(&rt, &graph, 4, arc(1, 3, 1));
-    assert_rows(&rt, &graph, 1, &[2, 4, 6], &[5]);
-    assert_rows(&rt, &graph, 2, &[], &[1, 2]);
-    assert_rows(&rt, &graph, 3, &[1], &[4, 6]);
-    assert_rows(&rt, &graph, 4, &[3], &[3]);
-    assert_rows(&rt, &graph, 5, &[5], &[]);
+    let rows: [(u32, &[u32], &[u32]); 5] = [
+        (1, &[2, 4, 6], &[5]),
+        (2, &[], &[1, 2]),
+        (3, &[1], &[4, 6]),
+        (4, &[3], &[3]),
+        (5, &[5], &[]),
+    ];
+    for (v, out, into) in rows {
+        assert_rows(&rt, &graph, v, out, into);
+    }
     assert_roads(&rt, &graph, 1, &[road(2, 4), road(3, 1), road(3, 9)]);
 }
 
@@ -180,20 +185,28 @@ fn outgoing_refusals_hand_back(rt: HostRuntime) {
     assert!(rt; taken.roads_from(Vertex(3)) == [road(1, 8)].as_slice());
 }
 
+/// The only arc of a graph.
+const ONLY: RoadArc = RoadArc {
+    tail: Vertex(2),
+    head: Vertex(1),
+    weight: 7,
+};
+
 /// Arcs that are known to join the vertices make a graph without a test of their ends.
 #[test]
 fn known_arcs(rt: HostRuntime) {
     let alloc = rt.alloc();
-    let only = RoadArc {
-        tail: Vertex(2),
-        head: Vertex(1),
-        weight: 7,
-    };
-    let arcs = vec![in alloc; only].expect(&rt, "memory");
+    let arcs = vec![in alloc; ONLY].expect(&rt, "memory");
     let graph = Graph::of_arcs(alloc, 2, arcs).expect(&rt, "memory");
-    assert!(rt; graph.arc(ArcNo(1)) == only);
+    assert!(rt; graph.arc(ArcNo(1)) == ONLY);
     assert!(rt; graph.out(Vertex(1)).is_empty());
-    let arcs = vec![in alloc; only].expect(&rt, "memory");
+}
+
+/// The same for a graph of outgoing rows.
+#[test]
+fn known_outgoing_arcs(rt: HostRuntime) {
+    let alloc = rt.alloc();
+    let arcs = vec![in alloc; ONLY].expect(&rt, "memory");
     let out = OutGraph::of_arcs(alloc, 2, arcs).expect(&rt, "memory");
     assert!(rt; out.roads_from(Vertex(2)) == [road(1, 7)].as_slice());
     assert!(rt; out.roads_from(Vertex(1)).is_empty());

@@ -16,9 +16,9 @@ mod factors;
 #[cfg(test)]
 mod graphs;
 #[cfg(test)]
-mod orders;
+mod near;
 #[cfg(test)]
-mod pairs;
+mod orders;
 #[cfg(test)]
 mod plain_solver;
 #[cfg(test)]
@@ -26,12 +26,8 @@ mod queues;
 #[cfg(test)]
 mod reweighed;
 #[cfg(test)]
-mod road_factors;
-#[cfg(test)]
 mod road_guard;
 #[cfg(test)]
 mod roads;
-#[cfg(test)]
-mod searcher;
 #[cfg(test)]
 mod trees;

@@ -1,4 +1,4 @@
-//! Worked answers written and read, faults by their lines, and a writer that fails at each byte.
+//! Worked answers written and read, and a writer that fails at each byte; faults by their lines are in `system_tests/worked`.
 ghost use Rattle.std.specs.Prelude.{◌≡◌, ◌<◌, ◌≤◌, Some, length, refl, []};
 
 use crate::pages::Page;
@@ -96,19 +96,19 @@ fn page_of(answers: &Answers) -> Page {
     page
 }
 
-/// The number and the line of the fault, or 0 and 0.
-fn outcome(alloc: Global, bytes: &[u8], n: u32) -> (u8, u64) {
-    match read_answers(alloc, &mut Plain::new(bytes), n) {
-        Ok(_) => (0, 0),
-        Err(fault) => (fault.number, fault.line),
-    }
-}
-
 /// What is written after a text was read.
 fn read_and_written(alloc: Global, bytes: &[u8], n: u32) -> Page {
     match read_answers(alloc, &mut Plain::new(bytes), n) {
         Ok(answers) => page_of(&answers),
         Err(_) => Page::new(0, 1),
+    }
+}
+
+#[test]
+fn answers_read_back(rt: HostRuntime) {
+    for text in [SHORTEST, PAIRS, SEVERAL] {
+        let again = read_and_written(rt.alloc(), text, 5);
+        assert_eq!(rt; again.bytes.as_slice(), text);
     }
 }
 
@@ -201,105 +201,4 @@ fn a_writer_that_fails_at_each_byte(rt: HostRuntime) -> Result<(), Fail> {
         }
     }
     Ok(())
-}
-
-/// Asserts the number and the line of the fault of each text over this many vertices, or 0 and 0.
-fn assert_outcomes(rt: &(impl Abort + AllocGlobal), cases: &[(&str, u32, (u8, u64))]) {
-    for (text, n, wanted) in cases {
-        assert_eq!(rt; outcome(rt.alloc(), text.as_bytes(), *n), *wanted, "{text}");
-    }
-}
-
-#[test]
-fn answers_read_back(rt: HostRuntime) {
-    for text in [SHORTEST, PAIRS, SEVERAL] {
-        let again = read_and_written(rt.alloc(), text, 5);
-        assert_eq!(rt; again.bytes.as_slice(), text);
-    }
-    assert_outcomes(
-        &rt,
-        &[
-            (
-                "p ans ss 1 shortest\ns 1\nd 1 0 0 0\nd 2 3 2 3\nd 3 1 1 1\nd 4 8 3 2\n",
-                5,
-                (36, 7),
-            ),
-            (
-                "p ans ss 1 shortest\ns 1\nd 1 0 0 0\nd 2 3 2 3\nd 3 1 1 1\nd 4 8 3 2\nu 4\n",
-                5,
-                (32, 7),
-            ),
-            ("p ans ss 1 fast\n", 5, (31, 1)),
-            ("", 5, (30, 1)),
-        ],
-    );
-}
-
-#[test]
-fn faults_of_headers(rt: HostRuntime) {
-    assert_outcomes(
-        &rt,
-        &[
-            ("c\n\ns 1\n", 1, (30, 3)),
-            ("pp ans ss 1 own\n", 1, (30, 1)),
-            ("p ans ss 1\n", 1, (31, 1)),
-            ("p aux ss 1 own\n", 1, (31, 1)),
-            ("p ans sp 1 own\n", 1, (31, 1)),
-            ("p ans ss x owner\n", 1, (31, 1)),
-            ("p ans ss x within\n", 1, (34, 1)),
-            ("p ans ss 1048577 within\n", 1, (35, 1)),
-            ("p ans ss 1048576 within\n", 1, (36, 2)),
-            ("p ans ss 0 reliable\n", 1, (0, 0)),
-        ],
-    );
-}
-
-#[test]
-fn faults_of_lines(rt: HostRuntime) {
-    assert_outcomes(
-        &rt,
-        &[
-            ("p ans ss 1 own\nq 1 2\n", 1, (32, 2)),
-            ("p ans ss 1 own\np ans ss 1 own\n", 1, (32, 2)),
-            ("p ans ss 1 own\ns 1 2\n", 1, (33, 2)),
-            ("p ans ss 1 own\ns -1\n", 1, (34, 2)),
-            ("p ans ss 1 own\ns 4294967296\n", 1, (35, 2)),
-            ("p ans ss 1 own\ns 1\ndd 1\n", 1, (32, 3)),
-            ("p ans ss 1 own\ns 1\nd 2 x 0 0\n", 1, (34, 3)),
-            (
-                "p ans ss 1 own\ns 1\nd 2 18446744073709551616 x 0\n",
-                1,
-                (35, 3),
-            ),
-            (
-                "p ans ss 1 own\ns 1\nd 1 18446744073709551615 4294967295 007\n",
-                1,
-                (0, 0),
-            ),
-            ("p ans ss 1 own\ns 1\nu 1\nc\n\nu 1\n", 1, (32, 6)),
-            ("p ans ss 1 own\ns 1\n", 0, (0, 0)),
-            ("p ans ss 1 own\ns 1\nu 1\n", 0, (32, 3)),
-        ],
-    );
-}
-
-#[test]
-fn faults_of_lists(rt: HostRuntime) {
-    assert_outcomes(
-        &rt,
-        &[
-            ("p ans ms 1 own\nm\n", 0, (33, 2)),
-            ("p ans ms 1 own\nm 1 2 3 4 5 6 7 8\n", 0, (0, 0)),
-            ("p ans ms 1 own\nm 1 2 3 4 5 6 7 x 4294967296\n", 0, (34, 2)),
-            ("p ans p2p 1 own\nq 1 4\nd 8 3\nr\n", 0, (33, 4)),
-            (
-                "p ans p2p 1 own\nq 1 4\nd 8 3\nr 1 2 3 4 5 6 7 8 4294967296 x\n",
-                0,
-                (35, 4),
-            ),
-            ("p ans p2p 1 own\nq 1 4\nu 1\n", 0, (33, 3)),
-            ("p ans p2p 1 own\nq 1 4\nr 1 4\n", 0, (32, 3)),
-            ("p ans p2p 1 own\nq 1 4\nd 8 3\n", 0, (36, 4)),
-        ],
-    );
 }

@@ -1,5 +1,5 @@
-//! Files read in pieces, with their faults, and written back.
-ghost use Rattle.std.specs.Prelude.{◌≡◌, ◌<◌, ◌≤◌, ◌+◌, Some, length};
+//! Files read in pieces, and written back; their faults are in `system_tests/worked`.
+ghost use Rattle.std.specs.Prelude.{◌<◌};
 
 use crate::ends::Pieces;
 use graph_text::{read_gr, write_gr};
@@ -7,10 +7,9 @@ use road_files::{
     Kind, Questions, read_bundle, read_ms, read_p2p, read_questions, read_ss, write_ms, write_p2p,
     write_ss,
 };
-use std::alloc::{AllocError, Global};
+use std::alloc::Global;
 use std::process::Abort;
-use std::test::Fail;
-use text_lines::{Plain, ReadFailed, RoadRead};
+use text_lines::Plain;
 
 const BUNDLE: &[u8] =
     b"p sp 5 7\na 1 2 4\na 1 3 1\na 3 2 2\na 2 4 5\na 3 4 8\na 4 4 0\na 5 1 3\np aux sp ss 1\ns 1\n";
@@ -27,28 +26,11 @@ fn graph(alloc: Global, bytes: &[u8]) -> (Vec<u8>, u8, u64) {
     }
 }
 
-fn graph_fault(alloc: Global, bytes: &[u8]) -> (u8, u64) {
-    let (_text, number, line) = graph(alloc, bytes);
-    (number, line)
-}
-
-/// Asserts the number and the line of the fault of a graph file.
-fn assert_graph_fault(rt: &(impl Abort + AllocGlobal), text: &[u8], wanted: (u8, u64)) {
-    assert_eq!(rt; graph_fault(rt.alloc(), text), wanted);
-}
-
 /// Asserts that a graph is read, and how it is written back.
 fn assert_graph(rt: &(impl Abort + AllocGlobal), text: &[u8], again: &[u8]) {
     let (written, number, _line) = graph(rt.alloc(), text);
     assert_eq!(rt; number, 0);
     assert_eq!(rt; written.as_slice(), again);
-}
-
-/// Asserts the number and the line of the fault of each graph file.
-fn assert_graph_faults(rt: &(impl Abort + AllocGlobal), cases: &[(&str, (u8, u64))]) {
-    for (text, wanted) in cases {
-        assert_eq!(rt; graph_fault(rt.alloc(), text.as_bytes()), *wanted, "{text}");
-    }
 }
 
 fn write_questions(to: &mut Plain<Vec<u8>>, questions: &Questions) {
@@ -78,14 +60,6 @@ fn assert_questions(rt: &(impl Abort + AllocGlobal), text: &[u8]) {
     assert_eq!(rt; written.as_slice(), text);
 }
 
-/// Asserts the number and the line of the fault of each question file over five vertices.
-fn assert_questions_faults(rt: &(impl Abort + AllocGlobal), cases: &[(&str, (u8, u64))]) {
-    for (text, wanted) in cases {
-        let (_text, number, line) = questions(rt.alloc(), text.as_bytes());
-        assert_eq!(rt; (number, line), *wanted, "{text}");
-    }
-}
-
 /// What is written after a bundle was read, with 0 and 0, or the fault's number and line.
 fn bundle(alloc: Global, bytes: &[u8], piece: usize, fails: bool) -> (Vec<u8>, u8, u64)
     requires { 0 < piece }
@@ -110,14 +84,6 @@ fn assert_bundle(rt: &(impl Abort + AllocGlobal), text: &[u8], piece: usize, aga
     assert_eq!(rt; written.as_slice(), again);
 }
 
-/// Asserts the number and the line of the fault of each bundle.
-fn assert_bundle_faults(rt: &(impl Abort + AllocGlobal), cases: &[(&str, (u8, u64))]) {
-    for (text, wanted) in cases {
-        let (_text, number, line) = bundle(rt.alloc(), text.as_bytes(), 5, false);
-        assert_eq!(rt; (number, line), *wanted, "{text}");
-    }
-}
-
 #[test]
 fn lenient_spelling(rt: HostRuntime) {
     let text =
@@ -126,101 +92,13 @@ fn lenient_spelling(rt: HostRuntime) {
 }
 
 #[test]
-fn greatest_weight_and_limits(rt: HostRuntime) {
+fn written_back_unchanged(rt: HostRuntime) {
     let greatest = b"p sp 2 1\na 1 2 4294967295\n";
     assert_graph(&rt, greatest, greatest);
-    assert_graph_faults(
-        &rt,
-        &[
-            ("p sp 2 1\na 1 2 4294967296\n", (16, 2)),
-            ("p sp 33554433 0\n", (16, 1)),
-            ("p sp 33554433 x\n", (16, 1)),
-            ("p sp x 134217729\n", (15, 1)),
-            ("p sp 1 134217729\n", (16, 1)),
-            ("p sp 33554432 134217728\n", (19, 2)),
-        ],
-    );
-    assert_questions_faults(
-        &rt,
-        &[
-            ("p aux sp ss 1048577\n", (16, 1)),
-            ("p aux sp ss 1048576\n", (19, 2)),
-        ],
-    );
-}
-
-#[test]
-fn too_few_and_too_many_arcs(rt: HostRuntime) {
-    assert_graph_faults(
-        &rt,
-        &[
-            ("p sp 2 2\na 1 2 3\n", (19, 3)),
-            ("p sp 2 2\na 1 2 3\na 1 2 3\na 1 2 3\n", (18, 4)),
-            ("", (10, 1)),
-        ],
-    );
-}
-
-#[test]
-fn faults_of_one_line(rt: HostRuntime) {
-    assert_graph_faults(
-        &rt,
-        &[
-            ("p sp 2 1\na 1 2 -3\n", (15, 2)),
-            ("p sp 2 1\na 0 2 3\n", (17, 2)),
-            ("p sp 2 1\na 1 2\n", (14, 2)),
-            ("p sp 2 1\na 9 x 3\n", (17, 2)),
-            ("p sp 2 1\nx 1 2 3\n", (13, 2)),
-            ("p sp 2 1\np sp 2 1\n", (11, 2)),
-            ("a 1 2 3\np sp 2 1\n", (10, 1)),
-            ("p max 2 1\n", (12, 1)),
-            ("s 1\n", (13, 1)),
-        ],
-    );
-    assert_questions_faults(
-        &rt,
-        &[
-            ("m x\n", (10, 1)),
-            ("a 1 2 3\n", (13, 1)),
-            ("p aux sp xy 1\n", (12, 1)),
-            ("p aux sp ss 1\nq 1 2\n", (13, 2)),
-            ("p aux sp p2p 1\nq 1\n", (14, 2)),
-            ("p aux sp p2p 1\nq 1 6\n", (17, 2)),
-            ("p aux sp p2p 1\nq 1 2\nq x\n", (18, 3)),
-        ],
-    );
-}
-
-#[test]
-fn bundle_boundaries(rt: HostRuntime) {
-    assert_bundle_faults(
-        &rt,
-        &[
-            ("p sp 1 0\n", (10, 2)),
-            ("p sp 2 1\np aux sp ss 0\n", (19, 2)),
-            ("p aux sp ss 0\n", (10, 1)),
-            ("p sp 2 1\np aux\n", (19, 2)),
-            ("p sp 1 0\np aux\n", (12, 2)),
-            ("p sp 1 0\np auxx sp ss 0\n", (11, 2)),
-            ("p sp 1 0\ns 1\n", (13, 2)),
-            ("p sp 0 0\np aux sp ss 1\ns 1\n", (17, 3)),
-            ("p sp 1 0\np aux sp ss 0\np sp 1 0\n", (11, 3)),
-        ],
-    );
     let empty = b"p sp 1 0\np aux sp ss 0\n";
     assert_bundle(&rt, empty, 9, empty);
-}
-
-#[test]
-fn carriage_returns_and_odd_bytes(rt: HostRuntime) {
-    assert_graph_faults(
-        &rt,
-        &[
-            ("p sp 2 1\na 1\r 2 3\n", (15, 2)),
-            ("p sp 2 1\na 1 2 3\r\r\n", (15, 2)),
-        ],
-    );
-    assert_graph_fault(&rt, b"p sp 2 1\n\xff\n", (13, 2));
+    assert_questions(&rt, b"p aux sp ms 1\nm 1 1\n");
+    assert_questions(&rt, b"p aux sp p2p 2\nq 1 4\nq 5 5\n");
 }
 
 #[test]
@@ -238,56 +116,6 @@ fn a_reader_that_fails(rt: HostRuntime) {
         assert_eq!(rt; (number, line), (1, 0));
         assert_eq!(rt; written.as_slice(), b"".as_slice());
     }
-}
-
-#[test]
-fn prefixes_of_a_bundle(rt: HostRuntime) {
-    let text = BUNDLE;
-    for end in 0..text.len().saturating_sub(1) {
-        let (written, number, _line) = bundle(rt.alloc(), &text[..end], 5, false);
-        assert!(rt; (10 <= number && number <= 16) || number == 19);
-        assert_eq!(rt; written.as_slice(), b"".as_slice());
-    }
-}
-
-/// One text, a byte a million times, and another text.
-fn long_text(alloc: Global, prefix: &[u8], byte: u8, back: &[u8]) -> Result<Vec<u8>, AllocError> {
-    let mut text = Vec::new(alloc);
-    text.extend_from_slice(prefix)?;
-    for _ in 0..1_000_000 {
-        text.push(byte)?;
-    }
-    text.extend_from_slice(back)?;
-    Ok(text)
-}
-
-#[test]
-fn very_long_lines(rt: HostRuntime) -> Result<(), Fail> {
-    let alloc = rt.alloc();
-    let zeros = long_text(alloc, b"p sp 2 1\na 1 2 ", b'0', b"7\n")?;
-    assert_graph(&rt, &zeros, b"p sp 2 1\na 1 2 7\n");
-    let nines = long_text(alloc, b"p sp 2 1\na 1 2 ", b'9', b"\n")?;
-    assert_graph_fault(&rt, &nines, (16, 2));
-    let mut moved = long_text(alloc, b"c", b'x', b"\n")?;
-    moved.extend_from_slice(nines.as_slice())?;
-    assert_graph_fault(&rt, &moved, (16, 3));
-    let comment = long_text(alloc, b"c", b'x', b"\np sp 2 1\na 1 2 -\n")?;
-    assert_graph_fault(&rt, &comment, (15, 3));
-    Ok(())
-}
-
-#[test]
-fn one_source_as_several(rt: HostRuntime) {
-    assert_questions(&rt, b"p aux sp ms 1\nm 1 1\n");
-    assert_questions_faults(
-        &rt,
-        &[
-            ("p aux sp ms 1\nm\n", (14, 2)),
-            ("p aux sp ms 1\nm 1 1 x 1 1 1 9 1 1 6\n", (15, 2)),
-            ("p aux sp ms 1\nm 1 1 1 1 1 1 1 1 1 6\n", (17, 2)),
-        ],
-    );
-    assert_questions(&rt, b"p aux sp p2p 2\nq 1 4\nq 5 5\n");
 }
 
 #[test]

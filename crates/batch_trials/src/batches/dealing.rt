@@ -1,37 +1,12 @@
-//! Questions dealt to workers by both rules: the same bytes, and who has which.
+//! Questions dealt to workers by both rules: who has which.
 use super::gates::GreatestWorker;
-use super::workers::{assert_ends, assert_unchanged};
+use super::workers::assert_ends;
 use super::{SHORTEST_THRICE, THRICE};
 use batch_run::{Dealing, Settings};
 use std::process::Abort;
 use std::sync::Wait;
 use std::sync::atomic::{AtomicU64, Ordering};
 use std::thread::Threads;
-
-/// Asserts that questions dealt one worker further each are answered with the same bytes, so many together.
-fn assert_questions_dealt(
-    rt: &(impl Abort + AllocGlobal + Threads + Wait + Sync),
-    workers: u64,
-    width: u64,
-) {
-    for shards in [1, 3, 64] {
-        let settings = Settings {
-            workers,
-            shards,
-            width,
-            dealing: Dealing::Questions,
-            ..Settings::default()
-        };
-        assert_unchanged(rt, &settings);
-    }
-}
-
-#[test]
-fn dealt_by_questions_writes_the_same(rt: HostRuntime) {
-    for (workers, width) in [(1, 4), (2, 3), (5, 2), (64, 64)] {
-        assert_questions_dealt(&rt, workers, width);
-    }
-}
 
 /// Asserts which is the greatest worker that makes a turn, if three questions over one shard are dealt to five.
 fn assert_greatest_worker(

@@ -78,53 +78,6 @@ fn assert_refused(
     assert!(rt; out.bytes.is_empty());
 }
 
-#[test]
-fn faults_of_two_inputs(rt: HostRuntime) {
-    for &(graph, questions, number, file, line) in &[
-        ("p sp 2 1\na 1 2 4294967296\n", FROM_ONE, 16, File::Graph, 2),
-        ("p sp 33554433 0\n", FROM_ONE, 16, File::Graph, 1),
-        ("p sp 33554432 134217728\n", FROM_ONE, 19, File::Graph, 2),
-        ("x\n", "x\n", 13, File::Graph, 1),
-        (
-            "p sp 1 0\n",
-            "p aux sp ss 1048577\n",
-            16,
-            File::Questions,
-            1,
-        ),
-        ("p sp 5 0\n", "p aux sp ss 1\ns 6\n", 17, File::Questions, 2),
-        ("p sp 1 0\n", "p aux sp ms 1\nm\n", 14, File::Questions, 2),
-    ] {
-        assert_pair_refused(
-            &rt,
-            &Settings::default(),
-            &mut Plain::new(graph.as_bytes()),
-            &mut Plain::new(questions.as_bytes()),
-            &mut Sheet::new(rt.alloc(), 100, true),
-            fault(number, file, line),
-        );
-    }
-}
-
-#[test]
-fn faults_of_a_bundle(rt: HostRuntime) {
-    for &(text, number, line) in &[
-        ("p sp 1 0\n", 10, 2),
-        ("p sp 2 1\np aux sp ss 0\n", 19, 2),
-        ("p aux sp ss 0\n", 10, 1),
-        ("p sp 0 0\np aux sp ss 1\ns 1\n", 17, 3),
-        ("p sp 33554432 134217728\n", 19, 2),
-    ] {
-        assert_refused(
-            &rt,
-            &Settings::default(),
-            &mut Pieces::new(text.as_bytes(), 7, false),
-            &mut Sheet::new(rt.alloc(), 100, true),
-            fault(number, File::Bundle, line),
-        );
-    }
-}
-
 /// Asserts that settings are refused, of two inputs and of one, before anything is read or written.
 fn assert_settings_refused(
     rt: &(impl Abort + AllocGlobal + Threads + Wait + Sync),
@@ -219,28 +172,6 @@ fn a_reader_that_fails(rt: HostRuntime) {
     }
     assert_pair_unread(&rt, true, File::Graph);
     assert_pair_unread(&rt, false, File::Questions);
-}
-
-/// Asserts that one input of these bytes is refused for what it says, or lacks, before anything is written.
-fn assert_cut_short(rt: &(impl Abort + AllocGlobal + Threads + Wait + Sync), prefix: &[u8]) {
-    let mut out = Sheet::new(rt.alloc(), 100, true);
-    let mut input = Pieces::new(prefix, 7, false);
-    let refused = outcome(rt, rt.alloc(), &Settings::default(), &mut input, &mut out);
-    let numbered = match refused {
-        Err(f) => f.number == 19 || (10 <= f.number && f.number <= 16),
-        Ok(()) => false,
-    };
-    assert!(rt; numbered);
-    assert!(rt; out.bytes.is_empty());
-}
-
-#[test]
-fn a_text_that_is_cut_short(rt: HostRuntime) {
-    let text = joined(&rt, &[FIVE, FROM_ONE]);
-    let bytes = text.as_bytes();
-    for end in 0..bytes.len().saturating_sub(1) {
-        assert_cut_short(&rt, &bytes[..end]);
-    }
 }
 
 /// Asserts that a writer with room for this prefix of the answers takes just that, and how the batch ends.

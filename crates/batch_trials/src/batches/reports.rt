@@ -1,7 +1,7 @@
 //! What batches report to a watcher.
 use super::gates::Closed;
-use super::workers::{SEVERAL, SLOW};
-use super::{FIVE, FROM_ONE, PAIRS};
+use super::workers::SEVERAL;
+use super::{FIVE, PAIRS};
 use crate::texts::joined;
 use batch_run::{Gate, OpenGate, Progress, Run, RunFault, Settings, Watcher, run_bundle, run_pair};
 use path_algebra::{PathAlgebra, Reach, Shortest};
@@ -154,46 +154,6 @@ fn assert_reports_before<T: Gate>(
         Err(fault) => assert_eq!(rt; fault.number, number),
     }
     assert_notes(rt, &notes, wanted);
-}
-
-#[test]
-fn accounts_of_five_vertices(rt: HostRuntime) {
-    for width in [1, 2, 64] {
-        let settings = Settings {
-            width,
-            ..Settings::default()
-        };
-        let wanted = [
-            begun(3, 3),
-            gathered(1, 1, 7),
-            answered(1),
-            gathered(2, 4, 2),
-            answered(2),
-            gathered(3, 5, 8),
-            answered(3),
-        ];
-        assert_reports(&rt, Reach, THREE, &settings, &wanted);
-    }
-}
-
-#[test]
-fn account_of_one_worker(rt: HostRuntime) {
-    let wanted = [begun(1, 1), gathered(1, 1, 9), answered(1)];
-    assert_reports(&rt, Shortest, FROM_ONE, &SLOW, &wanted);
-}
-
-#[test]
-fn accounts_of_pairs(rt: HostRuntime) {
-    let wanted = [
-        begun(3, 3),
-        gathered(1, 1, 7),
-        answered(1),
-        gathered(2, 4, 2),
-        answered(2),
-        gathered(3, 5, 8),
-        answered(3),
-    ];
-    assert_reports(&rt, Reach, PAIRS, &Settings::default(), &wanted);
 }
 
 #[test]

@@ -1,9 +1,8 @@
-//! What stops a batch on workers: a limit of turns, and a gate.
+//! What stops a batch on workers at a gate; limits of turns are tried on the built program (`system_tests/worked`).
 use super::gates::{Closed, ClosedAt, ClosedTo, FalseOnce};
 use super::workers::{SLOW, assert_ends};
 use super::{FIVE, FROM_ONE, SHORTEST, SHORTEST_THRICE, THRICE, assert_ended, run_at};
-use crate::texts::joined;
-use batch_run::{File, OpenGate, RunFault, Settings};
+use batch_run::{File, RunFault, Settings};
 use path_algebra::Shortest;
 use std::process::Abort;
 use std::sync::Wait;
@@ -22,54 +21,6 @@ fn stopped(number: u8) -> Result<(), RunFault> {
         file: File::NoFile,
         line: 0,
     })
-}
-
-/// Whether a question is answered; if not, asserts that the limit of turns has stopped it after the header.
-fn is_answered(
-    rt: &(impl Abort + AllocGlobal + Threads + Wait + Sync),
-    settings: &Settings,
-) -> bool {
-    let text = joined(rt, &[FIVE, FROM_ONE]);
-    let ended = run_at(rt, rt.alloc(), Shortest, text.as_str(), settings, &OpenGate);
-    let answered = ended.0.is_ok();
-    if answered {
-        assert_ended(rt, ended, Ok(()), SHORTEST);
-    } else {
-        assert_ended(rt, ended, stopped(40), HEADER);
-    }
-    answered
-}
-
-/// Nine messages and nine signals, an item a turn; best first seven and seven.
-#[test]
-fn turn_limits(rt: HostRuntime) {
-    for &(turns, best_first, wanted) in &[
-        (0, false, false),
-        (17, false, false),
-        (18, false, true),
-        (13, true, false),
-        (14, true, true),
-    ] {
-        let settings = Settings {
-            turns,
-            best_first,
-            ..SLOW
-        };
-        assert_eq!(rt; is_answered(&rt, &settings), wanted);
-    }
-}
-
-#[test]
-fn every_turn_limit(rt: HostRuntime) {
-    for turns in 0..=200 {
-        let settings = Settings {
-            shards: 3,
-            turns,
-            ..SLOW
-        };
-        let answered = is_answered(&rt, &settings);
-        assert!(rt; answered || turns < 200);
-    }
 }
 
 #[test]

@@ -1,5 +1,7 @@
 #include "answers.hpp"
 #include "asked.hpp"
+#include <algorithm>
+#include <numeric>
 
 namespace {
 
@@ -107,42 +109,42 @@ std::string table(Asker &asker, const Fields &fields, const std::function<bool()
     return out + "]}\n";
 }
 
-// The lists of a tree, and what they are written as.
-struct Lists {
-    std::vector<uint64_t> codes;
-    std::vector<uint32_t> hops, parents;
-
-    explicit Lists(size_t n) : codes(n), hops(n), parents(n) {}
-
-    void write(std::string &out) const {
-        const char *between = "[";
-        for (size_t v = 0; v < codes.size(); v++) {
-            if (codes[v] == DIFFUSE_UNREACHED) continue;
-            put(out += between, v + 1);
-            put(out += ", ", codes[v]);
-            put(out += ", ", hops[v]);
-            put(out += ", ", parents[v]);
-            out += ']';
-            between = ", [";
-        }
+// The lines of what was found within a limit, in the order of their vertices.
+void put_lines(std::string &out, const Lines &lines, size_t count) {
+    std::vector<uint32_t> order(count);
+    std::iota(order.begin(), order.end(), 0);
+    std::sort(order.begin(), order.end(),
+        [&](uint32_t a, uint32_t b) { return lines.vertices[a] < lines.vertices[b]; });
+    const char *between = "[";
+    for (auto i : order) {
+        put(out += between, lines.vertices[i]);
+        put(out += ", ", lines.codes[i]);
+        put(out += ", ", lines.hops[i]);
+        put(out += ", ", lines.parents[i]);
+        out += ']';
+        between = ", [";
     }
-};
+}
 
 std::string tree(Asker &asker, const Fields &fields) {
     fields.allow({"sources", "limit"});
     auto sources = few(fields, "sources", *asker.roads);
     uint64_t limit = limit_of(&fields.need("limit"));
-    size_t n = asker.roads->vertices, count = 0;
-    Lists lists(n);
-    check(diffuse_graph_tree(asker.handle.at(), DIFFUSE_ALGEBRA_WITHIN, limit, sources.data(),
-        sources.size(), lists.codes.data(), n, lists.hops.data(), n, lists.parents.data(), n));
-    for (auto code : lists.codes) count += code != DIFFUSE_UNREACHED;
-    std::string out = std::to_string(count) + " vertices are within this limit, more than ";
-    if (count > LONGEST_TREE) throw refusal(400, out + std::to_string(LONGEST_TREE));
-    out = "{\"sources\": ";
+    Lines &lines = asker.lines;
+    size_t n = std::min<size_t>(LONGEST_TREE, asker.roads->vertices), count = 0;
+    lines.resize(n);
+    auto status = diffuse_graph_near(asker.handle.at(), DIFFUSE_ALGEBRA_WITHIN, limit,
+        sources.data(), sources.size(), lines.vertices.data(), n, lines.codes.data(), n,
+        lines.hops.data(), n, lines.parents.data(), n, &count);
+    if (status == DIFFUSE_STATUS_NO_ROOM)
+        throw refusal(400,
+            std::to_string(count) + " vertices are within this limit, more than "
+                + std::to_string(LONGEST_TREE));
+    check(status);
+    std::string out = "{\"sources\": ";
     put(out, sources);
     put(out += ", \"limit\": ", limit);
-    lists.write(out += ", \"vertices\": [");
+    put_lines(out += ", \"vertices\": [", lines, count);
     return out + "]}\n";
 }
 
@@ -160,6 +162,7 @@ void Asker::use(const std::shared_ptr<Roads> &others) {
     handle = Handle();
     roads = nullptr;
     room = {};
+    lines = {};
     handle = others->share();
     roads = others;
 }

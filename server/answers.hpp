@@ -4,12 +4,24 @@
 #include "roads.hpp"
 #include <functional>
 
-// What a thread that asks keeps: its handle on the graph of the moment, and room for a route.
+// Room for the lines of a tree.
+struct Lines {
+    std::vector<uint32_t> vertices, hops, parents;
+    std::vector<uint64_t> codes;
+
+    void resize(size_t count) {
+        for (auto *list : {&vertices, &hops, &parents}) list->resize(count);
+        codes.resize(count);
+    }
+};
+
+// What a thread that asks keeps: its handle on the graph of the moment, and room for answers.
 struct Asker {
     std::shared_ptr<Roads> roads;
     Handle handle;
     std::vector<uint32_t> room;
     std::vector<diffuse_arc> arcs;
+    Lines lines;
 
     // Changes to another graph; the old one is freed with its last asker.
     void use(const std::shared_ptr<Roads> &others);

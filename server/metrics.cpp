@@ -64,6 +64,7 @@ std::string Metrics::text() const {
     put_type(out, "diffuse_reloads_total", "counter");
     out += "diffuse_reloads_total{result=\"done\"} " + std::to_string(reloads) + "\n";
     out += "diffuse_reloads_total{result=\"failed\"} " + std::to_string(failed_reloads) + "\n";
+    put_family(out, "diffuse_reloads_reweighed_total", "counter", reweighed_reloads);
     put_family(out, "diffuse_connections_refused_total", "counter", refused_connections);
     put_family(out, "diffuse_connections_slow_total", "counter", slow_connections);
     put_family(out, "diffuse_requests_cut_total", "counter", cut_requests);

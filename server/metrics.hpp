@@ -10,8 +10,8 @@ class Metrics {
   public:
     // A request was answered.
     void answered(std::string_view path, int status, double seconds);
-    std::atomic<uint64_t> reloads{0}, failed_reloads{0}, refused_connections{0},
-        slow_connections{0}, cut_requests{0};
+    std::atomic<uint64_t> reloads{0}, failed_reloads{0}, reweighed_reloads{0},
+        refused_connections{0}, slow_connections{0}, cut_requests{0};
 
     // The families of requests, and the counters above.
     std::string text() const;

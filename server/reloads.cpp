@@ -23,12 +23,14 @@ void Reloads::ask() {
 void Reloads::reload() {
     std::string error = "unknown";
     try {
-        auto roads = Roads::read(options);
+        auto roads = Roads::read(options, searches.now().get());
         Object line = event("reloaded");
         line.number("vertices", roads->vertices).number("arcs", roads->arcs);
+        line.raw("reweighed", roads->is_reweighed ? "true" : "false");
         if (!roads->not_factored.empty()) line.text("not factored", roads->not_factored);
         searches.use(roads);
         metrics.reloads++;
+        metrics.reweighed_reloads += roads->is_reweighed;
         return log.add(std::move(line));
     } catch (const std::bad_alloc &) {
         error = "out of memory";

@@ -26,9 +26,20 @@ void arcs_from(Handle &graph, uint32_t vertex, std::vector<diffuse_arc> &arcs) {
     arcs.resize(count);
 }
 
+// All arcs, by their tails.
+std::vector<diffuse_arc> all_arcs(Handle &graph) {
+    std::vector<diffuse_arc> all, some;
+    all.reserve(diffuse_graph_arcs(graph.at()));
+    for (uint32_t tail = 1; tail <= diffuse_graph_vertices(graph.at()); tail++) {
+        arcs_from(graph, tail, some);
+        all.insert(all.end(), some.begin(), some.end());
+    }
+    return all;
+}
+
 }  // namespace
 
-std::shared_ptr<Roads> Roads::read(const Options &options) {
+std::shared_ptr<Roads> Roads::read(const Options &options, Roads *before) {
     auto roads = std::make_shared<Roads>();
     roads->first = read_graph(options.graph, roads->origin);
     roads->vertices = diffuse_graph_vertices(roads->first.at());
@@ -36,10 +47,22 @@ std::shared_ptr<Roads> Roads::read(const Options &options) {
     if (!options.also.empty()) roads->read_also(options.also_name, options.also);
     if (!options.places.empty())
         roads->places = std::make_unique<Places>(options.places, roads->vertices);
-    if (options.factors) roads->factor();
+    roads->is_reweighed = before && roads->reweigh(*before);
+    if (options.factors && !roads->is_reweighed) roads->factor();
     // What handles share is made now, and not at the first question.
     roads->share();
     return roads;
+}
+
+bool Roads::reweigh(Roads &before) {
+    if (!before.is_factored || before.vertices != vertices) return false;
+    auto list = all_arcs(first);
+    Handle factored = before.share(), second;
+    auto status = diffuse_graph_reweigh(factored.at(), list.data(), list.size(), second.at());
+    if (status == DIFFUSE_STATUS_MEMORY) throw std::bad_alloc();
+    if (status != DIFFUSE_STATUS_DONE) return false;
+    first = std::move(second);
+    return is_factored = true;
 }
 
 void Roads::factor() {

@@ -20,7 +20,8 @@ struct Also {
 class Roads {
   public:
     // Reads all files that the options name; else BadFile or std::bad_alloc, and nothing is left.
-    static std::shared_ptr<Roads> read(const Options &options);
+    // If the graph before is factored and has links for all arcs, they are taken over.
+    static std::shared_ptr<Roads> read(const Options &options, Roads *before = nullptr);
     // A further handle on the one graph, for a thread that asks.
     Handle share();
     // What /health says.
@@ -30,6 +31,7 @@ class Roads {
     uint32_t vertices = 0;
     size_t arcs = 0;
     std::string not_factored;
+    bool is_reweighed = false;
     std::unique_ptr<Places> places;
     std::unique_ptr<Also> also;
 
@@ -40,5 +42,8 @@ class Roads {
     Handle first;
 
     void factor();
+    // Whether it is factored over the links of another graph: not if an arc has none there, or if
+    // the weights are too great.
+    bool reweigh(Roads &before);
     void read_also(const std::string &name, const std::string &path);
 };

@@ -119,6 +119,62 @@ def new_graphs(room):
     print(f"{count[0]} requests during 20 changes of the graph", flush=True)
 
 
+def reweighed(room):
+    """Reloads of a factored graph: with other weights, or without an arc, its links are taken over; with a new arc, with weights that are
+    too great, or without --factors, they are not. The answers are those of the file either way."""
+    path, far = Path(room) / "reweighed.gr", FIVE.read_text().replace("p sp 5 7", "p sp 5 8") + "a 4 5 1\n"
+    path.write_text(FIVE.read_text())
+    server = Server(path, "--factors")
+    texts = [(FIVE.read_text().replace("a 2 4 5", "a 2 4 1"), 1, 4), (FIVE.read_text().replace("p sp 5 7", "p sp 5 6").replace("a 2 4 5\n", ""), 1, 9), (far, 0, 8),
+             (far.replace("a 2 4 5", "a 2 4 2"), 1, 5), *((chain_of(65536, weight), kept, 3 * weight) for weight, kept in ((1, 0), (2, 1), (2**32 - 1, 0), (1, 0)))]
+    counted = 0
+    for turn, (text, is_reweighed, value) in enumerate(texts, 1):
+        replace(path, text)
+        server.send(signal.SIGHUP)
+        server.wait_for("reloaded", turn)
+        counted += is_reweighed
+        got = server.counted("diffuse_reloads_reweighed_total"), server.ask(ROUTE)[1]["value"], server.ask("/tree?sources=1&limit=1")[0]
+        if got != (counted, value, 200):
+            yield f"reload {turn}: {got}, and not {counted, value, 200}"
+    if server.counted('diffuse_reloads_total{result="done"}') != len(texts) or server.end() != 0:
+        yield f"status {server.run.returncode}, {server.log[-2:]}"
+    path.write_text(FIVE.read_text())
+    plain = Server(path)
+    plain.send(signal.SIGHUP)
+    if not plain.wait_for("reloaded") or plain.counted("diffuse_reloads_reweighed_total") or plain.end() != 0:
+        yield f"without factors: {plain.log}"
+
+
+def chain_of(count, weight):
+    """The text of a graph of so many vertices one after the other."""
+    return f"p sp {count} {count - 1}\n" + "".join(f"a {v} {v + 1} {weight}\n" for v in range(1, count))
+
+
+def trees(room):
+    """Trees of the town up to some limit: in the order of vertices, by values as in tables, and no other vertex is within; and the longest."""
+    server, lot = Server(TOWN), random.Random(4)
+    for _ in range(20):
+        sources, limit = [lot.randint(1, 4000) for _ in range(lot.randint(1, 3))], lot.choice([0, 4000, 40000])
+        lines = server.ask(f"/tree?sources={','.join(map(str, sources))}&limit={limit}")[1]["vertices"]
+        asked = [line[0] for line in lines[:50]] + [lot.randint(1, 4000) for _ in range(50)]
+        rows = server.ask("/table", f'{{"sources": {sources}, "targets": {asked}}}')[1]["values"]
+        best = [min((value for value in column if value is not None), default=None) for column in zip(*rows)]
+        known = {vertex: value for vertex, value, _, _ in lines}
+        wanted = {vertex: value for vertex, value in zip(asked, best) if value is not None and value <= limit}
+        if [line[0] for line in lines] != sorted(known) or {vertex: known[vertex] for vertex in asked if vertex in known} != wanted:
+            yield f"from {sources} within {limit}: {lines[:5]}"
+    path = Path(room) / "chain.gr"
+    path.write_text(chain_of(100001, 1))
+    long = Server(path)
+    most, more = long.ask("/tree?sources=1&limit=99999"), long.ask("/tree?sources=1&limit=100000")
+    if len(most[1]["vertices"]) != 100000 or most[1]["vertices"][-1] != [100000, 99999, 99999, 99999]:
+        yield f"the longest tree has {len(most[1]['vertices'])} vertices"
+    if more[0] != 400 or more[1]["detail"] != "100001 vertices are within this limit, more than 100000":
+        yield f"a longer tree: {more}"
+    if server.end() != 0 or long.end() != 0:
+        yield "a bad end"
+
+
 def drained():
     """SIGTERM while tables are being answered: all that came are answered, and the server ends with status 0."""
     server, replies = Server(TOWN, "--timeout", "30", "--drain", "30"), []

@@ -6,26 +6,29 @@ is proved.
 """
 from ._library import version
 from .algebras import ALGEBRAS, UNREACHED, Algebra
-from .answers import Route, Tree
+from .answers import Near, Route, Tree
 from .errors import (
-    AlreadyOpen, BadProblemLine, BadShape, Closed, DiffuseError, InputError, NoAlgebra, NoFactors, NoProblemLine, NoRoom, NoRoute,
-    NotANumber, NotFactored, NoVertex, OutOfMemory, OutOfRange, Reason, SecondProblemLine, TextFault, TooDense, TooFewArcs,
+    AlreadyOpen, BadProblemLine, BadShape, Closed, DiffuseError, InputError, NoAlgebra, NoFactors, NoLink, NoProblemLine, NoRoom,
+    NoRoute, NotANumber, NotFactored, NoVertex, OutOfMemory, OutOfRange, Reason, SecondProblemLine, TextFault, TooDense, TooFewArcs,
     TooHeavy, TooManyArcs, UnknownLine, WrongFields, WrongTree,
 )
-from .graph import Graph
+from .between import BetweenPoints
 from .distances import NamedTable
+from .graph import Graph
+from .isochrones import Isochrone
 from .network import Network
 from .places import Places
 from .routes import NamedRoute, Step
 from .streets import DRIVING, WALKING
-from .trees import Isochrone, NamedTree
+from .snaps import Snap
+from .trees import NamedTree
 
 __version__ = "1.1.0"
 
 __all__ = [
-    "Algebra", "ALGEBRAS", "AlreadyOpen", "BadProblemLine", "BadShape", "Closed", "DiffuseError", "DRIVING", "Graph",
-    "InputError", "Isochrone", "NamedRoute", "NamedTable", "NamedTree", "Network", "NoAlgebra", "NoFactors", "NoProblemLine",
+    "Algebra", "ALGEBRAS", "AlreadyOpen", "BadProblemLine", "BadShape", "BetweenPoints", "Closed", "DiffuseError", "DRIVING", "Graph",
+    "InputError", "Isochrone", "NamedRoute", "NamedTable", "NamedTree", "Near", "Network", "NoAlgebra", "NoFactors", "NoLink", "NoProblemLine",
     "NoRoom", "NoRoute", "NotANumber", "NotFactored", "NoVertex", "OutOfMemory", "OutOfRange", "Places", "Reason", "Route",
-    "SecondProblemLine", "Step", "TextFault", "TooDense", "TooFewArcs", "TooHeavy", "TooManyArcs", "Tree", "UnknownLine",
+    "SecondProblemLine", "Snap", "Step", "TextFault", "TooDense", "TooFewArcs", "TooHeavy", "TooManyArcs", "Tree", "UnknownLine",
     "UNREACHED", "version", "WALKING", "WrongFields", "WrongTree",
 ]

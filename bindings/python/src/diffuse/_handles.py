@@ -3,11 +3,12 @@ from __future__ import annotations
 
 from contextlib import contextmanager
 from ctypes import byref
-from typing import Iterable, Iterator
+from typing import Any, Iterable, Iterator
 
 from ._library import DONE, Handle, library
 from ._locks import ForkLock
-from .errors import Closed, refusal
+from .columns import address, reweighed
+from .errors import Closed, InputError, refusal
 
 
 class Handles:
@@ -16,15 +17,16 @@ class Handles:
     Only one call at a time may use a handle. A lock guards the list of those that are free, and the first handle. When the
     graph is factored another handle becomes the first, with a new generation, and those of the one before are closed as their
     calls end. A forked child has the first handle and the free ones; those that calls of other threads used are lost to it.
+    `given` are the arcs in the order in which they were given, if that is known.
     """
 
-    def __init__(self, first: Handle, factored: Iterable[int] = ()) -> None:
+    def __init__(self, first: Handle, factored: Iterable[int] = (), given: Any = None) -> None:
         self.vertices = int(library().diffuse_graph_vertices(byref(first)))
         self.arcs = int(library().diffuse_graph_arcs(byref(first)))
         self._lock, self._factoring = ForkLock(waits=True), ForkLock()
         self._first, self._generation, self._factored = first, 0, set(factored)
         self._free: list[Handle] = []
-        self._closed = False
+        self._closed, self._given = False, given
 
     @contextmanager
     def borrowed(self) -> Iterator[Handle]:
@@ -39,7 +41,24 @@ class Handles:
     def copied(self) -> Handles:
         """Handles of the same graph in memory, which are closed by themselves. Raises Closed, or OutOfMemory."""
         with self._lock:
-            return Handles(self._shared(), self._factored)
+            return Handles(self._shared(), self._factored, self._given)
+
+    def reweighed(self, weights: Any) -> Handles:
+        """Handles of the graph of the same arcs with other weights, with the factors that this one has. Raises InputError if the
+        arcs are not known, or a refusal of the library."""
+        second = Handle()
+        with self._lock:
+            handle, factored, given = self._unused(), set(self._factored), self._given
+        try:
+            if given is None:
+                raise InputError("a graph that was read from a text does not keep its arcs; one of from_columns does")
+            arcs = reweighed(given, weights)
+            status = library().diffuse_graph_reweigh(byref(handle), address(arcs), self.arcs, byref(second))
+        finally:
+            self._give_back(handle)
+        if status != DONE:
+            raise refusal(status)
+        return Handles(second, factored, arcs)
 
     def _unused(self) -> Handle:
         """A free handle, or a new one, under the lock."""
@@ -102,5 +121,5 @@ class Handles:
             library().diffuse_graph_close(byref(handle))
 
     def _taken(self) -> list[Handle]:
-        handles, self._free, self._closed = [*self._free, self._first], [], True
+        handles, self._free, self._closed, self._given = [*self._free, self._first], [], True, None
         return handles

@@ -43,6 +43,8 @@ _CALLS = {
     "diffuse_graph_tree": (c_int32, [*_QUESTION, *_LIST, *_LIST, *_LIST, *_LIST]),
     "diffuse_graph_check": (c_int32, [*_QUESTION, *_LIST, *_LIST, *_LIST, *_LIST, _NUMBER, _NUMBER]),
     "diffuse_graph_table": (c_int32, [*_QUESTION, *_LIST, *_LIST, *_LIST]),
+    "diffuse_graph_near": (c_int32, [*_QUESTION, *_LIST, *_LIST, *_LIST, *_LIST, *_LIST, POINTER(c_size_t)]),
+    "diffuse_graph_reweigh": (c_int32, [_HANDLE, *_LIST, _HANDLE]),
     "diffuse_graph_factor": (c_int32, [_HANDLE, c_uint32]),
     "diffuse_version": (c_uint32, []),
 }

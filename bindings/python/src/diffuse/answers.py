@@ -1,12 +1,18 @@
-"""What a graph answers with: a route, or a tree of all vertices."""
+"""What a graph answers with: a route, a tree of all vertices, or the lines of those that are reached."""
 from __future__ import annotations
 
+from array import array
 from dataclasses import dataclass
-from typing import Any, Optional
+from functools import cached_property
+from typing import Any, Iterator, Mapping, Optional, Sequence, Union
 
 from .algebras import UNREACHED, Algebra, AnyAlgebra, algebra_of
-from .columns import Argument, are_equal, index_of, vertex_number
+from .columns import Argument, are_equal, index_of, room, vertex_number
 from .errors import BadShape, NoRoute, NotANumber, Reason, WrongTree, shown
+
+
+Line = tuple[int, int, int]
+"""The value, hops and parent of a vertex."""
 
 
 @dataclass(frozen=True)
@@ -40,6 +46,22 @@ class Tree:
     def reaches(self, vertex: int) -> bool:
         """Whether a walk to the vertex has a value. Raises NoVertex."""
         return self._number("values", self._vertex(vertex)) != UNREACHED
+
+    def line(self, vertex: int) -> Line:
+        """The value, hops and parent of a vertex. Raises NoVertex."""
+        place = self._vertex(vertex) - 1
+        return int(self.values[place]), int(self.hops[place]), int(self.parents[place])
+
+    def lines(self) -> Iterator[tuple[int, Line]]:
+        """Each vertex that is reached, with its line."""
+        columns = (column.tolist() if hasattr(column, "tolist") else column for column in (self.values, self.hops, self.parents))
+        return ((vertex, line) for vertex, line in enumerate(zip(*columns), 1) if line[0] != UNREACHED)
+
+    def origins(self) -> Union[Mapping[int, int], Sequence[int]]:
+        """The nearest source of each vertex that is reached."""
+        found = array("I", bytes(4 * (len(self.values) + 1)))
+        _put_origins(self.lines(), found)
+        return found
 
     def route(self, vertex: int) -> Route:
         """The route to a vertex from the nearest source.
@@ -83,8 +105,91 @@ class Tree:
     def __eq__(self, other: object) -> bool:
         if not isinstance(other, Tree):
             return NotImplemented
-        questions = [(algebra_of(tree.algebra), tree.limit, sorted(set(map(int, tree.sources)))) for tree in (self, other)]
         lists = [(self.values, other.values), (self.hops, other.hops), (self.parents, other.parents)]
-        return questions[0] == questions[1] and all(are_equal(*pair) for pair in lists)
+        return _question(self) == _question(other) and all(are_equal(*pair) for pair in lists)
 
     __hash__ = None  # type: ignore[assignment]
+
+
+@dataclass(frozen=True, eq=False)
+class Near:
+    """The vertices that are reached, the best first, and in the same place of each list the value, hops and parent of one.
+
+    A source has parent 0. The lists are arrays of numpy (uint32, uint64, uint32, uint32), or of the module array without numpy.
+    The order of vertices of equal value is not said. Two are equal if they answer the same question about graphs of equally
+    many vertices, and reach the same vertices by the same lines.
+    """
+
+    vertices: Any
+    values: Any
+    hops: Any
+    parents: Any
+    sources: Any
+    count: int
+    """How many vertices the graph has."""
+    algebra: AnyAlgebra = Algebra.SHORTEST
+    limit: Optional[int] = None
+
+    def __len__(self) -> int:
+        return len(self.vertices)
+
+    @cached_property
+    def _lines(self) -> dict[int, Line]:
+        return dict(zip(self.vertices.tolist(), zip(self.values.tolist(), self.hops.tolist(), self.parents.tolist())))
+
+    def line(self, vertex: int) -> Line:
+        """The value, hops and parent of a vertex: UNREACHED, 0 and 0 if it is not reached. Raises NoVertex."""
+        return self._lines.get(vertex_number(vertex, "vertex", self.count), (UNREACHED, 0, 0))
+
+    def lines(self) -> Iterator[tuple[int, Line]]:
+        """Each vertex that is reached, with its line, by their numbers."""
+        return iter(sorted(self._lines.items()))
+
+    def origins(self) -> Union[Mapping[int, int], Sequence[int]]:
+        """The nearest source of each vertex that is reached."""
+        found: dict[int, int] = {}
+        _put_origins(self.lines(), found)
+        return found
+
+    def reaches(self, vertex: int) -> bool:
+        """Whether a walk to the vertex has a value. Raises NoVertex."""
+        return self.line(vertex)[0] != UNREACHED
+
+    def route(self, vertex: int) -> Route:
+        """The route to a vertex from the nearest source. Raises NoRoute, NoVertex."""
+        value, hops, parent = self.line(vertex)
+        if value == UNREACHED:
+            raise NoRoute(f"no route leads to vertex {vertex}")
+        vertices = [vertex]
+        while parent:
+            vertices.append(parent)
+            parent = self.line(parent)[2]
+        return Route(value, hops, vertices[::-1])
+
+    def tree(self) -> Tree:
+        """The same as a tree of all vertices."""
+        columns = room("Q", self.count), room("I", self.count), room("I", self.count)
+        for vertex in range(self.count):
+            columns[0][vertex] = UNREACHED
+        for vertex, line in self._lines.items():
+            for column, number in zip(columns, line):
+                column[vertex - 1] = number
+        return Tree(*columns, self.sources, self.algebra, self.limit)
+
+    def __eq__(self, other: object) -> bool:
+        if not isinstance(other, Near):
+            return NotImplemented
+        return (_question(self), self.count, self._lines) == (_question(other), other.count, other._lines)
+
+    __hash__ = None  # type: ignore[assignment]
+
+
+def _question(lines: Union[Tree, Near]) -> tuple[Any, ...]:
+    """What was asked."""
+    return algebra_of(lines.algebra), lines.limit, sorted(set(map(int, lines.sources)))
+
+
+def _put_origins(lines: Iterator[tuple[int, Line]], found: Any) -> None:
+    """Puts in place the nearest source of each vertex: that of its parent, which has fewer hops."""
+    for vertex, (_, _, parent) in sorted(lines, key=lambda pair: pair[1][1]):
+        found[vertex] = found[parent] if parent else vertex

@@ -189,6 +189,20 @@ def arcs_of(arcs: Any, vertices: int) -> Any:
     return arcs_of_columns(zip(*rows) if rows else ((), (), ()), arguments, vertices)
 
 
+def reweighed(arcs: Any, weights: Any) -> Any:
+    """The memory of the same arcs with other weights."""
+    if np is not None:
+        return np.column_stack((arcs[:, :2], weights))
+    own = array("I", arcs)
+    own[2::3] = weights
+    return own
+
+
+def first_of(column: Any, count: int) -> Any:
+    """So many numbers from the first on, in memory of their own."""
+    return column if len(column) == count else column[:count].copy() if np is not None else column[:count]
+
+
 def room(code: str, count: int) -> Any:
     """A new array of zeros that the library may write to: numpy's, or one of the module array without numpy."""
     return np.zeros(count, dtype=_DTYPES[code]) if np is not None else array(code, bytes(array(code).itemsize * count))

@@ -13,7 +13,8 @@ from .frame import MARGIN, SIZE, Boxes, Frame
 from .geometry import Line
 from .routes import NamedRoute, unit_of
 from .tables import Path
-from .trees import Isochrone, NamedTree
+from .isochrones import Isochrone
+from .trees import NamedTree
 
 if TYPE_CHECKING:
     from .questions import Questions

@@ -217,9 +217,16 @@ class NoAlgebra(InputError):
     status = 43
 
 
+class NoLink(NotFactored):
+    """An arc joins vertices between which the factors have no link."""
+
+    status = 44
+
+
 _KINDS: tuple[type[DiffuseError], ...] = (
     NoRoute, NoRoom, OutOfMemory, Closed, AlreadyOpen, WrongTree, TooDense, TooHeavy, NoFactors, NoProblemLine, SecondProblemLine,
     BadProblemLine, UnknownLine, WrongFields, NotANumber, OutOfRange, NoVertex, TooManyArcs, TooFewArcs, NoAlgebra,
+    NoLink,
 )
 BY_STATUS = {kind.status: kind for kind in _KINDS}
 

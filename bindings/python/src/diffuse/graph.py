@@ -1,28 +1,22 @@
 """A road graph in memory, asked by the proved C library."""
 from __future__ import annotations
 
-import os
-import weakref
-from ctypes import addressof, byref, c_uint32, c_uint64
-from typing import Any, Iterable, NoReturn, Optional, Union
+from ctypes import addressof, byref, c_size_t, c_uint32, c_uint64
+from typing import Any, Iterable, Optional, Union
 
-from ._handles import Handles
-from ._library import DONE, NO_ROUTE, WRONG, Handle, library
+from ._library import DONE, NO_ROOM, NO_ROUTE, WRONG, library
 from .algebras import Algebra, AnyAlgebra, algebra_of, question_of
-from .answers import Route, Tree
-from .columns import (
-    MOST_64, MOST_ARCS, MOST_VERTICES, WEIGHTS, Argument, Column, Span, address, arcs_of, arcs_of_columns, greatest, index_of,
-    is_truth, numbers, room, rows_of, vertex_number, whole_number,
-)
-from .errors import BadShape, NoRoom, NoRoute, NoVertex, OutOfRange, WrongTree, refusal, shown
-from .gr_text import text_refusal
+from .answers import Near, Route, Tree
+from .columns import MOST_64, WEIGHTS, Argument, Span, address, first_of, index_of, is_truth, numbers, room, rows_of, vertex_number
+from .errors import NoRoom, NoRoute, NoVertex, WrongTree, refusal
+from .opening import Opened
 
-
-_COLUMNS = [Argument("tails"), Argument("heads"), Argument("weights")]
 _VERTICES = "a vertex or a list of vertices"
+FEW = 1024
+"""Room for so many vertices is given first; if more are reached, it is asked again with room for them."""
 
 
-class Graph:
+class Graph(Opened):
     """A graph of vertices 1 to `vertices` and arcs (tail, head, weight), which never changes.
 
     `arcs` is a sequence of three numbers each, or an array of numpy or pandas with three columns of any integer type. A weight
@@ -30,75 +24,11 @@ class Graph:
 
     Any number of threads may ask one graph at once: a call lets go of the interpreter's lock while it solves, so the calls run
     side by side. What is given to a call is copied first. A forked child may go on asking. A copy is a second graph over the same
-    memory, to be closed by itself.
+    memory, to be closed by itself. Beside the library's memory a graph keeps its arcs for `with_weights`, 12 bytes each; one
+    that was read from a text does not.
 
     Raises NotANumber, OutOfRange, NoVertex or BadShape, with the place of the first number that can't be used; OutOfMemory.
     """
-
-    def __init__(self, vertices: int, arcs: Any) -> None:
-        count = _vertex_count(vertices)
-        self._open(count, arcs_of(arcs, count))
-
-    @classmethod
-    def from_columns(cls, tails: Column, heads: Column, weights: Column, vertices: Optional[int] = None) -> Graph:
-        """The graph of three columns of equal length; without `vertices` it has as many as the greatest end of an arc."""
-        if vertices is None:
-            span = Span(1, MOST_VERTICES, "I", NoVertex)
-            tails, heads = (numbers(column, argument, span) for column, argument in zip((tails, heads), _COLUMNS))
-            vertices = max(greatest(tails), greatest(heads))
-        count = _vertex_count(vertices)
-        graph = cls.__new__(cls)
-        graph._open(count, arcs_of_columns((tails, heads, weights), _COLUMNS, count))
-        return graph
-
-    @classmethod
-    def from_gr(cls, text: Union[bytes, bytearray, memoryview]) -> Graph:
-        """The graph of the bytes of a .gr text of the 9th DIMACS challenge.
-
-        Raises the class of the text's first fault (a TextFault) with its line, NoRoom or OutOfMemory.
-        """
-        if not isinstance(text, (bytes, bytearray, memoryview)):
-            raise BadShape(f"text: bytes are needed, not {shown(text)}")
-        return cls._from_text(bytes(text), "text")
-
-    @classmethod
-    def read(cls, path: Union[str, "os.PathLike[str]"]) -> Graph:
-        """The graph of a .gr file. Raises as `from_gr` does, or OSError."""
-        with open(path, "rb") as file:
-            return cls._from_text(file.read(), os.fspath(path))
-
-    @classmethod
-    def _from_text(cls, data: bytes, name: str) -> Graph:
-        handle, line = Handle(), c_uint64()
-        status = library().diffuse_graph_read(data or b"\0", len(data), byref(handle), byref(line))
-        if status != DONE:
-            raise text_refusal(status, line.value, data, name)
-        graph = cls.__new__(cls)
-        graph._keep(Handles(handle))
-        return graph
-
-    def _open(self, vertices: int, arcs: Any) -> None:
-        handle, count = Handle(), len(arcs) if getattr(arcs, "ndim", 1) == 2 else len(arcs) // 3
-        if count > MOST_ARCS:
-            raise OutOfRange(f"{count} arcs are more than 2^27")
-        status = library().diffuse_graph_open(vertices, address(arcs), count, byref(handle))
-        if status != DONE:
-            raise refusal(status)
-        self._keep(Handles(handle))
-
-    def _keep(self, handles: Handles) -> None:
-        self._handles, self._vertices, self._arcs = handles, handles.vertices, handles.arcs
-        weakref.finalize(self, handles.drop).atexit = False
-
-    @property
-    def vertices(self) -> int:
-        """How many vertices there are."""
-        return self._vertices
-
-    @property
-    def arcs(self) -> int:
-        """How many arcs there are."""
-        return self._arcs
 
     def route(self, source: int, target: int, algebra: AnyAlgebra = Algebra.SHORTEST, limit: Optional[int] = None) -> Route:
         """The best route from a source to a target.
@@ -134,6 +64,30 @@ class Graph:
         if status != DONE:
             raise refusal(status)
         return Tree(values, hops, parents, begins, number, limit)
+
+    def near(self, sources: Union[int, Iterable[int]], limit: Optional[int] = None,
+             algebra: Optional[AnyAlgebra] = None) -> Near:
+        """The vertices that are reached from the nearest of one or more sources, the best first: their values, hops and parents.
+
+        With a limit it is by `within`, and else by `shortest`, unless an algebra is given. It costs what it returns: less than a
+        tree does, if the limit reaches only a part of the graph.
+
+        Raises NoVertex, NotANumber, NoAlgebra, OutOfMemory or Closed.
+        """
+        usual = Algebra.SHORTEST if limit is None else Algebra.WITHIN
+        number, bound = question_of(usual if algebra is None else algebra, limit)
+        begins, count, places = self._sources(sources), c_size_t(), min(self._vertices, FEW)
+        with self._handles.borrowed() as handle:
+            for _ in range(2):
+                lists = [room(code, places) for code in "IQII"]
+                status = library().diffuse_graph_near(
+                    byref(handle), number, bound, *_lent(begins), *(word for column in lists for word in _lent(column)), byref(count))
+                places = count.value
+                if status != NO_ROOM:
+                    break
+        if status != DONE:
+            raise refusal(status)
+        return Near(*(first_of(column, places) for column in lists), begins, self._vertices, number, limit)
 
     def check(self, tree: Tree) -> None:
         """Returns if the lists are what `tree` answers to the same question; nothing is solved.
@@ -176,6 +130,7 @@ class Graph:
     def factor(self, algebra: AnyAlgebra = Algebra.SHORTEST) -> None:
         """Factors the graph for an algebra, after which its routes, trees and tables are the same, in a fraction of the time.
 
+        A near route is still found by a search, in the time that it took before.
         `shortest` and `within` have one factoring, `hops` has its own. Calls of other threads go on meanwhile.
 
         Raises NoFactors, TooDense or TooHeavy, after which the graph is searched as before; NoAlgebra, OutOfMemory or Closed.
@@ -193,34 +148,6 @@ class Graph:
         if len(column) != self._vertices:
             raise NoRoom(f"{name} has {len(column)} places, and the graph {self._vertices} vertices")
         return column
-
-    def close(self) -> None:
-        """Frees the graph, once the calls of other threads have ended. A closed graph answers with Closed, and stays closed."""
-        self._handles.close()
-
-    def __copy__(self) -> Graph:
-        graph = type(self).__new__(type(self))
-        graph._keep(self._handles.copied())
-        return graph
-
-    def __deepcopy__(self, memo: object) -> Graph:
-        return self.__copy__()
-
-    def __reduce__(self) -> NoReturn:
-        raise TypeError("a Graph can't be pickled, since it is memory of the C library: read it in each process, or fork")
-
-    def __enter__(self) -> Graph:
-        return self
-
-    def __exit__(self, *_reason: object) -> None:
-        self.close()
-
-    def __repr__(self) -> str:
-        return f"<diffuse.Graph of {self._vertices} vertices and {self._arcs} arcs>"
-
-
-def _vertex_count(vertices: object) -> int:
-    return whole_number(vertices, "vertices", 0, MOST_VERTICES)
 
 
 def _lent(column: Any) -> tuple[int, int]:

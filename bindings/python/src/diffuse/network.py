@@ -2,18 +2,19 @@
 from __future__ import annotations
 
 import os
-from typing import Any, Mapping, Optional, Union
+from typing import Any, Iterable, Mapping, Optional, Union
 
 from .drawing import Labels, draw
 from .errors import InputError, shown
 from .formats import dimacs_places, dimacs_roads, networkx_edges, networkx_places
+from .located import Number
 from .osm import read_ways
 from .places import places_of
-from .questions import Number, Questions
-from .roads import Columns, Costs, roads_of
+from .questions import Questions
+from .roads import Columns, Costs, Roads, roads_of
 from .routes import NamedRoute
 from .streets import DRIVING, Choice, map_of, speeds_of
-from .sums import with_sum
+from .sums import with_sum, with_values
 from .tables import Path, read_table, table_of
 from .trees import NamedTree
 
@@ -106,7 +107,36 @@ class Network(Questions):
             raise InputError(f"parts: costs with their factors are needed, as in {{'minutes': 1}}, not {shown(parts)}")
         for part in parts:
             self.cost(part)
-        return type(self)(with_sum(self.roads, name, parts, scale, rounding), self.places)
+        return self._over(with_sum(self.roads, name, parts, scale, rounding), name)
+
+    def with_cost(self, name: str, values: Iterable[Number], scale: Optional[int] = None, *, like: Optional[str] = None,
+                  rounding: bool = False) -> Network:
+        """The network with one more cost, or with other values of one: a number for each road of its table, as of a road's traffic now.
+
+        The graphs by it are made of those by the cost `like`, which is the same one if nothing is said, and are factored as those
+        are, over the same links, in a fraction of the time. The scale is that of `like` too.
+
+        Raises InputError and its kinds with the row of the first number that can't be used; TooHeavy if the weights are too great
+        for factors; OutOfMemory.
+        """
+        like = like if like is not None or name not in self.costs else name
+        if like is None and scale is None:
+            raise InputError(f"scale: {shown(name)} is a new cost, which needs one, or the name of a cost that it is like")
+        scale = scale if like is None or scale is not None else self.cost(like).scale
+        network = self._over(with_values(self.roads, name, values, scale, rounding), name)
+        with self._lock:
+            graphs = {towards: graph for (by, towards), graph in self._graphs.items() if by == like}
+        for towards, graph in graphs.items():
+            network._graphs[name, towards] = graph.with_weights(network.cost(name).weights)
+        return network
+
+    def _over(self, roads: Roads, name: str) -> Network:
+        """The network of the same roads with another cost of this name, and with what is known of them."""
+        network = type(self)(roads, self.places)
+        with self._lock:
+            network._graphs = {key: graph for key, graph in self._graphs.items() if key[0] != name}
+            network._by_end, network._grid, network._road_grid = dict(self._by_end), self._grid, self._road_grid
+        return network
 
     def draw(self, path: Path, *answers: Union[NamedRoute, NamedTree], labels: Optional[Labels] = None,
              title: str = "", width: int = 1000) -> None:

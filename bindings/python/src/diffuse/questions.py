@@ -2,42 +2,38 @@
 from __future__ import annotations
 
 from decimal import ROUND_FLOOR, Decimal
-from math import inf
 from typing import Any, Hashable, Iterable, Mapping, Optional, Sequence, Union
 
-from ._locks import ForkLock
 from .algebras import MOST_LIMIT, UNREACHED, Algebra, AnyAlgebra, algebra_of
 from .answers import Route
+from .between import BetweenPoints, best_between
 from .columns import Argument, listed
-from .decimals import argument_of, positive, scaled
+from .decimals import argument_of, scaled
 from .distances import NamedTable
-from .errors import InputError, NoAlgebra, NoRoute, NoVertex, shown
-from .graph import Graph
+from .errors import InputError, NoAlgebra, NoRoute, shown
 from .geometry import Point
-from .nearest import Grid
-from .places import Places, is_point, point_of
-from .roads import ArcsByTail, Cost, Roads, best_arc
+from .graph import Graph
+from .isochrones import Isochrone
+from .located import Located, Number
+from .places import Places, is_point
+from .roads import ArcsByEnd, Cost, Roads, best_arc
 from .routes import NamedRoute, worth
-from .trees import Isochrone, NamedTree
+from .snaps import Snap
+from .trees import NamedTree
 
-Number = Union[int, float, str, Decimal]
 Sources = Union[Hashable, Iterable[Hashable]]
 LIMITS, PLACES = Argument("limits", needed="a list of numbers"), Argument("places", needed="a place or a list of places")
 MILLION = 10**6
-NEAR = 1000.0
-"""How many metres the nearest place may be away, if nothing else is said."""
 
 
-class Questions:
+class Questions(Located):
     """Roads and places with names, and an exact graph for each cost over the same arcs, made at the first question."""
 
     def __init__(self, roads: Roads, places: Optional[Places] = None) -> None:
         """The network of roads and coordinates that are numbered already."""
-        self.roads, self.places = roads, places
-        self._lock = ForkLock()
+        super().__init__(roads, places)
         self._graphs: dict[tuple[str, bool], Graph] = {}
-        self._by_tail: Optional[ArcsByTail] = None
-        self._grid: Optional[Grid] = None
+        self._by_end: dict[bool, ArcsByEnd] = {}
 
     def __getstate__(self) -> tuple[Roads, Optional[Places]]:
         return self.roads, self.places
@@ -46,51 +42,12 @@ class Questions:
         Questions.__init__(self, *state)
 
     @property
-    def names(self) -> Sequence[Hashable]:
-        """The places, in the order in which they first come; the vertex of a place is its position, from 1 on."""
-        return self.roads.names
-
-    @property
     def costs(self) -> Mapping[str, Cost]:
         """The costs by name."""
         return self.roads.costs
 
     def __repr__(self) -> str:
         return f"<diffuse.Network of {len(self.names)} places and {len(self.roads.tails)} arcs, by {', '.join(self.costs)}>"
-
-    def vertex(self, place: Hashable) -> int:
-        """The number of a place in the graphs; of two floats that are no name, that of the nearest place. Raises NoVertex."""
-        try:
-            return self.roads.numbers[place]
-        except (KeyError, TypeError):
-            if is_point(place) and self.places is not None:
-                return self.roads.numbers[self.nearest(place[0], place[1])]
-            raise NoVertex(f"there is no place {shown(place)}{self._hint(place)}") from None
-
-    def _hint(self, place: object) -> str:
-        """The name that may have been meant: a text for a number, or a number for a text."""
-        other = int(place) if isinstance(place, str) and place.isdecimal() and len(place) < 20 else str(place)[:80]
-        return f"; but there is {other!r}" if other in self.roads.numbers else ""
-
-    def nearest(self, x: float, y: float, within: Optional[Number] = None) -> Hashable:
-        """The place that is nearest to a longitude and a latitude, and not further than so many metres, of which there are 1,000 if
-        nothing is said; or nearest to any x and y, in their unit. Of equal ones it is the first.
-
-        Raises NoVertex if there is none so near, InputError without coordinates, NotANumber or OutOfRange.
-        """
-        if self.places is None:
-            raise InputError("the nearest place is found by coordinates, which this network does not have")
-        point = point_of(x, y, self.places.degrees)
-        most = positive(within, "within") if within is not None else NEAR if self.places.degrees else inf
-        with self._lock:
-            if self._grid is None:
-                self._grid = Grid(self.places, self.names)
-        place, way = self._grid.nearest(point)
-        if place is None or way > most:
-            unit = "m " if self.places.degrees else ""
-            raise NoVertex(f"no place is within {most:.12g} {unit}of {point}; the nearest is {way:.0f} {unit}away; "
-                           "within= takes others")
-        return place
 
     def cost(self, name: str) -> Cost:
         """The cost of a name. Raises InputError."""
@@ -120,6 +77,21 @@ class Questions:
         except NoRoute:
             raise NoRoute(f"no route leads from {source} to {target}") from None
         return self._named(route.vertices, route.value, by, kind)
+
+    def route_between(self, begin: Union[Snap, Hashable], end: Union[Snap, Hashable], by: str) -> BetweenPoints:
+        """The shortest route by a cost between points on roads: two of `snap`, pairs of floats, which are snapped, or places.
+
+        Of a road that is gone along in part, the same part of its cost is counted, rounded to the nearest weight, a half upwards:
+        at each end the cost is up to half a unit of its scale more or less. A road is left against its direction only if it is
+        both ways, or another one leads back along its line. Raises NoRoute, NoVertex, InputError or OutOfMemory.
+        """
+        return best_between(self, self._on_road(begin), self._on_road(end), by)
+
+    def _on_road(self, point: Any) -> Union[Snap, Hashable]:
+        """A point on a road, or the name of a place."""
+        if is_point(point) and point not in self.roads.numbers:
+            return self.snap(*point)
+        return point if isinstance(point, Snap) else self._name(point)
 
     def tree(self, sources: Sources, by: str, algebra: AnyAlgebra = Algebra.SHORTEST,
              limit: Optional[Number] = None, towards: bool = False) -> NamedTree:
@@ -159,8 +131,8 @@ class Questions:
         """
         bounds, begins = self._limits(by, limits), self._sources(sources)
         most = self._limit(by, bounds[-1])
-        tree = self.graph(by, towards).tree([self.vertex(name) for name in begins], Algebra.WITHIN, most)
-        return Isochrone(self, tree, by, Algebra.WITHIN, begins, towards, [float(bound) for bound in bounds])
+        near = self.graph(by, towards).near([self.vertex(name) for name in begins], most)
+        return Isochrone(self, near, by, Algebra.WITHIN, begins, towards, [float(bound) for bound in bounds])
 
     def _limits(self, by: str, limits: Any) -> list[Decimal]:
         if isinstance(limits, bytes):
@@ -226,13 +198,20 @@ class Questions:
             raise NoAlgebra(f"{name}: {limit} is not from 0 to 2^63 divided by the scale")
         return int(units.to_integral_value(ROUND_FLOOR))
 
+    def arcs_by_end(self, towards: bool = False) -> ArcsByEnd:
+        """The arcs out of each vertex, or with `towards` into it; made at the first question."""
+        with self._lock:
+            if towards not in self._by_end:
+                self._by_end[towards] = ArcsByEnd(len(self.names), self.roads.heads if towards else self.roads.tails)
+            return self._by_end[towards]
+
+    def arcs_between(self, tail: int, head: int) -> list[int]:
+        """The arcs from a vertex to another, in order."""
+        heads = self.roads.heads
+        return [arc for arc in self.arcs_by_end().at(tail) if heads[arc] == head]
+
     def _named(self, vertices: Sequence[int], value: int, by: str, algebra: Algebra) -> NamedRoute:
         """A route with the arcs that it takes."""
-        with self._lock:
-            if self._by_tail is None:
-                self._by_tail = ArcsByTail(len(self.names), self.roads.tails)
-            by_tail = self._by_tail
-        heads, weights = self.roads.heads, self.cost(by).weights
-        arcs = [best_arc((arc for arc in by_tail.out_of(tail) if heads[arc] == head), weights, algebra)
-                for tail, head in zip(vertices, vertices[1:])]
+        weights = self.cost(by).weights
+        arcs = [best_arc(self.arcs_between(*pair), weights, algebra) for pair in zip(vertices, vertices[1:])]
         return NamedRoute(self, Route(value, len(arcs), list(vertices)), by, algebra, arcs)

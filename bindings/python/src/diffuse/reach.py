@@ -11,7 +11,7 @@ from .errors import InputError
 from .geometry import RADIUS, Line, Point, at_distances, part_of
 
 if TYPE_CHECKING:
-    from .trees import Isochrone
+    from .isochrones import Isochrone
 
 Cell = tuple[int, int]
 Ring = list[Cell]
@@ -40,11 +40,10 @@ def stretches(isochrone: Isochrone, bounds: list[int]) -> Iterator[tuple[int, li
     roads, places = isochrone.network.roads, isochrone.network.places
     if places is None:
         raise InputError("roads on a map need places with coordinates")
-    values: list[int] = isochrone.tree.values.tolist()
-    for arc in range(len(roads.rows)):
-        reached = reached_of(isochrone, values, arc)
-        line = roads.line(arc, places) if reached is not None else []
-        if reached is not None and len(line) > 1:
+    around = isochrone.network.arcs_by_end(isochrone.towards)
+    for arc in sorted(arc for vertex, _ in isochrone.lines.lines() for arc in around.at(vertex)):
+        reached, line = reached_of(isochrone, arc), roads.line(arc, places)
+        if len(line) > 1:
             line = line[::-1] if isochrone.towards else line
             begin = 0.0
             for band, bound in enumerate(bounds):
@@ -54,13 +53,11 @@ def stretches(isochrone: Isochrone, bounds: list[int]) -> Iterator[tuple[int, li
                     begin = end
 
 
-def reached_of(isochrone: Isochrone, values: list[int], arc: int) -> Optional[Reached]:
-    """How an arc is reached, or None. Where both directions of a road meet, each ends."""
+def reached_of(isochrone: Isochrone, arc: int) -> Reached:
+    """How an arc is reached whose near end is. Where both directions of a road meet, each ends."""
     roads, weights = isochrone.network.roads, isochrone.network.cost(isochrone.by).weights
     near, far = (roads.heads, roads.tails) if isochrone.towards else (roads.tails, roads.heads)
-    value, other, back = values[near[arc] - 1], values[far[arc] - 1], roads.back(arc)
-    if value == UNREACHED:
-        return None
+    (value, _, _), (other, _, _), back = isochrone.lines.line(near[arc]), isochrone.lines.line(far[arc]), roads.back(arc)
     if back is None or other == UNREACHED:
         return Reached(value, weights[arc], 1.0)
     both = weights[arc] + weights[back]

@@ -130,20 +130,20 @@ def best_arc(arcs: Iterable[int], weights: "array[int]", algebra: Algebra) -> in
     return min(arcs, key=lambda arc: sign * weights[arc])
 
 
-class ArcsByTail:
-    """The numbers of the arcs out of each vertex, in order."""
+class ArcsByEnd:
+    """The numbers of the arcs at each vertex, in order: by their tails, those out of it; by their heads, those into it."""
 
-    def __init__(self, vertices: int, tails: "array[int]") -> None:
+    def __init__(self, vertices: int, ends: "array[int]") -> None:
         self._begins = array("I", bytes(4 * (vertices + 2)))
-        for tail in tails:
-            self._begins[tail + 1] += 1
+        for end in ends:
+            self._begins[end + 1] += 1
         for vertex in range(1, vertices + 2):
             self._begins[vertex] += self._begins[vertex - 1]
-        places, self._arcs = array("I", self._begins), array("I", bytes(4 * len(tails)))
-        for arc, tail in enumerate(tails):
-            self._arcs[places[tail]] = arc
-            places[tail] += 1
+        places, self._arcs = array("I", self._begins), array("I", bytes(4 * len(ends)))
+        for arc, end in enumerate(ends):
+            self._arcs[places[end]] = arc
+            places[end] += 1
 
-    def out_of(self, vertex: int) -> "array[int]":
-        """The arcs out of a vertex, in the order of the table."""
+    def at(self, vertex: int) -> "array[int]":
+        """The arcs at a vertex, in the order of the table."""
         return self._arcs[self._begins[vertex]:self._begins[vertex + 1]]

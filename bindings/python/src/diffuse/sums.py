@@ -1,4 +1,4 @@
-"""A cost that is a sum of others, each times a factor."""
+"""Costs that a network did not have: a sum of others, each times a factor; and numbers that are given."""
 from __future__ import annotations
 
 from array import array
@@ -8,11 +8,13 @@ from fractions import Fraction
 from math import lcm
 from typing import Any, Mapping
 
-from .columns import MOST_32
-from .decimals import argument_of, scale_of
-from .errors import InputError, OutOfRange, shown
+from .columns import MOST_32, Argument, listed
+from .decimals import argument_of, scale_of, weights_of
+from .errors import BadShape, InputError, OutOfRange, shown
 from .roads import Cost, Roads
+from .tables import Table
 
+VALUES = Argument("values", needed="a number for each road")
 MOST_DIGITS = 50
 """A factor has no digit further than so many places before or after the point."""
 
@@ -40,6 +42,21 @@ def with_sum(roads: Roads, name: str, parts: Mapping[str, Any], scale: int, roun
             raise _refusal(Fraction(units, below), scale, f"{roads.table.row(row) if roads.table else f'row {row}'}, {name}")
         found.append(whole)
     return replace(roads, costs={**roads.costs, name: Cost(found, scale)})
+
+
+def with_values(roads: Roads, name: str, values: Any, scale: Any, rounding: bool) -> Roads:
+    """The roads with one more cost, or another one in its place: a number for each road of their table.
+
+    Raises InputError or its kinds with the place of the first number that can't be used.
+    """
+    cells, count = listed(values, VALUES), len(roads.table) if roads.table else max(roads.rows, default=-1) + 1
+    if not isinstance(name, str):
+        raise InputError(f"name: a text is needed, not {shown(name)}")
+    if len(cells) != count:
+        raise BadShape(f"values has {len(cells)} numbers, and the network {count} roads")
+    scale = scale_of(scale, name)
+    weights = weights_of(Table("values", {name: cells}, "row", range(count)), name, scale, rounding, ".")
+    return replace(roads, costs={**roads.costs, name: Cost(array("I", [weights[row] for row in roads.rows]), scale)})
 
 
 def _factor(value: Any, name: str) -> Decimal:

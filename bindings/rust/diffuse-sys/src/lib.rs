@@ -81,6 +81,23 @@ unsafe extern "C" {
         codes: *mut u64,
         n_codes: usize,
     ) -> i32;
+    pub fn diffuse_graph_near(
+        graph: *mut Handle,
+        algebra: u32,
+        limit: u64,
+        sources: *const u32,
+        n_sources: usize,
+        vertices: *mut u32,
+        n_vertices: usize,
+        codes: *mut u64,
+        n_codes: usize,
+        hops: *mut u32,
+        n_hops: usize,
+        parents: *mut u32,
+        n_parents: usize,
+        count: *mut usize,
+    ) -> i32;
     pub fn diffuse_graph_factor(graph: *mut Handle, algebra: u32) -> i32;
+    pub fn diffuse_graph_reweigh(graph: *mut Handle, arcs: *const Arc, n_arcs: usize, second: *mut Handle) -> i32;
     pub fn diffuse_version() -> u32;
 }

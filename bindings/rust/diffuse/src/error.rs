@@ -20,6 +20,8 @@ pub enum Error {
     TooHeavy,
     /// The algebra has no factors.
     NoFactors,
+    /// An arc joins vertices between which the factors have no link.
+    NoLink,
     /// A text is longer than 2^32 bytes.
     TextTooLong,
     /// The first fault of a text, and its line, counted from 1.
@@ -77,6 +79,7 @@ pub(crate) fn done(status: i32) -> Result<(), Error> {
         16 => Error::TooLarge,
         17 => Error::NoVertex,
         43 => Error::LimitTooGreat,
+        44 => Error::NoLink,
         other => Error::Other(other),
     })
 }
@@ -101,6 +104,7 @@ impl fmt::Display for Error {
             Error::TooDense => out.write_str("factors would need too many links: no small separators"),
             Error::TooHeavy => out.write_str("weights that are too great for factors"),
             Error::NoFactors => out.write_str("an algebra without factors"),
+            Error::NoLink => out.write_str("an arc between vertices between which the factors have no link"),
             Error::TextTooLong => out.write_str("a text of more than 2^32 bytes"),
             Error::Text { fault, line } => write!(out, "fault {} in line {line}", *fault as i32),
             Error::Other(status) => write!(out, "status {status}"),

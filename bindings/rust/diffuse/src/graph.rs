@@ -1,7 +1,6 @@
 use crate::error::{self, Error};
-use crate::table::Table;
-use crate::tree::{Tree, Wrong};
-use crate::{Algebra, Arc};
+use crate::tree::{Label, Tree, Wrong};
+use crate::{Algebra, Arc, Route, Table};
 use diffuse_sys::*;
 use std::cell::UnsafeCell;
 use std::fmt;
@@ -10,6 +9,9 @@ const NO_ROUTE: i32 = 1;
 const NO_ROOM: i32 = 2;
 const WRONG: i32 = 6;
 
+/// Room for so many vertices is given first; if more are near, it is asked again with room for them.
+const FEW: usize = 1024;
+
 /// A graph in memory. It is freed with the last that shares it.
 pub struct Graph {
     handle: UnsafeCell<Handle>,
@@ -17,15 +19,6 @@ pub struct Graph {
 
 // SAFETY: a handle may go from one thread to another. It is not `Sync`, so that only one call at a time uses it.
 unsafe impl Send for Graph {}
-
-/// A best route.
-#[derive(Clone, Debug, PartialEq, Eq)]
-pub struct Route {
-    /// The best code.
-    pub code: u64,
-    /// The vertices from the source to the target, along least parents: one more than the least hops.
-    pub vertices: Vec<u32>,
-}
 
 impl Graph {
     /// A graph whose handle is still closed.
@@ -136,6 +129,40 @@ impl Graph {
         Ok(tree)
     }
 
+    /// The vertices that are reached from the nearest of the sources, the best first, each with its label. It costs what it
+    /// returns: less than a tree, if [`Algebra::Within`] reaches only a part of the graph.
+    pub fn near(&self, algebra: Algebra, sources: &[u32]) -> Result<Vec<(u32, Label)>, Error> {
+        let (number, limit) = algebra.number_and_limit();
+        let mut count = FEW.min(self.vertices() as usize);
+        loop {
+            let (mut vertices, mut tree) = (vec![0; count], Tree::unreached(count));
+            // SAFETY: as in `share`; each slice is valid for its length.
+            let status = unsafe {
+                diffuse_graph_near(
+                    self.handle.get(),
+                    number,
+                    limit,
+                    sources.as_ptr(),
+                    sources.len(),
+                    vertices.as_mut_ptr(),
+                    vertices.len(),
+                    tree.codes.as_mut_ptr(),
+                    tree.codes.len(),
+                    tree.hops.as_mut_ptr(),
+                    tree.hops.len(),
+                    tree.parents.as_mut_ptr(),
+                    tree.parents.len(),
+                    &mut count,
+                )
+            };
+            if status != NO_ROOM {
+                error::done(status)?;
+                vertices.truncate(count);
+                return Ok(vertices.into_iter().zip(tree.labels()).collect());
+            }
+        }
+    }
+
     /// The best codes from each of the sources to each of the targets. Each source takes a search, unless the graph was factored.
     pub fn table(&self, algebra: Algebra, sources: &[u32], targets: &[u32]) -> Result<Table, Error> {
         let (number, limit) = algebra.number_and_limit();
@@ -158,13 +185,24 @@ impl Graph {
     }
 
     /// Factors the graph for an algebra. Afterwards routes, trees and tables of this graph, and of those that are shared from it
-    /// later, are the same, in a fraction of the time.
+    /// later, are the same, in a fraction of the time; a near route is still found by a search.
     ///
     /// `Shortest` and `Within` have one factoring, `Hops` has its own, and the others have none. A graph that is refused is
     /// searched as before.
     pub fn factor(&self, algebra: Algebra) -> Result<(), Error> {
         // SAFETY: as in `share`.
         error::done(unsafe { diffuse_graph_factor(self.handle.get(), algebra.number_and_limit().0) })
+    }
+
+    /// A second graph, of other arcs on the same vertices, factored as this one is, over the same links, in a fraction of the time.
+    ///
+    /// Refused with [`Error::TooHeavy`] if the weights are too great for factors, and with [`Error::NoLink`] if an arc joins
+    /// vertices that no arc of this graph joins, and that the factors do not link. Then it can be opened and factored anew.
+    pub fn reweigh(&self, arcs: &[Arc]) -> Result<Graph, Error> {
+        let second = Graph::closed();
+        // SAFETY: as in `share`; the slice is valid for its length.
+        error::done(unsafe { diffuse_graph_reweigh(self.handle.get(), arcs.as_ptr(), arcs.len(), second.handle.get()) })?;
+        Ok(second)
     }
 
     /// Judges a tree from these sources: none if it is right, else the first vertex that is wrong. Nothing is solved.

@@ -24,13 +24,15 @@
 mod algebra;
 mod error;
 mod graph;
+mod route;
 mod table;
 mod tree;
 
 pub use algebra::Algebra;
 pub use diffuse_sys::Arc;
 pub use error::{Error, TextFault};
-pub use graph::{Graph, Route};
+pub use graph::Graph;
+pub use route::Route;
 pub use table::Table;
 pub use tree::{Label, Reason, Tree, Wrong};
 

@@ -20,6 +20,12 @@ pub struct Label {
     pub parent: Option<u32>,
 }
 
+impl Label {
+    fn of(code: u64, hops: u32, parent: u32) -> Label {
+        Label { code, hops, parent: (parent != 0).then_some(parent) }
+    }
+}
+
 impl Tree {
     /// The code of an unreached vertex.
     pub const UNREACHED: u64 = u64::MAX;
@@ -33,7 +39,13 @@ impl Tree {
     pub fn label(&self, vertex: u32) -> Option<Label> {
         let place = usize::try_from(vertex).ok()?.checked_sub(1)?;
         let (&code, &hops, &parent) = (self.codes.get(place)?, self.hops.get(place)?, self.parents.get(place)?);
-        (code != Tree::UNREACHED).then_some(Label { code, hops, parent: (parent != 0).then_some(parent) })
+        (code != Tree::UNREACHED).then_some(Label::of(code, hops, parent))
+    }
+
+    /// The line of each place.
+    pub(crate) fn labels(self) -> impl Iterator<Item = Label> {
+        let lines = self.codes.into_iter().zip(self.hops).zip(self.parents);
+        lines.map(|((code, hops), parent)| Label::of(code, hops, parent))
     }
 }
 

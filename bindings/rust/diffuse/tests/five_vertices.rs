@@ -78,6 +78,41 @@ fn a_table_by_searches_and_by_factors() {
 }
 
 #[test]
+fn what_is_near() {
+    let (graph, label) = (five(), |code, hops, parent| Label { code, hops, parent });
+    let wanted = [(1, label(0, 0, None)), (3, label(1, 1, Some(1))), (2, label(3, 2, Some(3))), (4, label(8, 3, Some(2)))];
+    for _ in 0..2 {
+        assert_eq!(graph.near(Algebra::Within(3), &[1]).unwrap(), wanted[..3]);
+        assert_eq!(graph.near(Algebra::Shortest, &[1]).unwrap(), wanted);
+        assert_eq!(graph.near(Algebra::Hops, &[]).unwrap(), []);
+        assert_eq!(graph.near(Algebra::Shortest, &[6]), Err(Error::NoVertex));
+        assert_eq!(graph.factor(Algebra::Shortest), Ok(()));
+    }
+    let chain: Vec<Arc> = (1..5000).map(|v| arc(v, v + 1, 2)).collect();
+    let far = Graph::open(5000, &chain).unwrap().near(Algebra::Within(9000), &[1]).unwrap();
+    assert_eq!((far.len(), far[4500]), (4501, (4501, label(9000, 4500, Some(4500)))));
+}
+
+#[test]
+fn other_weights_over_the_same_links() {
+    let (arcs, others) = ([arc(1, 2, 4), arc(2, 4, 5), arc(5, 1, 3)], [arc(2, 4, 1), arc(1, 2, 2), arc(1, 5, 7)]);
+    let graph = Graph::open(5, &arcs).unwrap();
+    for _ in 0..2 {
+        let second = graph.reweigh(&others).unwrap();
+        assert_eq!(second.tree(Algebra::Shortest, &[1]).unwrap().codes, [0, 2, Tree::UNREACHED, 3, 7]);
+        assert_eq!(graph.route(Algebra::Shortest, 5, 4).unwrap().unwrap().code, 12);
+        assert_eq!(second.reweigh(&[arc(1, 6, 1)]).unwrap_err(), Error::NoVertex);
+        graph.factor(Algebra::Shortest).unwrap();
+    }
+    assert_eq!(graph.reweigh(&[arc(3, 4, 1)]).unwrap_err(), Error::NoLink);
+    let weighed = |weight| (1..65536).map(|v| arc(v, v + 1, weight)).collect::<Vec<Arc>>();
+    let chain = Graph::open(65536, &weighed(1)).unwrap();
+    chain.factor(Algebra::Shortest).unwrap();
+    assert_eq!(chain.reweigh(&weighed(u32::MAX)).unwrap_err(), Error::TooHeavy);
+    assert_eq!(chain.reweigh(&weighed(2)).unwrap().route(Algebra::Shortest, 1, 65536).unwrap().unwrap().code, 131070);
+}
+
+#[test]
 fn what_is_not_factored() {
     let complete: Vec<Arc> = (1..=200).flat_map(|v| (1..=200).map(move |w| arc(v, w, 1))).collect();
     let star: Vec<Arc> = (2..=1000).map(|v| arc(1, v, 1)).collect();

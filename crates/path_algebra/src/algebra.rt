@@ -1,8 +1,8 @@
 //! What a path algebra is.
-ghost use Rattle.std.specs.Prelude.{◌≡◌, Bool, IfSome};
+ghost use Rattle.std.specs.Prelude.{◌≡◌, Bool, Option, IfSome};
 ghost use Rattle.path_algebra.specs.Algebra.{Algebra, IsOrder, IsLawful};
 ghost use Rattle.path_algebra.specs.Carried.{IsCarried};
-ghost use Rattle.path_algebra.specs.Counted.{cost_of};
+ghost use Rattle.path_algebra.specs.Counted.{Cost, cost_of};
 
 use crate::counted_sums::Cost;
 use crate::name::AlgebraName;
@@ -20,6 +20,9 @@ pub trait PathAlgebra: Copy + Send + Sync {
 
     /// The operations and the name, as one record.
     ghost meaning: { Self → Algebra Self.Value };
+
+    /// What an arc costs, if the best values are the least sums of what arcs cost; otherwise none.
+    ghost arc_cost: { Self → Option Cost };
 
     /// Whether `v` is a value of this algebra.
     fn is_value(self, v: Self::Value) -> bool
@@ -59,10 +62,8 @@ pub trait PathAlgebra: Copy + Send + Sync {
     /// What an arc costs, if the best values are the least sums of what arcs cost; otherwise none. Such
     /// values are carried by counted numbers, and a graph can be factored for them.
     fn cost(self) -> Option<Cost>
-        ensures { IfSome result (λ cost. IsCarried (meaning self) (cost_of cost)) }
-    {
-        None
-    }
+        ensures exactly { result ≡ arc_cost self }
+        ensures carried { IfSome result (λ cost. IsCarried (meaning self) (cost_of cost)) };
 
     /// The order is that of the meaning.
     ghost one_order: { (a : Self) → (meaning a).no_worse ≡ order };

@@ -57,7 +57,7 @@ impl CountedSums {
 }
 
 impl PathAlgebra for CountedSums {
-    ghost use Rattle.std.specs.Prelude.{refl};
+    ghost use Rattle.std.specs.Prelude.{refl, None};
     ghost use Rattle.path_algebra.specs.Counted.{counted, cost_of};
     ghost use Rattle.path_algebra.specs.CountedWalks.{counted_laws};
     ghost use Rattle.path_algebra.specs.Laws.{less_is_better};
@@ -67,6 +67,8 @@ impl PathAlgebra for CountedSums {
     ghost order = { (counted (λ w. w) 0).no_worse };
 
     ghost meaning = { λ c. counted (cost_of c.cost) c.bits };
+
+    ghost arc_cost = { λ _. None };
 
     ghost one_order = { λ _. refl };
 
@@ -100,6 +102,10 @@ impl PathAlgebra for CountedSums {
 
     fn name(self) -> AlgebraName {
         AlgebraName::Own
+    }
+
+    fn cost(self) -> Option<Cost> {
+        None
     }
 }
 

@@ -11,7 +11,8 @@ const GREATEST: u64 = 1 << 63;
 pub struct Hops;
 
 impl PathAlgebra for Hops {
-    ghost use Rattle.std.specs.Prelude.{refl};
+    ghost use Rattle.std.specs.Prelude.{refl, Some};
+    ghost use Rattle.path_algebra.specs.Counted.{One};
     ghost use Rattle.path_algebra.specs.Given.{hops};
     ghost use Rattle.path_algebra.specs.Laws.{less_is_better, hops_laws};
 
@@ -20,6 +21,8 @@ impl PathAlgebra for Hops {
     ghost order = { hops.no_worse };
 
     ghost meaning = { λ _. hops };
+
+    ghost arc_cost = { λ _. Some One };
 
     ghost one_order = { λ _. refl };
 

@@ -7,7 +7,7 @@ use road_graph::Vertex;
 use std::marker::Model;
 
 /// The better of two labels, the only one, or none.
-fn better_label<A: PathAlgebra>(l: Option<A::Value>, m: Option<A::Value>) -> Option<A::Value>
+pub fn better_label<A: PathAlgebra>(l: Option<A::Value>, m: Option<A::Value>) -> Option<A::Value>
     ensures { result ≡ better_label A.order l m }
 {
     match (l, m) {

@@ -27,7 +27,7 @@ pub use choice::AlgebraChoice;
 pub use composing::{ComposingAlgebra, composition_holds};
 pub use counted_sums::{Cost, CountedSums};
 pub use hops::Hops;
-pub use labels::Labels;
+pub use labels::{Labels, better_label};
 pub use laws::{
     best_values_are_unique, closed_labels_are_best, laws_hold, merged_labels_are_best,
     names_are_read_back, shortest_values_are_least_sums, simple_walks_are_listed, tight_arcs_reach,

@@ -1,5 +1,6 @@
 //! Whether there is a walk at all.
 use crate::algebra::PathAlgebra;
+use crate::counted_sums::Cost;
 use crate::name::AlgebraName;
 
 /// One value for every walk: a vertex has it, or no walk leads there.
@@ -7,7 +8,7 @@ use crate::name::AlgebraName;
 pub struct Reach;
 
 impl PathAlgebra for Reach {
-    ghost use Rattle.std.specs.Prelude.{refl};
+    ghost use Rattle.std.specs.Prelude.{refl, None};
     ghost use Rattle.path_algebra.specs.Given.{reach};
     ghost use Rattle.path_algebra.specs.Laws.{one_value_is_best, reach_laws};
 
@@ -16,6 +17,8 @@ impl PathAlgebra for Reach {
     ghost order = { reach.no_worse };
 
     ghost meaning = { λ _. reach };
+
+    ghost arc_cost = { λ _. None };
 
     ghost one_order = { λ _. refl };
 
@@ -49,6 +52,10 @@ impl PathAlgebra for Reach {
 
     fn name(self) -> AlgebraName {
         AlgebraName::Reach
+    }
+
+    fn cost(self) -> Option<Cost> {
+        None
     }
 
     fn ties_mostly(self) -> bool {

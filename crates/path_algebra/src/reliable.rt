@@ -1,5 +1,6 @@
 //! Greatest chances.
 use crate::algebra::PathAlgebra;
+use crate::counted_sums::Cost;
 use crate::name::AlgebraName;
 
 /// Certainty, for a walk.
@@ -15,7 +16,7 @@ const SURE_ARC: u64 = 1_000_000;
 pub struct Reliable;
 
 impl PathAlgebra for Reliable {
-    ghost use Rattle.std.specs.Prelude.{refl};
+    ghost use Rattle.std.specs.Prelude.{refl, None};
     ghost use Rattle.path_algebra.specs.Given.{reliable};
     ghost use Rattle.path_algebra.specs.Laws.{more_is_better, reliable_laws};
 
@@ -24,6 +25,8 @@ impl PathAlgebra for Reliable {
     ghost order = { reliable.no_worse };
 
     ghost meaning = { λ _. reliable };
+
+    ghost arc_cost = { λ _. None };
 
     ghost one_order = { λ _. refl };
 
@@ -58,5 +61,9 @@ impl PathAlgebra for Reliable {
 
     fn name(self) -> AlgebraName {
         AlgebraName::Reliable
+    }
+
+    fn cost(self) -> Option<Cost> {
+        None
     }
 }

@@ -12,7 +12,8 @@ const GREATEST: u64 = 1 << 63;
 pub struct Shortest;
 
 impl PathAlgebra for Shortest {
-    ghost use Rattle.std.specs.Prelude.{refl};
+    ghost use Rattle.std.specs.Prelude.{refl, Some};
+    ghost use Rattle.path_algebra.specs.Counted.{Weight};
     ghost use Rattle.path_algebra.specs.Given.{shortest};
     ghost use Rattle.path_algebra.specs.Laws.{less_is_better, shortest_laws};
 
@@ -21,6 +22,8 @@ impl PathAlgebra for Shortest {
     ghost order = { shortest.no_worse };
 
     ghost meaning = { λ _. shortest };
+
+    ghost arc_cost = { λ _. Some Weight };
 
     ghost one_order = { λ _. refl };
 

@@ -1,5 +1,6 @@
 //! Greatest widths.
 use crate::algebra::PathAlgebra;
+use crate::counted_sums::Cost;
 use crate::name::AlgebraName;
 
 /// The greatest value, wider than every arc.
@@ -11,7 +12,7 @@ const WIDEST: u64 = 1 << 32;
 pub struct Widest;
 
 impl PathAlgebra for Widest {
-    ghost use Rattle.std.specs.Prelude.{refl};
+    ghost use Rattle.std.specs.Prelude.{refl, None};
     ghost use Rattle.path_algebra.specs.Given.{widest};
     ghost use Rattle.path_algebra.specs.Laws.{more_is_better, widest_laws};
 
@@ -20,6 +21,8 @@ impl PathAlgebra for Widest {
     ghost order = { widest.no_worse };
 
     ghost meaning = { λ _. widest };
+
+    ghost arc_cost = { λ _. None };
 
     ghost one_order = { λ _. refl };
 
@@ -53,6 +56,10 @@ impl PathAlgebra for Widest {
 
     fn name(self) -> AlgebraName {
         AlgebraName::Widest
+    }
+
+    fn cost(self) -> Option<Cost> {
+        None
     }
 
     fn ties_mostly(self) -> bool {

@@ -34,7 +34,8 @@ impl Within {
 }
 
 impl PathAlgebra for Within {
-    ghost use Rattle.std.specs.Prelude.{refl};
+    ghost use Rattle.std.specs.Prelude.{refl, Some};
+    ghost use Rattle.path_algebra.specs.Counted.{Weight};
     ghost use Rattle.path_algebra.specs.Given.{within};
     ghost use Rattle.path_algebra.specs.Laws.{less_is_better, within_laws};
 
@@ -43,6 +44,8 @@ impl PathAlgebra for Within {
     ghost order = { (within 0).no_worse };
 
     ghost meaning = { λ w. within w.limit };
+
+    ghost arc_cost = { λ _. Some Weight };
 
     ghost one_order = { λ _. refl };
 

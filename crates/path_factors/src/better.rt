@@ -4,9 +4,9 @@ ghost use Rattle.path_algebra.specs.Walks.{better_label};
 ghost use Rattle.path_factors.specs.Substituting.{at};
 ghost use Rattle.path_factors.specs.Edges.{better_walk};
 
-use path_algebra::{ComposingAlgebra, PathAlgebra, laws_hold};
+use path_algebra::{ComposingAlgebra, PathAlgebra, better_label, laws_hold};
 
-/// The better of two labels, the only one, or none.
+/// The better of two labels, by the order that the algebra's meaning has.
 pub(crate) fn better<A: PathAlgebra>(
     algebra: A,
     l: Option<A::Value>,
@@ -15,11 +15,7 @@ pub(crate) fn better<A: PathAlgebra>(
     ensures { result ≡ better_label (A.meaning algebra).no_worse l m }
 {
     laws_hold(algebra);
-    match (l, m) {
-        (Some(y), Some(z)) => Some(if A::no_worse(y, z) { y } else { z }),
-        (None, Some(z)) => Some(z),
-        (l, None) => l,
-    }
+    better_label::<A>(l, m)
 }
 
 /// Leaves a place the better of its label and another.

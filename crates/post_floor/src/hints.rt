@@ -1,10 +1,9 @@
 //! What each shard advertises to the others of the best value that waits for it, and how far they may run ahead of it.
 ghost use Rattle.std.specs.Prelude.{◌≡◌, ⊤, ℕ, ◌≢◌, IsTrue, IfSome, IfNone, None, Some};
-ghost use Rattle.path_algebra.specs.Walks.{better_label};
 ghost use Rattle.post_floor.specs.Hints.{StandsFor, IsShown, IsBestShown, IsLimit};
 
 use crossbeam_utils::CachePadded;
-use path_algebra::{PathAlgebra, laws_hold};
+use path_algebra::{PathAlgebra, better_label, laws_hold};
 use shard_part::Shard;
 use std::alloc::{AllocError, Global};
 use std::sync::atomic::{AtomicU64, Ordering};
@@ -133,7 +132,7 @@ fn best_of_others<A: PathAlgebra, H: HintSource>(
     let mut best = None;
     for shard in 0..shards {
         if shard != own.0 {
-            best = better::<A>(best, value_shown(hints, algebra, Shard(shard)));
+            best = better_label::<A>(best, value_shown(hints, algebra, Shard(shard)));
         }
     }
     best
@@ -161,17 +160,6 @@ fn value_of<A: PathAlgebra>(algebra: A, code: u64) -> Option<A::Value>
         return None;
     }
     algebra.value_of(code)
-}
-
-/// The better of two values, the only one, or none.
-fn better<A: PathAlgebra>(one: Option<A::Value>, other: Option<A::Value>) -> Option<A::Value>
-    ensures { result ≡ better_label A.order one other }
-{
-    match (one, other) {
-        (Some(y), Some(z)) => Some(if A::no_worse(y, z) { y } else { z }),
-        (None, Some(z)) => Some(z),
-        (one, None) => one,
-    }
 }
 
 /// A value, and the same after one more arc of this weight, if the arc may be taken.

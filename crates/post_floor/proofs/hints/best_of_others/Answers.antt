@@ -21,7 +21,7 @@ loop-shard-preserved g c =
     elim c.if-shard-own.branch [
       | then-shard-own w ↦ (
           let o = w.value_shown.result in
-          let e : c.if-shard-own.best ≡ better_label A.no_worse was o = w.best-is ∙ w.better-best.ensures ∙ ap (λ n. better_label n was o) (sym (laws.one_order c.args.algebra)) in
+          let e : c.if-shard-own.best ≡ better_label A.no_worse was o = w.best-is ∙ w.better_label-best.ensures ∙ ap (λ n. better_label n was o) (sym (laws.one_order c.args.algebra)) in
           record {
             value = subst (λ r. IfSome r (λ x. IsTrue (A.is_value x))) (sym e) (better_kept (λ x. IsTrue (A.is_value x)) A.no_worse was o c.loop-shard.invariant.value w.value_shown.ensures.value);
             best = subst (λ r. IsBestShown A shows (k + 1) c.args.own r) (sym e)

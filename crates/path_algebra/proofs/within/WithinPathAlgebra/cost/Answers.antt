@@ -1,5 +1,5 @@
 use Rattle.path_algebra.proofs.Carried.{within_carried}
 use Rattle.path_algebra.proofs.within.WithinPathAlgebra.cost.Goals as goal
 
-pub returns : goal.returns
-returns c = within_carried c.args.self.limit
+pub returns-clause-carried : goal.returns-clause-carried
+returns-clause-carried c = within_carried c.args.self.limit

@@ -1,4 +1,5 @@
--- The greatest cost into each vertex, of a row and of all arcs, and the least number of low bits that leaves room.
+-- The greatest cost into each vertex, of a row and of all arcs, and the least number of low bits
+-- that leaves room.
 use Rattle.std.proofs.Common.{◌≡◌, ℕ, zero, suc, ◌+◌, ◌-◌, ◌*◌, ◌<◌, ◌≤◌, ◌^◌, ◌⊎◌, inl, inr, Bool, true, false, max, List, [], ◌∷◌, length, refl, ap, sym, ◌∙◌, subst, arith, eqb-true}
 use Rattle.std.proofs.Math.Nat.{mul-le-mul_right, mul-le-mul_left, le_of_mul-le-mul_right, pow-succ'}
 use Rattle.std.proofs.Math.Pow.{pow_mono, pow_pos}

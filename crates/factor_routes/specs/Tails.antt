@@ -10,12 +10,14 @@ lesser None b = b
 lesser (Some a) None = Some a
 lesser (Some a) (Some b) = Some (if nat_le a.0 b.0 then a else b)
 
--- the tail of an arc and its number, if that and what the arc adds are y; the road is the arc reversed
+-- the tail of an arc and its number, if that and what the arc adds are y; the road is the arc
+-- reversed
 abbrev pub adding_up : (ℕ → ℕ) → ℕ → ℕ → OutRoad → Option ℕ → Option (ℕ × ℕ)
 adding_up cost k y road None = None
 adding_up cost k y road (Some x) = if x + counted_cost cost k road.weight == y then Some (road.head, x) else None
 
--- the least vertex from which an arc adds up to the number y of v, with its number; none if there is no such vertex
+-- the least vertex from which an arc adds up to the number y of v, with its number; none if there
+-- is no such vertex
 abbrev pub IsLeastTail : GraphData → (ℕ → ℕ) → ℕ → (ℕ → Option ℕ) → ℕ → ℕ → Option (ℕ × ℕ) → Type 0
 IsLeastTail g cost k number v y None = (u : ℕ) → IsCountedStepOf g cost k number v y u → ⊥
 IsLeastTail g cost k number v y (Some tail) =

@@ -51,7 +51,8 @@ fn bits_of(n: u32) -> u32
     u32::BITS - n.leading_zeros()
 }
 
-/// Sums of costs with as few low bits for the hops as hold them; none if no number of low bits leaves room for the sums.
+/// Sums of costs with as few low bits for the hops as hold them; none if no number of low bits
+/// leaves room for the sums.
 pub(crate) fn fitting_sums(cost: Cost, rows: &InGraph) -> Option<CountedSums>
     ensures cost { IfSome result (λ sums. sums.cost ≡ cost) }
     ensures fits { IfSome result (λ sums. CountsFit rows.now (cost_of cost) sums.bits) }

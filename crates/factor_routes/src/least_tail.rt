@@ -22,8 +22,8 @@ fn lesser(a: Option<(Vertex, u64)>, b: Option<(Vertex, u64)>) -> Option<(Vertex,
 }
 
 impl RoadFactors {
-    /// The tail of an arc and its number, if what the arc adds to it gives the number y; otherwise none. Here `road` is
-    /// the arc reversed.
+    /// The tail of an arc and its number, if what the arc adds to it gives the number y; otherwise
+    /// none. Here `road` is the arc reversed.
     fn tail_if<N: BestNumbers>(
         &self,
         numbers: &mut N,
@@ -52,7 +52,8 @@ impl RoadFactors {
         }
     }
 
-    /// The least vertex from which an arc adds up to the number y of v, and its number; none if there is no such vertex.
+    /// The least vertex from which an arc adds up to the number y of v, and its number; none if
+    /// there is no such vertex.
     pub(crate) fn least_tail<N: BestNumbers>(
         &self,
         rows: &InGraph,

@@ -1,9 +1,9 @@
 //! Routes from a factored graph, for algebras whose best values are least sums of costs.
 //!
-//! The graph is factored for numbers that carry hops: the sum of what a walk's arcs cost above the low bits, and in them
-//! how many arcs it has. A best number says the best value and the hops of a vertex, and its parent is the least tail
-//! whose number and arc add up to it. So trees are found by two sweeps and a pass over the arcs, and a route by steps
-//! back from its target alone.
+//! The graph is factored for numbers that carry hops: the sum of what a walk's arcs cost above the
+//! low bits, and in them how many arcs it has. A best number says the best value and the hops of a
+//! vertex, and its parent is the least tail whose number and arc add up to it. So trees are found
+//! by two sweeps and a pass over the arcs, and a route by steps back from its target alone.
 #![tactic(auto)]
 
 mod carried;

@@ -16,7 +16,8 @@ use route_tree::{Found, trees_exist};
 use std::alloc::{AllocError, Global};
 
 impl RoadFactors {
-    /// Begins with a source: from now on the asker is asked for walks from there. It takes back what it found before.
+    /// Begins with a source: from now on the asker is asked for walks from there. It takes back
+    /// what it found before.
     pub fn begin(&self, asker: &mut RouteAsker, source: Vertex)
         requires same { asker.old.factors ≡ self.now }
         requires source { HasVertex self.now.roads source }
@@ -26,7 +27,8 @@ impl RoadFactors {
         asker.begin(&self.factors, source);
     }
 
-    /// The best value of a vertex over all walks from the asker's source, and none if no walk has a value.
+    /// The best value of a vertex over all walks from the asker's source, and none if no walk has a
+    /// value.
     pub fn best_value<A: PathAlgebra>(
         &self,
         algebra: A,
@@ -78,9 +80,11 @@ impl RoadFactors {
         Ok(list)
     }
 
-    /// The best value of a pair's target and the route to it; none if no walk has a value. The only error is `Memory`.
+    /// The best value of a pair's target and the route to it; none if no walk has a value. The only
+    /// error is `Memory`.
     ///
-    /// The route is that of the whole tree, but only vertices along it and their ancestors in the factors are looked at.
+    /// The route is that of the whole tree, but only vertices along it and their ancestors in the
+    /// factors are looked at.
     pub fn find<A: PathAlgebra>(
         &self,
         alloc: Global,

@@ -21,11 +21,12 @@ pub enum Unweighed {
 }
 
 impl RoadFactors {
-    /// The factors of another graph for the sums of the same costs, by the same order and over the same links: in a
-    /// fraction of the time of `of`. `rows` is that graph, with its arcs by head.
+    /// The factors of another graph for the sums of the same costs, by the same order and over the
+    /// same links: in a fraction of the time of `of`. `rows` is that graph, with its arcs by head.
     ///
     /// # Errors
-    /// `Heavy` as of `of`; `Unfit` if there is not a link for each arc, as there is where an arc joined the same vertices.
+    /// `Heavy` as of `of`; `Unfit` if there is not a link for each arc, as there is where an arc
+    /// joined the same vertices.
     pub fn reweighed(
         &self,
         alloc: Global,

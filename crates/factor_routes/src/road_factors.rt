@@ -22,12 +22,12 @@ pub enum Unfactored {
     Heavy,
 }
 
-/// What is asked of a factored graph vertex by vertex, from one source after another. It is made once, and then takes no
-/// time or memory for the vertices that are not asked for.
+/// What is asked of a factored graph vertex by vertex, from one source after another. It is made
+/// once, and then takes no time or memory for the vertices that are not asked for.
 pub type RouteAsker = Asker<CountedSums>;
 
-/// A factored graph, from which least sums of costs are found with their hops and parents. It serves every algebra whose
-/// values are such sums.
+/// A factored graph, from which least sums of costs are found with their hops and parents. It
+/// serves every algebra whose values are such sums.
 #[derive(Drop)]
 pub struct RoadFactors {
     pub(crate) sums: CountedSums,
@@ -48,7 +48,8 @@ impl Model for RoadFactors {
 }
 
 impl RoadFactors {
-    /// The factors of a graph for the sums of these costs. `rows` is the same graph, with its arcs by head.
+    /// The factors of a graph for the sums of these costs. `rows` is the same graph, with its arcs
+    /// by head.
     ///
     /// # Errors
     /// `Heavy` only if no number of low bits leaves room for both the hops and the sums.

@@ -76,8 +76,9 @@ impl RoadFactors {
         })
     }
 
-    /// The best value of each vertex over all walks from some source of the list, and none if no walk has a value; with the
-    /// tree of these values. Sources may repeat. The only error is `Memory`.
+    /// The best value of each vertex over all walks from some source of the list, and none if no
+    /// walk has a value; with the tree of these values. Sources may repeat. The only error is
+    /// `Memory`.
     ///
     /// It takes two sweeps over the factors, and one pass over the arcs.
     pub fn solve_with_tree<A: PathAlgebra>(

@@ -1,4 +1,5 @@
--- The search by best vertices first: the labels at its start, what holds between its steps, and the choice of a vertex.
+-- The search by best vertices first: the labels at its start, what holds between its steps, and the
+-- choice of a vertex.
 use Rattle.std.proofs.Common.{◌≡◌, ℕ, ◌+◌, ◌-◌, ◌<◌, ◌≤◌, ◌⊎◌, inl, inr, Bool, List, [], ◌∷◌, ◌++◌, length, get_or, replicate, take, refl, ap, sym, ◌∙◌, subst, arith, Option, Some, None, get_or-set_same, get_or-set_other, length-set, true, false, set}
 use Rattle.std.proofs.lemmas.Bool.{cases_eq, cases_Bool}
 use Rattle.std.proofs.lemmas.List.{get_or-replicate, length-replicate, take_more}

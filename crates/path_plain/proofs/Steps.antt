@@ -1,4 +1,5 @@
--- The steps of a search: each keeps its queue, leads from one round to the next, and comes nearer to the end.
+-- The steps of a search: each keeps its queue, leads from one round to the next, and comes nearer
+-- to the end.
 use Rattle.std.proofs.Common.{◌≡◌, ℕ, ◌+◌, ◌*◌, ◌<◌, ◌≤◌, inl, inr, Bool, true, false, cond, List, [], ◌∷◌, length, get_or, replicate, ◌-◌, ◌∙◌, set, refl, sym, arith, Option, Some, None, length-set}
 use Rattle.std.proofs.lemmas.List.{get_or-replicate, length-replicate}
 use Rattle.std.proofs.lemmas.List.Sums.{sum_by-set}

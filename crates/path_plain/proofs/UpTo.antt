@@ -58,7 +58,8 @@ module _ {V : Type 0} (A : Algebra V) (lawful : IsLawful A) (g : GraphData) (roa
         let bad : true ≡ false = sym le ∙ past.worse (v - 1) y lt open_one e in cc
   ]
 
-  -- along a walk that ends no worse than the target each tail is settled, so its arc improves no label
+  -- along a walk that ends no worse than the target each tail is settled, so its arc improves no
+  -- label
   along : (u : ℕ) (p : List ℕ) (v : ℕ) (y z f : V) → HasVertex g u → IsWalk g u p v → label_of labels u ≡ Some y → IsTrue (A.is_value z) → IsTrue (A.no_worse y z) → Extends A g z p f →
       IsTrue (A.no_worse f past.value) → (l : V) × (label_of labels v ≡ Some l) × IsTrue (A.no_worse l f)
   along u [] v y z f in_u w e iz le ex near = (y, ap (label_of labels) (sym w) ∙ e, subst (λ (q : V). IsTrue (A.no_worse y q)) ex le)

@@ -10,7 +10,8 @@ use Rattle.path_plain.specs.UpTo.{AreBestAsFar}
 abbrev pub IsSettled : List Bool → ℕ → Type 0
 IsSettled settled v = slice_index_or settled (v - 1) false ≡ true
 
--- x is a level: no settled label is worse, and no open one is better; pending arcs wait for their turn
+-- x is a level: no settled label is worse, and no open one is better; pending arcs wait for their
+-- turn
 pub record Search {V : Type 0} (A : Algebra V) (g : GraphData) (sources : List ℕ) (labels : List (Option V)) (settled : List Bool) (x : V) (pending : List ℕ) : Type 0 where
   pub labels_count : length labels ≡ g.vertices
   pub settled_count : length settled ≡ g.vertices
@@ -48,7 +49,8 @@ abbrev pub Steps : {A V : Type 0} → (V → V → Bool) → Algebra V → Optio
 Steps no_worse meaning target true old new = Advances no_worse meaning true old new
 Steps no_worse meaning target false old new = Runs meaning target old new
 
--- if the target is decided the search has gone on as far as it; else it stays a search that can go on
+-- if the target is decided the search has gone on as far as it; else it stays a search that can go
+-- on
 abbrev pub RunsSome : {A V : Type 0} → Algebra V → ℕ → Bool → SearchState A V → SearchState A V → Type 0
 RunsSome meaning target true old new = Runs meaning (Some target) old new
 RunsSome meaning target false old new = StaysBetween meaning old new

@@ -5,7 +5,8 @@ use Rattle.path_algebra.specs.Algebra.{Algebra}
 use Rattle.path_plain.specs.Searching.{SearchState}
 use Rattle.path_plain.specs.Rounds.{Between}
 
--- of which graph it is, by which algebra, from which source its search came, if it has one, and the labels of the question before
+-- of which graph it is, by which algebra, from which source its search came, if it has one, and the
+-- labels of the question before
 pub record SearcherState (A V : Type 0) : Type 0 where
   pub algebra : A
   pub roads : GraphData

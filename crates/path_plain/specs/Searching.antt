@@ -8,7 +8,8 @@ use Rattle.path_plain.specs.Queue.{IsQueue}
 use Rattle.path_plain.specs.Noting.{IsNoted}
 use Rattle.path_plain.specs.Ties.{IsFirstOfEquals}
 
--- the label of each vertex, which are settled, how many entries wait in the queue, and whether labelled vertices are noted
+-- the label of each vertex, which are settled, how many entries wait in the queue, and whether
+-- labelled vertices are noted
 pub record SearchState (A V : Type 0) : Type 0 where
   pub algebra : A
   pub roads : GraphData
@@ -17,7 +18,8 @@ pub record SearchState (A V : Type 0) : Type 0 where
   pub waiting : ℕ
   pub notes : Bool
 
--- a label and a mark for each vertex of a graph, the queue of the open vertices, and a note of each vertex that has either
+-- a label and a mark for each vertex of a graph, the queue of the open vertices, and a note of each
+-- vertex that has either
 pub record IsSearch {K V : Type 0} (value : K → V) (place : K → ℕ) (no_worse : V → V → Bool)
     (g : GraphData) (labels : List (Option V)) (settled : List Bool) (items : List K) (touched : Option (List ℕ)) : Type 0 where
   pub roads : IsGraph g
@@ -47,7 +49,8 @@ pub record IsBlank {A V : Type 0} (s : SearchState A V) : Type 0 where
 abbrev pub Relaxes : {V : Type 0} → Algebra V → GraphData → ℕ → V → List (Option V) → List (Option V) → Type 0
 Relaxes A g v x labels labels' = (numbers : List ℕ) × ListsArcsFrom g v numbers × (labels' ≡ relaxed A g x labels numbers)
 
--- the best open vertex is settled, the least if values tie, and what its arcs improve joins the queue
+-- the best open vertex is settled, the least if values tie, and what its arcs improve joins the
+-- queue
 pub record Settles {A V : Type 0} (no_worse : V → V → Bool) (meaning : Algebra V) (old new : SearchState A V) : Type 0 where
   pub index : ℕ
   pub value : V

@@ -4,8 +4,8 @@ use Rattle.road_graph.specs.GraphData.{GraphData, HasVertex}
 use Rattle.path_algebra.specs.Algebra.{Algebra}
 use Rattle.path_algebra.specs.Walks.{label_of, IsBest, IsBestLabel, IsUnreached, AreWalkValues, AreBest}
 
--- one label for each vertex, each the value of a walk; the target's is best, and so is that of each vertex whose best
--- value is no worse; if no walk to the target has a value all labels are best
+-- one label for each vertex, each the value of a walk; the target's is best, and so is that of each
+-- vertex whose best value is no worse; if no walk to the target has a value all labels are best
 pub record AreBestUpTo {V : Type 0} (A : Algebra V) (g : GraphData) (sources : List ℕ) (target : ℕ) (labels : List (Option V)) : Type 0 where
   pub count : length labels ≡ g.vertices
   pub values : AreWalkValues A g sources labels

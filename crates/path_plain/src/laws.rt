@@ -7,7 +7,8 @@ ghost use Rattle.path_plain.specs.UpTo.{AreBestUpTo};
 
 use path_algebra::{PathAlgebra, laws_hold};
 
-/// Best values exist: on every graph, and from every list of its vertices, for every lawful algebra.
+/// Best values exist: on every graph, and from every list of its vertices, for every lawful
+/// algebra.
 pub fn best_values_exist<A: PathAlgebra>(algebra: A)
     ensures { (g : GraphData) → IsGraph g → (sources : List ℕ) → All (HasVertex g) sources →
         (labels : List (Option A.Value)) × AreBest (A.meaning algebra) g sources labels }
@@ -15,7 +16,8 @@ pub fn best_values_exist<A: PathAlgebra>(algebra: A)
     laws_hold(algebra);
 }
 
-/// Labels that are best up to a target are so up to each vertex whose label is no worse; if the target has no label all of them are best. Best labels are best up to every target.
+/// Labels that are best up to a target are so up to each vertex whose label is no worse; if the
+/// target has no label all of them are best. Best labels are best up to every target.
 pub fn labels_serve_nearer_targets<A: PathAlgebra>(algebra: A)
     ensures every { (g : GraphData) → IsGraph g → (sources : List ℕ) (target : ℕ) → HasVertex g target → (labels : List (Option A.Value)) → AreBest (A.meaning algebra) g sources labels →
         AreBestUpTo (A.meaning algebra) g sources target labels }

@@ -1,13 +1,15 @@
 //! A search from a list of sources: vertices are settled best first, each once.
 
-ghost use Rattle.std.specs.Prelude.{◌≡◌, ◌+◌, ◌≤◌, [], All, OnOk, IfOk, IfSome, IsTrue, MatchOption, is_some, length, true};
+ghost use Rattle.std.specs.Prelude.{◌≡◌, ◌+◌, ◌≤◌, [], All, OnOk, IfOk, IfSome, IsTrue, MatchOption, false, is_some, length, true};
 ghost use Rattle.road_graph.specs.GraphData.{HasVertex};
 ghost use Rattle.path_algebra.specs.Walks.{offered, offered_if};
+ghost use Rattle.path_plain.specs.Halting.{CanHalt};
 ghost use Rattle.path_plain.specs.Noting.{noted_list};
 ghost use Rattle.path_plain.specs.Rounds.{Between, Runs, RunsSome, Steps};
 ghost use Rattle.path_plain.specs.Searching.{IsBlank, IsOfSame, IsSameSearch, Relaxes, Advances};
 ghost use Rattle.path_plain.specs.UpTo.{IsPast};
 
+use crate::halt::Halt;
 use crate::touched::{Touched, put_back};
 use path_algebra::{Labels, PathAlgebra, laws_hold};
 use ranked_queue::RankedQueue;
@@ -40,7 +42,8 @@ impl<A: PathAlgebra> Model for Search<A> {
 }
 
 impl<A: PathAlgebra> Search<A> {
-    /// A search in which no vertex has a label. It notes what it touches in `touched`, if that has a list.
+    /// A search in which no vertex has a label. It notes what it touches in `touched`, if that has
+    /// a list.
     pub(crate) fn new(
         alloc: Global,
         algebra: A,
@@ -94,7 +97,8 @@ impl<A: PathAlgebra> Search<A> {
         Ok(())
     }
 
-    /// Gives a vertex the value z, if that is strictly better than its label, and puts it into the queue with it.
+    /// Gives a vertex the value z, if that is strictly better than its label, and puts it into the
+    /// queue with it.
     fn offer(&mut self, v: Vertex, z: A::Value) -> Result<(), Memory>
         requires { HasVertex self.old.roads v }
         ensures labels { OnOk result (self.new.labels ≡ offered A.order self.old.labels v z) }
@@ -146,7 +150,8 @@ impl<A: PathAlgebra> Search<A> {
         Ok(())
     }
 
-    /// Settles the vertex of the best entry with its value, or drops the entry if its vertex is settled already. False if the queue is empty.
+    /// Settles the vertex of the best entry with its value, or drops the entry if its vertex is
+    /// settled already. False if the queue is empty.
     fn settle_next(&mut self, graph: &OutGraph) -> Result<bool, Memory>
         requires { graph.now ≡ self.old.roads }
         ensures advances { IfOk result (λ more. Advances A.order (A.meaning self.old.algebra) more
@@ -164,7 +169,8 @@ impl<A: PathAlgebra> Search<A> {
         Ok(true)
     }
 
-    /// Whether the target has a label that is better than each value that waits. If so, no vertex that is open can come before it.
+    /// Whether the target has a label that is better than each value that waits. If so, no vertex
+    /// that is open can come before it.
     fn is_past(&self, target: Vertex) -> bool
         requires { HasVertex self.now.roads target }
         ensures { IsTrue result → IsPast A.order self.now.labels self.now.settled target }
@@ -190,7 +196,8 @@ impl<A: PathAlgebra> Search<A> {
         }
     }
 
-    /// Takes an entry from the queue, unless the search is past its target. False if it is past it, or the queue is empty.
+    /// Takes an entry from the queue, unless the search is past its target. False if it is past it,
+    /// or the queue is empty.
     fn step(&mut self, graph: &OutGraph, target: &Option<Vertex>) -> Result<bool, Memory>
         requires graph { graph.now ≡ self.old.roads }
         requires target { IfSome target.now (HasVertex self.old.roads) }
@@ -207,7 +214,8 @@ impl<A: PathAlgebra> Search<A> {
         self.settle_next(graph)
     }
 
-    /// Settles vertices until the search is past its target, or if it has none until no vertex waits.
+    /// Settles vertices until the search is past its target, or if it has none until no vertex
+    /// waits.
     pub(crate) fn run(&mut self, graph: &OutGraph, target: Option<Vertex>) -> Result<(), Memory>
         requires graph { graph.now ≡ self.old.roads }
         requires target { IfSome target (HasVertex self.old.roads) }
@@ -221,30 +229,31 @@ impl<A: PathAlgebra> Search<A> {
         Ok(())
     }
 
-    /// Takes at most so many entries from the queue. True if the search has come past its target, or has emptied the queue;
-    /// else it can go on from where it is.
-    pub(crate) fn run_some(
+    /// Settles vertices until the search is past its target or has emptied the queue, which is
+    /// true, or is to give up. Then it can go on from where it is.
+    pub(crate) fn run_unless(
         &mut self,
         graph: &OutGraph,
         target: Vertex,
-        most: u32,
+        halt: &mut Halt<'_>,
     ) -> Result<bool, Memory>
         requires graph { graph.now ≡ self.old.roads }
         requires target { HasVertex self.old.roads target }
         ensures runs { IfOk result (λ decided. RunsSome (A.meaning self.old.algebra) target decided
             self.old self.new) }
+        ensures halts { IfOk result (λ decided. decided ≡ false → CanHalt halt.old) }
         ensures of_same { IsOfSame self.old self.new }
     {
         let algebra = self.algebra;
         laws_hold(algebra);
         graph.holds();
         let target = Some(target);
-        for _ in 0..most {
-            if !self.step(graph, &target)? {
-                return Ok(true);
+        while self.step(graph, &target)? {
+            if halt.is_due() {
+                return Ok(false);
             }
         }
-        Ok(false)
+        Ok(true)
     }
 
     /// The algebra.

@@ -1,12 +1,14 @@
 //! Pairs of one graph, one after the other: the lists of the search stay.
 
-ghost use Rattle.std.specs.Prelude.{◌≡◌, ◌↔◌, ◌∷◌, [], IfOk, IsTrue, None, OnOk, Some};
+ghost use Rattle.std.specs.Prelude.{◌≡◌, ◌↔◌, ◌∷◌, [], IfOk, IsTrue, None, OnOk, Some, false};
 ghost use Rattle.road_graph.specs.GraphData.{HasVertex};
+ghost use Rattle.path_plain.specs.Halting.{CanHalt};
 ghost use Rattle.path_plain.specs.Rounds.{Between};
 ghost use Rattle.path_plain.specs.Searcher.{IsSearcher};
 ghost use Rattle.path_plain.specs.Searching.{IsOfSame};
 ghost use Rattle.path_plain.specs.UpTo.{AreBestUpTo};
 
+use crate::halt::Halt;
 use crate::search::Search;
 use crate::touched::Touched;
 use path_algebra::{Labels, PathAlgebra};
@@ -16,8 +18,8 @@ use std::marker::Model;
 
 /// A search for the pairs of a graph. Its lists of all vertices are made once.
 ///
-/// Between two pairs only what the search has touched is put back, and nothing if their source is the same:
-/// then the search goes on from where it stopped.
+/// Between two pairs only what the search has touched is put back, and nothing if their source is
+/// the same: then the search goes on from where it stopped.
 #[derive(Drop)]
 pub struct Searcher<A: PathAlgebra> {
     search: Search<A>,
@@ -35,7 +37,8 @@ impl<A: PathAlgebra> Model for Searcher<A> {
     ghost invariant = { λ s. IsSearcher (A.meaning s.search.algebra) s.search s.source };
 }
 
-/// Makes a search one from the source: it stays as it is if it came from there, and else begins anew.
+/// Makes a search one from the source: it stays as it is if it came from there, and else begins
+/// anew.
 fn come_from<A: PathAlgebra>(
     search: &mut Search<A>,
     before: Option<Vertex>,
@@ -71,8 +74,8 @@ impl<A: PathAlgebra> Searcher<A> {
         })
     }
 
-    /// Finds labels that are best up to the target, over all walks from the source. After an error the next call is
-    /// right too.
+    /// Finds labels that are best up to the target, over all walks from the source. After an error
+    /// the next call is right too.
     pub fn solve_to(
         &mut self,
         graph: &OutGraph,
@@ -94,27 +97,28 @@ impl<A: PathAlgebra> Searcher<A> {
         Ok(())
     }
 
-    /// Searches for labels that are best up to the target, but takes no more than `most` entries from its queue. True if the
-    /// labels are found. If not the target is undecided, and a later call from the same source goes on from there.
-    /// After an error the next call is right too.
-    pub fn solve_near(
+    /// Searches for labels that are best up to the target, unless it is to give up before. True if
+    /// the labels are found; else the target is undecided, and a later call from the same source
+    /// goes on from there. After an error the next call is right too.
+    pub fn solve_unless(
         &mut self,
         graph: &OutGraph,
         source: Vertex,
         target: Vertex,
-        most: u32,
+        halt: &mut Halt<'_>,
     ) -> Result<bool, Memory>
         requires graph { graph.now ≡ self.old.roads }
         requires source { HasVertex graph.now source }
         requires target { HasVertex graph.now target }
         ensures labels { IfOk result (λ found. IsTrue found → AreBestUpTo
             (A.meaning self.old.algebra) graph.now (source ∷ []) target self.new.labels) }
+        ensures halts { IfOk result (λ found. found ≡ false → CanHalt halt.old) }
         ensures source { OnOk result (self.new.source ≡ Some source) }
         ensures same { IsOfSameGraph self.old self.new }
     {
         let before = self.source.take();
         come_from(&mut self.search, before, source)?;
-        let found = self.search.run_some(graph, target, most)?;
+        let found = self.search.run_unless(graph, target, halt)?;
         self.source = Some(source);
         Ok(found)
     }

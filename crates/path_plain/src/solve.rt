@@ -30,9 +30,11 @@ fn solve_as_far<A: PathAlgebra>(
     Ok(search.into_labels())
 }
 
-/// The best value of each vertex over all walks from some source of the list, and none if no walk has a value. Sources may repeat.
+/// The best value of each vertex over all walks from some source of the list, and none if no walk
+/// has a value. Sources may repeat.
 ///
-/// Vertices are settled best first, each once; an entry of the queue that has become stale is dropped when it comes up.
+/// Vertices are settled best first, each once; an entry of the queue that has become stale is
+/// dropped when it comes up.
 pub fn solve_outgoing<A: PathAlgebra>(
     alloc: Global,
     algebra: A,
@@ -45,9 +47,11 @@ pub fn solve_outgoing<A: PathAlgebra>(
     solve_as_far(alloc, algebra, graph, sources, None)
 }
 
-/// The same as far as the target: the search stops once each value that waits is worse than the target's.
+/// The same as far as the target: the search stops once each value that waits is worse than the
+/// target's.
 ///
-/// Vertices with a value as good as the target's are settled too, since a tight arc to the target may come from them.
+/// Vertices with a value as good as the target's are settled too, since a tight arc to the target
+/// may come from them.
 pub fn solve_to<A: PathAlgebra>(
     alloc: Global,
     algebra: A,

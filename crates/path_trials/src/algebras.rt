@@ -1,9 +1,9 @@
 //! Values worked out by hand, and each public call once.
 use crate::graphs::graph_of;
 use path_algebra::{
-    AlgebraName, Hops, Labels, PathAlgebra, Reach, Reliable, Shortest, Widest, Within,
-    best_values_are_unique, closed_labels_are_best, laws_hold, merged_labels_are_best,
-    names_are_read_back, shortest_values_are_least_sums, tight_arcs_reach,
+    AlgebraName, Cost, Hops, Labels, PathAlgebra, Reach, Reliable, Shortest, Widest, Within,
+    best_values_are_unique, better_label, closed_labels_are_best, laws_hold,
+    merged_labels_are_best, names_are_read_back, shortest_values_are_least_sums, tight_arcs_reach,
 };
 use road_graph::Vertex;
 use std::process::Abort;
@@ -154,6 +154,24 @@ fn assert_labels(rt: &impl Abort, labels: &Labels<u64>, wanted: &[Option<u64>]) 
     for i in 0..wanted.len() {
         assert!(rt; labels.of(Vertex(i as u32 + 1)) == wanted[i]);
     }
+}
+
+#[test]
+fn the_better_of_two_labels(rt: HostRuntime) {
+    assert!(rt; better_label::<Shortest>(Some(3), Some(5)) == Some(3));
+    assert!(rt; better_label::<Widest>(Some(3), Some(5)) == Some(5));
+    assert!(rt; better_label::<Shortest>(None, Some(5)) == Some(5));
+    assert!(rt; better_label::<Shortest>(Some(3), None) == Some(3));
+    assert!(rt; better_label::<Shortest>(None, None) == None);
+}
+
+#[test]
+fn what_arcs_cost(rt: HostRuntime) {
+    assert!(rt; Shortest.cost() == Some(Cost::Weight));
+    assert!(rt; Hops.cost() == Some(Cost::One));
+    assert!(rt; Widest.cost() == None);
+    assert!(rt; Reach.cost() == None);
+    assert!(rt; Reliable.cost() == None);
 }
 
 #[test]

@@ -2,6 +2,7 @@
 use crate::graphs::{FIVE, graph_of};
 use crate::trees::assert_vertices;
 use path_algebra::Shortest;
+use path_plain::{Halt, Stop};
 use road_graph::{Graph, InGraph, OutGraph, Vertex};
 use route_tree::{Nearby, PairSearcher};
 use std::marker::Model;
@@ -35,13 +36,18 @@ impl<'g> PairAsker<'g> {
         }
     }
 
-    /// What a search that takes at most so many entries from its queue finds of a pair.
+    /// What a search that takes at most so many steps finds of a pair.
     fn ask(&mut self, rt: &impl Abort, source: u32, target: u32, most: u32) -> Nearby {
         let (source, target) = (Vertex(source), Vertex(target));
         assert!(rt; self.graph.has(source));
         assert!(rt; self.graph.has(target));
         self.searcher
-            .solve_near(self.graph, &self.rows, (source, target), most)
+            .solve_unless(
+                self.graph,
+                &self.rows,
+                (source, target),
+                &mut Halt::After(most),
+            )
             .expect(rt, "memory")
     }
 }
@@ -59,7 +65,7 @@ fn assert_decided(rt: &impl Abort, nearby: Nearby, code: u64, vertices: &[u32]) 
     }
 }
 
-/// Asserts that a search decides a pair with so many entries, and not with one less.
+/// Asserts that a search decides a pair in so many steps, and not in one less.
 fn assert_near(
     rt: &(impl Abort + AllocGlobal),
     (source, target, most): (u32, u32, u32),
@@ -74,7 +80,7 @@ fn assert_near(
     assert_decided(rt, nearby, code, vertices);
 }
 
-// With the last entry it is found that the search is past the target, or that its queue is empty.
+// In the last step it is found that the search is past the target, or that its queue is empty.
 #[test]
 fn five_vertices_by_searches_that_give_up(rt: HostRuntime) {
     assert_near(&rt, (1, 1, 2), 0, &[1]);
@@ -97,4 +103,30 @@ fn a_search_that_gave_up_goes_on(rt: HostRuntime) {
     assert_decided(&rt, asker.ask(&rt, 1, 5, 2), 0, &[]);
     assert_decided(&rt, asker.ask(&rt, 5, 4, 7), 11, &[5, 1, 3, 2, 4]);
     assert_decided(&rt, asker.ask(&rt, 4, 1, 2), 0, &[]);
+}
+
+#[test]
+fn a_stop_is_seen_by_all_its_owners(rt: HostRuntime) {
+    let stop = Stop::new(rt.alloc()).expect(&rt, "memory");
+    let other = stop.try_clone().expect(&rt, "memory");
+    assert!(rt; !other.is_set());
+    stop.set(true);
+    assert!(rt; other.is_set());
+    other.set(false);
+    assert!(rt; !stop.is_set());
+}
+
+// A stop is looked at once in 1,024 steps.
+#[test]
+fn a_search_looks_at_its_stop_now_and_then(rt: HostRuntime) {
+    let stop = Stop::new(rt.alloc()).expect(&rt, "memory");
+    stop.set(true);
+    let stop = Some(stop);
+    let mut halt = Halt::by(&stop);
+    for _ in 1..1024 {
+        assert!(rt; !halt.is_due());
+    }
+    assert!(rt; halt.is_due());
+    let none = None;
+    assert!(rt; !Halt::by(&none).is_due());
 }

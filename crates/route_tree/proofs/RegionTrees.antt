@@ -1,4 +1,5 @@
--- A tree that is held to the region which a search back found: its route to the target is that of the whole tree.
+-- A tree that is held to the region which a search back found: its route to the target is that of
+-- the whole tree.
 use Rattle.std.proofs.Common.{◌≡◌, ℕ, ◌+◌, ◌≤◌, Bool, true, false, cond, List, [], ◌∷◌, length, get_or, refl, ap, sym, ◌∙◌, subst, arith, Option, Some, None}
 use Rattle.std.proofs.lemmas.List.Elements.{All-nil, All-cons, All-head, All-tail}
 use Rattle.std.specs.Prelude.{IsTrue, Contains, All}
@@ -35,7 +36,8 @@ module _ (g : GraphData) (roads : IsGraph g) (test : ℕ → Bool) (source targe
   outside : (v k : ℕ) → IsWalkOf g (into g test marks) (source ∷ []) v k → IsWalkOf g test (source ∷ []) v k
   outside v k w = (w.0, w.1, λ i d lt. passes_test (get_or w.0 i d) (w.2 i d lt), w.3)
 
-  -- the walk of j arcs from v to the target goes on from a walk to v: together they are no longer than any from the source
+  -- the walk of j arcs from v to the target goes on from a walk to v: together they are no longer
+  -- than any from the source
   inside : (s : ℕ) (p : List ℕ) (v j : ℕ) → IsWalk g s p v → All (λ a. IsTrue (test a)) p → IsWithinHops g test target j v →
       ((i : ℕ) → IsWalkOf g test (source ∷ []) target i → length p + j ≤ i) → All (λ a. IsTrue (into g test marks a)) p × IsWithinHops g test target (length p + j) s
   inside s [] v j w all within low =
@@ -134,7 +136,8 @@ module _ (g : GraphData) (roads : IsGraph g) (test : ℕ → Bool) (source targe
             subst (λ (w : ℕ). IsWithinHops g test target (j + 1) w) h.3 back,
           )
 
-      -- a chain of parents in the held tree is one in the whole tree, and has as many arcs as hops are left
+      -- a chain of parents in the held tree is one in the whole tree, and has as many arcs as hops
+      -- are left
       same_chain : (u : ℕ) (rest : List ℕ) → IsChain (record { hops = near; parents = adopted }) u rest target →
           IsChain (record { hops = hops; parents = parents }) u rest target × HasVertex g u × IsWithinHops g test target (length rest) u ×
           ((i : ℕ) × (label_of hops u ≡ Some i) × (i + length rest ≡ far))

@@ -1,4 +1,5 @@
--- Labels that are best up to a target: the search back from it goes along the same arcs as by best labels.
+-- Labels that are best up to a target: the search back from it goes along the same arcs as by best
+-- labels.
 use Rattle.std.proofs.Common.{◌≡◌, ℕ, ◌+◌, inl, inr, Bool, true, false, cond, List, [], ◌∷◌, length, refl, ap, sym, ◌∙◌, subst, Option, Some, None}
 use Rattle.std.proofs.lemmas.Bool.{cases_Bool}
 use Rattle.std.proofs.lemmas.List.Elements.{All-nil, All-cons, All-head, All-tail}
@@ -79,7 +80,8 @@ module _ {V : Type 0} (A : Algebra V) (lawful : IsLawful A) (g : GraphData) (roa
   target_near : IsNear target
   target_near = (t, at_target, same_no_worse A.no_worse lawful.ordered t)
 
-  -- an arc that looks tight by values of walks, into a near vertex that has its best value, comes from a near one
+  -- an arc that looks tight by values of walks, into a near vertex that has its best value, comes
+  -- from a near one
   pub tail_is_near : (labels : List (Option V)) → AreWalkValues A g sources labels → (a : ℕ) → HasArc g a → label_of labels (arc_of g a).head ≡ label_of whole (arc_of g a).head →
       IsNear (arc_of g a).head → is_tight A g labels a ≡ true → IsNear (arc_of g a).tail
   tail_is_near labels values a h same near tight =

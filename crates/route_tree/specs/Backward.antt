@@ -41,7 +41,8 @@ VisitsAllBack meaning list old new =
     (target k : ℕ) → VisitingBack old.over.roads (passes_back meaning old) target k old.marks list [] old.next →
     VisitingBack old.over.roads (passes_back meaning old) target k new.marks [] [] new.next
 
--- the vertices that were found last are visited, and those that this finds are one arc further from the target
+-- the vertices that were found last are visited, and those that this finds are one arc further from
+-- the target
 abbrev pub VisitsLevelBack : {A V : Type 0} → Algebra V → BackwardState A V → BackwardState A V → Type 0
 VisitsLevelBack meaning old new =
     (target k : ℕ) → VisitingBack old.over.roads (passes_back meaning old) target k old.marks old.next [] [] →

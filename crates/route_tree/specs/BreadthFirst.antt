@@ -12,7 +12,8 @@ pub record LabelledGraph (A V : Type 0) : Type 0 where
   pub roads : GraphData
   pub labels : List (Option V)
 
--- what is searched, hops and parents so far, the vertices that were found last, and the hops of those that are visited
+-- what is searched, hops and parents so far, the vertices that were found last, and the hops of
+-- those that are visited
 pub record SearchState (A V : Type 0) : Type 0 where
   pub over : LabelledGraph A V
   pub region : Option (List Bool)

@@ -37,12 +37,14 @@ IsPairAnswer A g s t (Some f) = IsFoundBetween A g s t f
 abbrev pub IsPairFound : {V : Type 0} → Algebra V → GraphData → ℕ → ℕ → Option Found → Type 0
 IsPairFound A g s t found = IsPairAnswer A g s t (option_map found_of found)
 
--- a search that gives up early has the answer of the pair if it decides it; of an undecided pair it says nothing
+-- a search that gives up early has the answer of the pair if it decides it; of an undecided pair it
+-- says nothing
 abbrev pub IsFoundIfNear : {V : Type 0} → Algebra V → GraphData → ℕ → ℕ → Nearby → Type 0
 IsFoundIfNear A g s t (Decided found) = IsPairFound A g s t found
 IsFoundIfNear A g s t Undecided = ⊤
 
--- what a tree shows of v, whose best value has this code: its hops and the route to it, or nothing if it has no hops
+-- what a tree shows of v, whose best value has this code: its hops and the route to it, or nothing
+-- if it has no hops
 abbrev pub IsFoundIn : Branches → ℕ → ℕ → Option Found → Type 0
 IsFoundIn t code v found = MatchOption found (hops_of t v ≡ None)
     (λ f. (f.code ≡ code) × (hops_of t v ≡ Some f.hops) × IsRoute t v f.route.items)

@@ -42,7 +42,8 @@ abbrev pub lesser : Option ℕ → ℕ → Option ℕ
 lesser None u = Some u
 lesser (Some t) u = Some (cond (leb t u) t u)
 
--- hops, parents and the next level after an arc from u reached v, k arcs from a source; the last argument is the hops that v had
+-- hops, parents and the next level after an arc from u reached v, k arcs from a source; the last
+-- argument is the hops that v had
 abbrev pub hops_if : ℕ → List (Option ℕ) → ℕ → Option ℕ → List (Option ℕ)
 hops_if k hops v None = slice_set hops (v - 1) (Some k)
 hops_if k hops v (Some j) = hops
@@ -66,14 +67,16 @@ one_if_unreached (Some k) = 0
 abbrev pub unreached : List (Option ℕ) → ℕ
 unreached hops = sum_by one_if_unreached hops
 
--- the head of an arc has hops, at most k; if it has k, also a parent that is no greater than the arc's tail
+-- the head of an arc has hops, at most k; if it has k, also a parent that is no greater than the
+-- arc's tail
 pub record IsPassed (g : GraphData) (hops parents : List (Option ℕ)) (a k : ℕ) : Type 0 where
   pub far : ℕ
   pub at_head : label_of hops (arc_of g a).head ≡ Some far
   pub few : far ≤ k
   pub parent : far ≡ k → (u : ℕ) × (label_of parents (arc_of g a).head ≡ Some u) × (u ≤ (arc_of g a).tail)
 
--- while the vertices at k hops are visited: those in `pending` wait, and the arcs in `arcs`; those in `next` have k + 1
+-- while the vertices at k hops are visited: those in `pending` wait, and the arcs in `arcs`; those
+-- in `next` have k + 1
 pub record Visiting (g : GraphData) (test : ℕ → Bool) (sources : List ℕ) (k : ℕ) (hops parents : List (Option ℕ)) (pending arcs next : List ℕ) : Type 0 where
   pub count : length hops ≡ g.vertices
   pub parents_count : length parents ≡ g.vertices
@@ -87,7 +90,8 @@ pub record Visiting (g : GraphData) (test : ℕ → Bool) (sources : List ℕ) (
   pub closed : (a j : ℕ) → HasArc g a → test a ≡ true → label_of hops (arc_of g a).tail ≡ Some j →
       Contains arcs a ⊎ (Contains pending (arc_of g a).tail ⊎ (Contains next (arc_of g a).tail ⊎ IsPassed g hops parents a (j + 1)))
 
--- after the sources in `done`: each has 0 hops, and a vertex with hops is a source, is in the level and has 0
+-- after the sources in `done`: each has 0 hops, and a vertex with hops is a source, is in the level
+-- and has 0
 pub record IsMarked (n : ℕ) (sources done : List ℕ) (hops : List (Option ℕ)) (level : List ℕ) : Type 0 where
   pub count : length hops ≡ n
   pub at_done : (s : ℕ) → Contains done s → label_of hops s ≡ Some 0

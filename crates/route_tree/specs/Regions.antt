@@ -1,4 +1,5 @@
--- Regions of a graph, and the search from a target back over the arcs that pass a test, which makes one.
+-- Regions of a graph, and the search from a target back over the arcs that pass a test, which makes
+-- one.
 use Rattle.std.specs.Prelude.{◌≡◌, ℕ, ◌+◌, ◌≤◌, ◌⊎◌, List, [], ◌∷◌, length, All, Contains, Bool, true, false, cond, IsTrue, Option, Some, None, sum_by}
 use Rattle.road_graph.specs.GraphData.{GraphData, HasVertex, HasArc, arc_of}
 use Rattle.path_algebra.specs.Algebra.{Algebra}
@@ -18,7 +19,8 @@ is_tight_into A g labels region a = cond (in_region region (arc_of g a).head) (i
 abbrev pub IsWithinHops : GraphData → (ℕ → Bool) → ℕ → ℕ → ℕ → Type 0
 IsWithinHops g test target k v = (p : List ℕ) × IsWalk g v p target × All (λ a. IsTrue (test a)) p × (length p ≤ k)
 
--- each vertex is marked from which such a walk leads to the target, no longer than any from the source
+-- each vertex is marked from which such a walk leads to the target, no longer than any from the
+-- source
 abbrev pub Covers : GraphData → (ℕ → Bool) → ℕ → ℕ → List Bool → Type 0
 Covers g test source target marks = (v k : ℕ) → IsWithinHops g test target k v → ((j : ℕ) → IsWalkOf g test (source ∷ []) target j → k ≤ j) → IsTrue (is_marked marks v)
 
@@ -31,7 +33,8 @@ is_unmarked false = 1
 abbrev pub unmarked : List Bool → ℕ
 unmarked marks = sum_by is_unmarked marks
 
--- while the vertices k arcs before the target are visited: those in `pending` wait, and the arcs in `arcs`; those in `next` are one arc further
+-- while the vertices k arcs before the target are visited: those in `pending` wait, and the arcs in
+-- `arcs`; those in `next` are one arc further
 pub record VisitingBack (g : GraphData) (test : ℕ → Bool) (target k : ℕ) (marks : List Bool) (pending arcs next : List ℕ) : Type 0 where
   pub count : length marks ≡ g.vertices
   pub attained : (v : ℕ) → HasVertex g v → IsTrue (is_marked marks v) → IsWithinHops g test target k v ⊎ Contains next v

@@ -1,4 +1,5 @@
-//! The search from a target back over tight arcs, level by level, for the vertices that a route to it may go through.
+//! The search from a target back over tight arcs, level by level, for the vertices that a route to
+//! it may go through.
 
 ghost use Rattle.std.specs.Prelude.{◌≡◌, ◌+◌, ◌-◌, ◌≤◌, ◌<◌, [], ◌∷◌, ◌++◌, All, Contains, IfOk, OnOk, cond, eqb, false, length, replicate, slice_set, true};
 ghost use Rattle.road_graph.specs.GraphData.{HasVertex};
@@ -163,7 +164,8 @@ impl<'g, A: PathAlgebra, G: Entering> Backward<'g, A, G> {
         self.next.is_empty()
     }
 
-    /// Visits the vertices that were found last; those that it finds are one arc further from the target.
+    /// Visits the vertices that were found last; those that it finds are one arc further from the
+    /// target.
     fn visit_level(&mut self, alloc: Global, row: &mut Vec<OutRoad>) -> Result<(), Memory>
         requires waiting { 1 ≤ length self.old.next }
         ensures visits { OnOk result (VisitsLevelBack (A.meaning self.old.over.algebra) self.old
@@ -195,8 +197,9 @@ fn list_of(alloc: Global, v: Vertex) -> Result<Vec<Vertex>, Memory>
     Ok(list)
 }
 
-/// Marks of the vertices from which walks of tight arcs lead to the target, level by level until the source is among
-/// them; and a list of the source and these vertices. No vertex has a mark before.
+/// Marks of the vertices from which walks of tight arcs lead to the target, level by level until
+/// the source is among them; and a list of the source and these vertices. No vertex has a mark
+/// before.
 pub(crate) fn marks_back<A: PathAlgebra, G: Entering>(
     alloc: Global,
     algebra: A,

@@ -1,4 +1,5 @@
-//! A breadth-first search over tight arcs, level by level: from the vertices at k hops to those at k + 1.
+//! A breadth-first search over tight arcs, level by level: from the vertices at k hops to those at
+//! k + 1.
 
 ghost use Rattle.std.specs.Prelude.{◌≡◌, ◌+◌, ◌≤◌, ◌<◌, All, IfOk, None, OnOk, cond, eqb, length, replicate};
 ghost use Rattle.road_graph.specs.GraphData.{HasVertex};
@@ -53,7 +54,8 @@ fn lesser(old: NumberSlot, new: Vertex) -> NumberSlot
 }
 
 impl<'g, A: PathAlgebra> BreadthFirst<'g, A> {
-    /// A search whose first level is the sources. Sources may repeat. `blank` is room for the hops and the parents.
+    /// A search whose first level is the sources. Sources may repeat. `blank` is room for the hops
+    /// and the parents.
     pub(crate) fn open(
         alloc: Global,
         algebra: A,
@@ -130,7 +132,8 @@ impl<'g, A: PathAlgebra> BreadthFirst<'g, A> {
         Ok(())
     }
 
-    /// Whether a tight arc from a vertex that is visited could change the hops or the parent of this one.
+    /// Whether a tight arc from a vertex that is visited could change the hops or the parent of
+    /// this one.
     fn is_near(&self, v: Vertex) -> bool
         requires { HasVertex self.now.over.roads v }
         ensures { result ≡ is_near (label_of self.now.hops v) (self.now.level + 1) }
@@ -169,7 +172,8 @@ impl<'g, A: PathAlgebra> BreadthFirst<'g, A> {
         Ok(())
     }
 
-    /// Goes along a road from `tail`, whose label is `near`, if it is tight and leads into the region.
+    /// Goes along a road from `tail`, whose label is `near`, if it is tight and leads into the
+    /// region.
     fn try_road(
         &mut self,
         tail: Vertex,

@@ -15,11 +15,13 @@ pub trait Entering {
     fn count(&self) -> u32
         ensures { result ≡ (roads self.now).vertices };
 
-    /// What holds of every graph: its arcs join its vertices, and it keeps the limits. Nothing is computed.
+    /// What holds of every graph: its arcs join its vertices, and it keeps the limits. Nothing is
+    /// computed.
     fn holds(&self)
         ensures { IsGraph (roads self.now) };
 
-    /// Makes `list` the arcs that enter a vertex, each reversed: its tail as the head of a road, and its weight.
+    /// Makes `list` the arcs that enter a vertex, each reversed: its tail as the head of a road,
+    /// and its weight.
     fn list_into(&self, v: Vertex, list: &mut Vec<OutRoad>) -> Result<(), Memory>
         requires { HasVertex (roads self.now) v }
         ensures { OnOk result (ListsRoadsInto (roads self.now) v list.new.items) };

@@ -79,7 +79,8 @@ impl Tree {
         self.hops[v.0 as usize - 1].get()
     }
 
-    /// The least vertex with a tight arc to this one and one hop less; none at a source, and none if there are no hops.
+    /// The least vertex with a tight arc to this one and one hop less; none at a source, and none
+    /// if there are no hops.
     pub fn parent(&self, v: Vertex) -> Option<Vertex>
         requires low { 1 ≤ v }
         requires high { v ≤ length self.now.hops }

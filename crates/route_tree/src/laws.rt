@@ -1,4 +1,5 @@
-//! Theorems over trees, each the contract of a function that computes nothing: a caller calls it if its own proof needs the theorem.
+//! Theorems over trees, each the contract of a function that computes nothing: a caller calls it if
+//! its own proof needs the theorem.
 
 ghost use Rattle.std.specs.Prelude.{◌≡◌, ℕ, ◌↔◌, List, [], ◌∷◌, All, Contains, Option, Some, None};
 ghost use Rattle.road_graph.specs.GraphData.{GraphData, IsGraph, HasVertex};
@@ -8,7 +9,8 @@ ghost use Rattle.route_tree.specs.Tree.{Branches, IsLinked, IsRoute, IsTree, hop
 
 use path_algebra::{PathAlgebra, laws_hold};
 
-/// Best labels and their tree agree at each vertex: they give its best value, its least hops and its least parent, or none of them if no walk has a value.
+/// Best labels and their tree agree at each vertex: they give its best value, its least hops and
+/// its least parent, or none of them if no walk has a value.
 pub fn labels_and_trees_agree<A: PathAlgebra>(_algebra: A)
     ensures { (g : GraphData) (sources : List ℕ) (labels : List (Option A.Value)) (t : Branches) → AreBest (A.meaning _algebra) g sources labels → IsTree (A.meaning _algebra) g sources t →
         (v : ℕ) → HasVertex g v → IsToldOf (A.meaning _algebra) g sources v (label_of labels v) (hops_of t v) (parent_of t v) }
@@ -23,7 +25,8 @@ pub fn hops_tell_reached<A: PathAlgebra>(_algebra: A)
         g sources v }
 {}
 
-/// A route leads from a source to its vertex, each vertex the least parent of the next, and it is the only list that does.
+/// A route leads from a source to its vertex, each vertex the least parent of the next, and it is
+/// the only list that does.
 pub fn routes_follow_parents<A: PathAlgebra>(_algebra: A)
     ensures follows { (g : GraphData) → IsGraph g → (sources : List ℕ) (t : Branches) → IsTree (A.meaning _algebra) g sources t → (v : ℕ) → HasVertex g v → (list : List ℕ) → IsRoute t v list →
         IsParentRoute (A.meaning _algebra) g sources v list }

@@ -1,9 +1,11 @@
-//! Route trees: for labels that are best from some sources, the least hops and the least parent of each vertex, and routes along them.
+//! Route trees: for labels that are best from some sources, the least hops and the least parent of
+//! each vertex, and routes along them.
 //!
-//! An arc is tight if extending the label of its tail gives the label of its head. The hops of a vertex are the least
-//! number of arcs of a walk of tight arcs from a source to it. Its parent is the least vertex with one hop less from which
-//! a tight arc leads to it. A tree is made in one pass over the arcs that leave reached vertices. One route is found
-//! without the whole tree, by a search from its target back.
+//! An arc is tight if extending the label of its tail gives the label of its head. The hops of a
+//! vertex are the least number of arcs of a walk of tight arcs from a source to it. Its parent is
+//! the least vertex with one hop less from which a tight arc leads to it. A tree is made in one
+//! pass over the arcs that leave reached vertices. One route is found without the whole tree, by a
+//! search from its target back.
 #![tactic(auto)]
 
 mod backward;

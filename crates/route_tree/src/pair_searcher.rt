@@ -2,22 +2,26 @@
 
 ghost use Rattle.std.specs.Prelude.{◌≡◌, ◌↔◌, ◌∷◌, [], IfOk, IsTrue, None, OnOk, Some};
 ghost use Rattle.road_graph.specs.GraphData.{HasVertex};
+ghost use Rattle.path_plain.specs.Halting.{CanHalt};
 ghost use Rattle.path_plain.specs.Searcher.{IsOfSameGraph};
 ghost use Rattle.path_plain.specs.UpTo.{AreBestUpTo};
 ghost use Rattle.route_tree.specs.Found.{IsFoundIfNear, IsPairFound};
+ghost use Rattle.route_tree.specs.declared.found.Nearby.TheVariants.{Undecided};
 
 use crate::found::{Found, Nearby};
 use crate::route_finder::RouteFinder;
 use path_algebra::PathAlgebra;
-use path_plain::Searcher;
+use path_plain::{Halt, Searcher};
 use road_graph::{InGraph, Memory, OutGraph, Vertex};
 use std::alloc::Global;
 use std::marker::Model;
 
-/// A search for the values and the routes of the pairs of a graph. Its lists of all vertices are made once.
+/// A search for the values and the routes of the pairs of a graph. Its lists of all vertices are
+/// made once.
 ///
-/// Between two pairs only what the search has touched is put back, and of two from one source the second goes on where
-/// the first stopped. After a growth that was refused the next pair is right too.
+/// Between two pairs only what the search has touched is put back, and of two from one source the
+/// second goes on where the first stopped. After a growth that was refused the next pair is right
+/// too.
 #[derive(Drop)]
 pub struct PairSearcher<A: PathAlgebra> {
     searcher: Searcher<A>,
@@ -61,7 +65,8 @@ impl<A: PathAlgebra> PairSearcher<A> {
         self.searcher.set_algebra(algebra);
     }
 
-    /// Whether the pair before came from this source, so that one more from there goes on with its search.
+    /// Whether the pair before came from this source, so that one more from there goes on with its
+    /// search.
     pub fn is_from(&self, source: Vertex) -> bool
         ensures { IsTrue result ↔ (self.now.source ≡ Some source) }
     {
@@ -91,8 +96,9 @@ impl<A: PathAlgebra> PairSearcher<A> {
             .route(algebra, graph, rows, labels, source, target)
     }
 
-    /// The best value of a pair's target over all walks from its source, and the route to it; none if no walk has a
-    /// value. `rows` has the arcs of the graph by head. The only error is want of memory; after it the next call is right too.
+    /// The best value of a pair's target over all walks from its source, and the route to it; none
+    /// if no walk has a value. `rows` has the arcs of the graph by head. The only error is want of
+    /// memory; after it the next call is right too.
     pub fn solve(
         &mut self,
         graph: &OutGraph,
@@ -111,24 +117,25 @@ impl<A: PathAlgebra> PairSearcher<A> {
         self.find(graph, rows, pair)
     }
 
-    /// The same by a search that takes no more than `most` entries from its queue: it may leave the pair undecided. A later
+    /// The same by a search that may be told to give up: then the pair is undecided, and a later
     /// call from the same source goes on from there.
-    pub fn solve_near(
+    pub fn solve_unless(
         &mut self,
         graph: &OutGraph,
         rows: &InGraph,
         pair: (Vertex, Vertex),
-        most: u32,
+        halt: &mut Halt<'_>,
     ) -> Result<Nearby, Memory>
         requires graph { graph.now ≡ self.old.roads }
         requires rows { rows.now ≡ graph.now }
         requires source { HasVertex graph.now pair.0 }
         requires target { HasVertex graph.now pair.1 }
         ensures found { IfOk result (IsFoundIfNear (A.meaning self.old.algebra) graph.now pair.0 pair.1) }
+        ensures halts { IfOk result (λ near. near ≡ Undecided → CanHalt halt.old) }
         ensures source { OnOk result (self.new.source ≡ Some pair.0) }
         ensures same { IsOfSameGraph self.old self.new }
     {
-        if !self.searcher.solve_near(graph, pair.0, pair.1, most)? {
+        if !self.searcher.solve_unless(graph, pair.0, pair.1, halt)? {
             return Ok(Nearby::Undecided);
         }
         let found = self.find(graph, rows, pair)?;

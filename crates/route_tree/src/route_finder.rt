@@ -18,10 +18,11 @@ use road_graph::{Memory, OutGraph, Vertex};
 use std::alloc::Global;
 use std::marker::Model;
 
-/// A search for the routes of pairs, in graphs with one number of vertices. Its lists of all vertices are made once.
+/// A search for the routes of pairs, in graphs with one number of vertices. Its lists of all
+/// vertices are made once.
 ///
-/// Between two pairs only what the search has touched is put back. After a growth that was refused the lists are made
-/// anew.
+/// Between two pairs only what the search has touched is put back. After a growth that was refused
+/// the lists are made anew.
 #[derive(Drop)]
 pub struct RouteFinder {
     alloc: Global,
@@ -62,10 +63,12 @@ impl RouteFinder {
         }
     }
 
-    /// The best value of a target and the route to it, for labels that are best up to the target; none if no walk has a value.
-    /// `back` is the same graph, for steps back along its arcs. The only error is `Memory`; after it the next call is right too.
+    /// The best value of a target and the route to it, for labels that are best up to the target;
+    /// none if no walk has a value. `back` is the same graph, for steps back along its arcs. The
+    /// only error is `Memory`; after it the next call is right too.
     ///
-    /// The route is that of the whole tree: a walk of tight arcs to the target passes only vertices whose labels are best.
+    /// The route is that of the whole tree: a walk of tight arcs to the target passes only vertices
+    /// whose labels are best.
     pub fn route<A: PathAlgebra, G: Entering>(
         &mut self,
         algebra: A,

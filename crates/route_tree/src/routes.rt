@@ -22,8 +22,8 @@ pub(crate) fn push(list: &mut Vec<Vertex>, v: Vertex) -> Result<(), Memory>
     Ok(())
 }
 
-/// The route to a vertex: from a source on, each vertex is the parent of the next. None if the vertex has no hops.
-/// The only error is `Memory`.
+/// The route to a vertex: from a source on, each vertex is the parent of the next. None if the
+/// vertex has no hops. The only error is `Memory`.
 pub fn route(alloc: Global, tree: &Tree, target: Vertex) -> Result<Option<Vec<Vertex>>, Memory>
     requires low { 1 ≤ target }
     requires high { target ≤ length tree.now.hops }
@@ -66,11 +66,11 @@ pub(crate) fn found_in(
     Ok(Some(Found { code, hops, route }))
 }
 
-/// The best value of a target and the route to it, for labels that are best from the source; none if no walk has a value.
-/// The only error is `Memory`.
+/// The best value of a target and the route to it, for labels that are best from the source; none
+/// if no walk has a value. The only error is `Memory`.
 ///
-/// The route is that of the whole tree, but only vertices with a walk of tight arcs to the target are looked at, and no
-/// further back than the source.
+/// The route is that of the whole tree, but only vertices with a walk of tight arcs to the target
+/// are looked at, and no further back than the source.
 pub fn route_between<A: PathAlgebra>(
     alloc: Global,
     algebra: A,

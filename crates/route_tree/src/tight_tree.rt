@@ -14,7 +14,8 @@ use path_algebra::{Labels, PathAlgebra, laws_hold};
 use road_graph::{Graph, Memory, OutGraph, Vertex};
 use std::alloc::Global;
 
-/// The least hops and the least parents over the tight arcs that lead into a region. `blank` is room for them.
+/// The least hops and the least parents over the tight arcs that lead into a region. `blank` is
+/// room for them.
 pub(crate) fn tree_into<A: PathAlgebra>(
     alloc: Global,
     algebra: A,
@@ -42,7 +43,8 @@ pub(crate) fn tree_into<A: PathAlgebra>(
     Ok(Tree { hops, parents })
 }
 
-/// The hops and parents of labels that are best from the sources, as a solver gives them. Sources may repeat. The only error is `Memory`.
+/// The hops and parents of labels that are best from the sources, as a solver gives them. Sources
+/// may repeat. The only error is `Memory`.
 ///
 /// Each arc that leaves a reached vertex is looked at once; the tree keeps two numbers a vertex.
 pub fn tree_outgoing<A: PathAlgebra>(

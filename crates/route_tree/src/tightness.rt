@@ -5,7 +5,8 @@ ghost use Rattle.path_algebra.specs.Walks.{is_tight_between};
 
 use path_algebra::PathAlgebra;
 
-/// Whether an arc of this weight is tight between the labels of its ends: the first, extended, is no worse than the second.
+/// Whether an arc of this weight is tight between the labels of its ends: the first, extended, is
+/// no worse than the second.
 pub(crate) fn is_tight<A: PathAlgebra>(
     algebra: A,
     near: Option<A::Value>,

@@ -1,4 +1,5 @@
--- The search with hops and parents: what holds between its steps, its start, one arc, all arcs of a vertex, and the choice of a vertex.
+-- The search with hops and parents: what holds between its steps, its start, one arc, all arcs of a
+-- vertex, and the choice of a vertex.
 use Rattle.std.proofs.Common.{◌≡◌, ℕ, suc, ◌+◌, ◌-◌, ◌<◌, ◌≤◌, ◌⊎◌, inl, inr, Bool, false, List, [], ◌∷◌, length, get_or, refl, ap, sym, ◌∙◌, subst, arith, Option, Some, None, get_or-set_same, get_or-set_other}
 use Rattle.std.proofs.lemmas.List.{length-map}
 use Rattle.std.proofs.lemmas.Bool.{cases_eq}
@@ -34,13 +35,15 @@ abbrev pub IsGiven : {V : Type 0} → Algebra V → GraphData → List ℕ → L
 IsGiven A g sources marks settled v m =
     ((m.hops ≡ 0) × (m.parent ≡ 0) × Contains sources v) ⊎ IsAdoption A g marks settled v m
 
--- where an arc gives its head's value, the head has no more hops than by this arc, and where it has as many no greater parent
+-- where an arc gives its head's value, the head has no more hops than by this arc, and where it has
+-- as many no greater parent
 abbrev pub IsPassed : {V : Type 0} → Algebra V → GraphData → List (Option (Mark V)) → ℕ → Type 0
 IsPassed {V} A g marks a =
     (t m : Mark V) → label_of marks (arc_of g a).tail ≡ Some t → label_of marks (arc_of g a).head ≡ Some m → A.extend t.value (arc_of g a).weight ≡ Some m.value →
     (m.hops ≤ t.hops + 1) × (m.hops ≡ t.hops + 1 → m.parent ≤ (arc_of g a).tail)
 
--- (x, h) is a level: no settled key is worse, and no open one is better; pending arcs wait for their turn
+-- (x, h) is a level: no settled key is worse, and no open one is better; pending arcs wait for
+-- their turn
 pub record Hopping {V : Type 0} (A : Algebra V) (g : GraphData) (sources : List ℕ) (marks : List (Option (Mark V))) (settled : List Bool) (x : V) (h : ℕ) (pending : List ℕ) : Type 0 where
   pub known : Search A g sources (values_in marks) settled x pending
   pub below : (v : ℕ) (m : Mark V) → HasVertex g v → IsSettled settled v → label_of marks v ≡ Some m → IsTrue (A.no_worse x m.value) → m.hops ≤ h

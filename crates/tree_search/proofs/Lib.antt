@@ -9,3 +9,4 @@ mod Relaxing
 mod Rows
 mod Comparing
 mod Listing
+mod Waiting

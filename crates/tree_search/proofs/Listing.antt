@@ -1,5 +1,5 @@
 -- The list of the settled vertices, in the order in which they were settled.
-use Rattle.std.proofs.Common.{◌≡◌, ℕ, ◌+◌, ◌-◌, ◌<◌, ◌≤◌, ◌⊎◌, inl, inr, Bool, true, false, List, [], ◌∷◌, ◌++◌, length, get_or, set, replicate, refl, ap, sym, ◌∙◌, subst, arith, Option, Some, None}
+use Rattle.std.proofs.Common.{◌≡◌, ℕ, ◌+◌, ◌-◌, ◌<◌, inl, inr, Bool, true, false, List, [], ◌∷◌, ◌++◌, length, get_or, set, replicate, refl, ap, sym, ◌∙◌, subst, arith, Option, Some, None}
 use Rattle.std.proofs.Math.ListN.{get_or-map}
 use Rattle.std.proofs.lemmas.Bool.{cases_Bool}
 use Rattle.std.proofs.lemmas.List.{get_or_default}
@@ -28,7 +28,8 @@ use Rattle.tree_search.proofs.Rounds.{Between, starting, keys_count, round_stays
 use Rattle.tree_search.proofs.Ending.{values_are_best, all_settled}
 use Rattle.tree_search.proofs.Steps.{last_round}
 
--- the settled vertices are on the list, each once, and the values that they have never get better along it
+-- the settled vertices are on the list, each once, and the values that they have never get better
+-- along it
 pub record AreListed {V : Type 0} (no_worse : V → V → Bool) (g : GraphData) (marks : List (Option (Mark V))) (settled : List Bool) (list : List ℕ) : Type 0 where
   pub inside : (v : ℕ) → Contains list v → HasVertex g v × IsSettled settled v
   pub all : (v : ℕ) → HasVertex g v → IsSettled settled v → Contains list v

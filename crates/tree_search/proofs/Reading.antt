@@ -34,7 +34,8 @@ module _ {X Y : Type 0} (f : X → Y) (xs : List (Option X)) (v : ℕ) where
   pub found : (y : Y) → label_of (map (option_map f) xs) v ≡ Some y → (m : X) × (label_of xs v ≡ Some m) × (f m ≡ y)
   found y e = holds (label_of xs v) y (sym read_at ∙ e)
 
--- an offer leaves all as it was: the old mark has no worse a key, and where the keys are the same no greater a parent
+-- an offer leaves all as it was: the old mark has no worse a key, and where the keys are the same
+-- no greater a parent
 pub record IsKept {V : Type 0} (no_worse : V → V → Bool) (marks : List (Option (Mark V))) (v : ℕ) (new : Mark V) : Type 0 where
   pub same : marked no_worse marks v new ≡ marks
   pub old : Mark V

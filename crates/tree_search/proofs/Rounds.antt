@@ -1,4 +1,5 @@
--- The search with hops and parents: its start, the choice of a vertex, and one round after the other.
+-- The search with hops and parents: its start, the choice of a vertex, and one round after the
+-- other.
 use Rattle.std.proofs.Common.{◌≡◌, ℕ, ◌+◌, ◌-◌, ◌<◌, ◌≤◌, ◌⊎◌, inl, inr, Bool, true, false, List, [], length, get_or, set, replicate, ap, sym, ◌∙◌, subst, arith, Option, Some, None, get_or-set_same, get_or-set_other}
 use Rattle.std.proofs.lemmas.List.{length-map}
 use Rattle.std.proofs.lemmas.Bool.{cases_eq}
@@ -159,7 +160,8 @@ module _ {V : Type 0} (A : Algebra V) (lawful : IsLawful A) (g : GraphData) (roa
             (hopping_pick A lawful g roads sources marks settled between.level x between.hops h i pass.0 between.hopping mine pass.1));
       }
 
-  -- what one round does to the settled vertices: i + 1 joins them with x, which is no better than theirs, and their marks stay
+  -- what one round does to the settled vertices: i + 1 joins them with x, which is no better than
+  -- theirs, and their marks stay
   module _ (i : ℕ) (x : V) (h : ℕ) (next : List (Option (Mark V))) (best : IsBestOpen (by_number order) (keys_in marks) settled (length (keys_in marks)) i (x, h)) (pass : Relaxes A g (i + 1) x h marks next) where
     mine : IsBestOpen (by_number A.no_worse) (keys_in marks) settled g.vertices i (x, h)
     mine = rw (same, ← keys_count) best

@@ -1,4 +1,5 @@
--- The steps of a search: each keeps its queue, leads from one round to the next, and comes nearer to the end.
+-- The steps of a search: each keeps its queue, leads from one round to the next, and comes nearer
+-- to the end.
 use Rattle.std.proofs.Common.{◌≡◌, ℕ, zero, suc, ◌+◌, ◌-◌, ◌*◌, ◌<◌, ◌≤◌, inl, inr, Bool, true, false, cond, not, List, [], ◌∷◌, length, get_or, set, replicate, refl, ap, sym, ◌∙◌, subst, arith, Option, Some, None, length-set, get_or-set_same, get_or-set_other}
 use Rattle.std.proofs.lemmas.Bool.{cases_eq}
 use Rattle.std.proofs.lemmas.List.{length-map, map-set, length-replicate}

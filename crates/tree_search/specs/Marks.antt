@@ -1,4 +1,5 @@
--- What a search knows of the vertices that it has reached: a value, hops and a parent of each, and how one arc changes them.
+-- What a search knows of the vertices that it has reached: a value, hops and a parent of each, and
+-- how one arc changes them.
 use Rattle.std.specs.Prelude.{ℕ, ◌+◌, ◌-◌, List, [], ◌∷◌, map, Bool, true, false, cond, not, leb, eqb, Option, Some, None, option_map, slice_set, sum_by}
 use Rattle.road_graph.specs.GraphData.{GraphData, arc_of}
 use Rattle.path_algebra.specs.Algebra.{Algebra}
@@ -40,7 +41,8 @@ abbrev pub is_lesser : {V : Type 0} → (V → V → Bool) → Option (Mark V) �
 is_lesser no_worse None new = false
 is_lesser no_worse (Some old) new = cond (by_number no_worse (key_of new) (key_of old)) (not (leb old.parent new.parent)) false
 
--- the marks after one was offered to v: it is kept if its key is better, or as good with a lesser parent
+-- the marks after one was offered to v: it is kept if its key is better, or as good with a lesser
+-- parent
 abbrev pub marked : {V : Type 0} → (V → V → Bool) → List (Option (Mark V)) → ℕ → Mark V → List (Option (Mark V))
 marked no_worse marks v new =
     cond (is_better no_worse (label_of marks v) new) (slice_set marks (v - 1) (Some new))

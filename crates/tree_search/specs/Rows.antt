@@ -18,7 +18,8 @@ marks_of (x ∷ values) [] parents = []
 marks_of (x ∷ values) (h ∷ hops) [] = []
 marks_of (x ∷ values) (h ∷ hops) (p ∷ parents) = mark_in x h p ∷ marks_of values hops parents
 
--- with a value there are hops, and no parent or a vertex; without one there are neither hops nor a parent
+-- with a value there are hops, and no parent or a vertex; without one there are neither hops nor a
+-- parent
 abbrev pub IsMarkRow : {V : Type 0} → Option V → Option ℕ → Option ℕ → Type 0
 IsMarkRow None h p = (h ≡ None) × (p ≡ None)
 IsMarkRow (Some x) None p = ⊥

@@ -1,8 +1,9 @@
 -- A search with hops and parents, and how it proceeds.
-use Rattle.std.specs.Prelude.{◌≡◌, ℕ, ◌+◌, ◌<◌, ◌≤◌, List, [], ◌∷◌, ◌++◌, length, Bool, true, false, Option, Some, None, replicate, slice_set, slice_index_or}
-use Rattle.road_graph.specs.GraphData.{GraphData, IsGraph, ListsArcsFrom}
+use Rattle.std.specs.Prelude.{◌≡◌, ℕ, ◌+◌, ◌-◌, ◌<◌, ◌≤◌, Contains, List, [], ◌∷◌, ◌++◌, length, Bool, true, false, Option, Some, None, replicate, slice_set, slice_index_or}
+use Rattle.road_graph.specs.GraphData.{GraphData, HasVertex, IsGraph, ListsArcsFrom}
 use Rattle.path_algebra.specs.Algebra.{Algebra}
 use Rattle.path_algebra.specs.Open.{IsBestOpen, AnswersBestOpen}
+use Rattle.path_algebra.specs.Walks.{is_marked}
 use Rattle.path_plain.specs.Queue.{IsQueue}
 use Rattle.tree_search.specs.Marks.{keys_in, relaxed_marks, unsettled}
 use Rattle.ranked_queue.specs.Order.{by_number}
@@ -87,3 +88,20 @@ pub record Proceeds {A V : Type 0} (no_worse : V → V → Bool) (meaning : Alge
   pub algebra : new.algebra ≡ old.algebra
   pub roads : new.roads ≡ old.roads
   pub advances : Advances no_worse meaning step old new
+
+-- the vertex of an entry is settled as it is, an entry is dropped, or no open vertex has a mark
+abbrev pub Rests : {A V : Type 0} → (V → V → Bool) → Algebra V → Step → SearchState A V → SearchState A V → Type 0
+Rests no_worse meaning (Settled v) old new =
+    HasVertex old.roads v × (new.marks ≡ old.marks) × (new.settled ≡ slice_set old.settled (v - 1) true) × (new.waiting < old.waiting)
+Rests no_worse meaning Dropped old new = Advances no_worse meaning Dropped old new
+Rests no_worse meaning Ended old new = Advances no_worse meaning Ended old new
+
+-- a step that extends nothing, in the same graph
+pub record Forgoes {A V : Type 0} (no_worse : V → V → Bool) (meaning : Algebra V) (step : Step) (old new : SearchState A V) : Type 0 where
+  pub roads : new.roads ≡ old.roads
+  pub rests : Rests no_worse meaning step old new
+
+-- each settled vertex is on the list, and no number that is none
+pub record AreSettledOn (g : GraphData) (settled : List Bool) (list : List ℕ) : Type 0 where
+  pub inside : (v : ℕ) → Contains list v → HasVertex g v
+  pub all : (v : ℕ) → HasVertex g v → is_marked settled v ≡ true → Contains list v

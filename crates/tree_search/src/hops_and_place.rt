@@ -4,7 +4,8 @@ ghost use Rattle.std.specs.Prelude.{◌≡◌, ◌+◌, ◌*◌};
 
 use ranked_queue::Rank;
 
-/// Hops that a vertex was offered, and its place among the marks, which counts only if the hops tie.
+/// Hops that a vertex was offered, and its place among the marks, which counts only if the hops
+/// tie.
 #[derive(Clone, Copy)]
 pub(crate) struct HopsAndPlace {
     pub(crate) hops: u32,

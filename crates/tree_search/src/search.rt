@@ -7,7 +7,7 @@ ghost use Rattle.path_plain.specs.Noting.{AreNoted};
 ghost use Rattle.tree_search.specs.Marks.{hops_in, marked, marked_if, parents_in, unsettled, values_in};
 ghost use Rattle.route_tree.specs.Tree.{IsLinked};
 ghost use Rattle.tree_search.specs.Opening.{AreOpening};
-ghost use Rattle.tree_search.specs.Searching.{IsBlank, IsSameSearch, Relaxes, Proceeds};
+ghost use Rattle.tree_search.specs.Searching.{Forgoes, IsBlank, IsSameSearch, Relaxes, Proceeds};
 
 use crate::hops_and_place::HopsAndPlace;
 use crate::mark::Mark;
@@ -62,7 +62,8 @@ impl<A: PathAlgebra> Search<A> {
         })
     }
 
-    /// Makes it a search by this algebra in which no vertex has a mark. Each vertex that has one, or is settled, is on the list.
+    /// Makes it a search by this algebra in which no vertex has a mark. Each vertex that has one,
+    /// or is settled, is on the list.
     pub(crate) fn clear(&mut self, algebra: A, list: &[Vertex])
         requires { AreNoted self.old.roads.vertices list.now self.old.marks self.old.settled }
         ensures algebra { self.new.algebra ≡ algebra }
@@ -89,7 +90,8 @@ impl<A: PathAlgebra> Search<A> {
         Ok(())
     }
 
-    /// Gives a vertex this value, hops and parent if they are better than its mark, and puts it into the queue if its key is better.
+    /// Gives a vertex this value, hops and parent if they are better than its mark, and puts it
+    /// into the queue if its key is better.
     fn offer(&mut self, v: Vertex, value: A::Value, hops: u32, parent: u32) -> Result<(), Memory>
         requires vertex { HasVertex self.old.roads v }
         requires hops { hops + unsettled self.old.settled ≤ self.old.roads.vertices }
@@ -137,7 +139,8 @@ impl<A: PathAlgebra> Search<A> {
         }
     }
 
-    /// Extends x along each arc that leaves v, and offers the result, with one hop more and v as its parent, to the arc's head.
+    /// Extends x along each arc that leaves v, and offers the result, with one hop more and v as
+    /// its parent, to the arc's head.
     fn relax(&mut self, graph: &OutGraph, v: Vertex, x: A::Value, hops: u32) -> Result<(), Memory>
         requires graph { graph.now ≡ self.old.roads }
         requires vertex { HasVertex self.old.roads v }
@@ -157,7 +160,8 @@ impl<A: PathAlgebra> Search<A> {
         Ok(())
     }
 
-    /// Settles the vertex of the first entry, or drops the entry if its vertex is settled already. Ended if the queue is empty.
+    /// Settles the vertex of the first entry, or drops the entry if its vertex is settled already.
+    /// Ended if the queue is empty.
     pub(crate) fn settle_next(&mut self, graph: &OutGraph) -> Result<Step, Memory>
         requires { graph.now ≡ self.old.roads }
         ensures { IfOk result (λ step. Proceeds A.order (A.meaning self.old.algebra) step self.old
@@ -174,6 +178,22 @@ impl<A: PathAlgebra> Search<A> {
         let v = Vertex(top.rank.place + 1);
         self.relax(graph, v, top.value, top.rank.hops)?;
         Ok(Step::Settled(v))
+    }
+
+    /// Settles the vertex of the first entry as it is, or drops the entry if its vertex is settled
+    /// already. Ended if the queue is empty.
+    pub(crate) fn forgo_next(&mut self) -> Step
+        ensures { Forgoes A.order (A.meaning self.old.algebra) result self.old self.new }
+    {
+        let Some(top) = self.queue.pop() else {
+            return Step::Ended;
+        };
+        let i = top.rank.place as usize;
+        if self.settled[i] {
+            return Step::Dropped;
+        }
+        self.settled[i] = true;
+        Step::Settled(Vertex(top.rank.place + 1))
     }
 
     /// The value of a vertex, if it has a mark.

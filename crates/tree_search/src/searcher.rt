@@ -1,17 +1,20 @@
-//! Trees in one graph, one after the other, at a cost of what they reach: the lists of the search stay.
+//! Trees in one graph, one after the other, at a cost of what they reach: the lists of the search
+//! stay.
 
-ghost use Rattle.std.specs.Prelude.{◌≡◌, [], All, IfOk, OnOk};
+ghost use Rattle.std.specs.Prelude.{◌≡◌, [], All, false, IfOk, IsTrue, OnOk};
 ghost use Rattle.road_graph.specs.GraphData.{HasVertex};
 ghost use Rattle.path_algebra.specs.Walks.{AreBest, label_of};
+ghost use Rattle.path_plain.specs.Halting.{CanHalt};
 ghost use Rattle.path_plain.specs.Noting.{AreNoted};
 ghost use Rattle.route_tree.specs.Tree.{IsTree, hops_of, parent_of};
 ghost use Rattle.tree_search.specs.Marks.{hops_in, parents_in, values_in};
 ghost use Rattle.tree_search.specs.Nearest.{AreNearest};
-ghost use Rattle.tree_search.specs.Searching.{IsBlank, listed_after};
+ghost use Rattle.tree_search.specs.Searching.{AreSettledOn, IsBlank, listed_after};
 
 use crate::search::Search;
 use crate::step::Step;
 use path_algebra::{PathAlgebra, laws_hold};
+use path_plain::Halt;
 use road_graph::{Memory, OutGraph, Vertex};
 use std::alloc::{AllocError, Global};
 use std::marker::Model;
@@ -48,34 +51,66 @@ fn note(reached: &mut Vec<Vertex>, step: &Step) -> Result<(), Memory>
     Ok(())
 }
 
-/// Settles vertices from some sources on until none waits, and lists them in this order.
+/// Settles vertices from some sources on until none waits, which is true, or it is to give up, and
+/// lists them in this order.
 fn settle_all<A: PathAlgebra>(
     algebra: A,
     search: &mut Search<A>,
     graph: &OutGraph,
     sources: &[Vertex],
     reached: &mut Vec<Vertex>,
-) -> Result<(), Memory>
+    halt: &mut Halt<'_>,
+) -> Result<bool, Memory>
     requires algebra { search.old.algebra ≡ algebra }
     requires graph { search.old.roads ≡ graph.now }
     requires sources { All (HasVertex graph.now) sources.now }
     requires blank { IsBlank search.old }
     requires empty { reached.old.items ≡ [] }
     ensures roads { OnOk result (search.new.roads ≡ graph.now) }
-    ensures reached { OnOk result (AreNearest (A.meaning algebra) graph.now sources.now
-        reached.new.items) }
-    ensures labels { OnOk result (AreBest (A.meaning algebra) graph.now sources.now
-        (values_in search.new.marks)) }
-    ensures tree { OnOk result (IsTree (A.meaning algebra) graph.now sources.now
-        (record { hops = hops_in search.new.marks; parents = parents_in search.new.marks })) }
-    ensures noted { OnOk result (AreNoted graph.now.vertices reached.new.items search.new.marks
-        search.new.settled) }
+    ensures reached { IfOk result (λ ended. IsTrue ended → AreNearest (A.meaning algebra) graph.now
+        sources.now reached.new.items) }
+    ensures labels { IfOk result (λ ended. IsTrue ended → AreBest (A.meaning algebra) graph.now
+        sources.now (values_in search.new.marks)) }
+    ensures tree { IfOk result (λ ended. IsTrue ended → IsTree (A.meaning algebra) graph.now
+        sources.now (record {
+          hops = hops_in search.new.marks;
+          parents = parents_in
+              search.new.marks;
+        })) }
+    ensures noted { IfOk result (λ ended. IsTrue ended → AreNoted graph.now.vertices
+        reached.new.items search.new.marks search.new.settled) }
+    ensures settled { IfOk result (λ ended. ended ≡ false → AreSettledOn graph.now
+        search.new.settled reached.new.items) }
+    ensures halts { IfOk result (λ ended. ended ≡ false → CanHalt halt.old) }
 {
     laws_hold(algebra);
     graph.holds();
     search.start(sources)?;
     loop {
         let step = search.settle_next(graph)?;
+        if step.is_end() {
+            return Ok(true);
+        }
+        note(reached, &step)?;
+        if halt.is_due() {
+            return Ok(false);
+        }
+    }
+}
+
+/// Takes all entries off the queue, and lists their vertices too: then each vertex with a mark is
+/// on the list.
+fn list_waiting<A: PathAlgebra>(
+    search: &mut Search<A>,
+    reached: &mut Vec<Vertex>,
+) -> Result<(), Memory>
+    requires { AreSettledOn search.old.roads search.old.settled reached.old.items }
+    ensures roads { search.new.roads ≡ search.old.roads }
+    ensures noted { OnOk result (AreNoted search.old.roads.vertices reached.new.items
+        search.new.marks search.new.settled) }
+{
+    loop {
+        let step = search.forgo_next();
         if step.is_end() {
             return Ok(());
         }
@@ -95,16 +130,26 @@ impl<A: PathAlgebra> TreeSearcher<A> {
         })
     }
 
-    /// Finds the vertices that are reached from some sources, the nearest first, with their labels and their tree.
-    /// The only error is `Memory`; the searcher is lost with it.
-    pub fn solve(self, algebra: A, graph: &OutGraph, sources: &[Vertex]) -> Result<Self, Memory>
+    /// Finds the vertices that are reached from some sources, the nearest first, with their labels
+    /// and their tree, unless it is to give up before. With the searcher comes whether they are
+    /// found. The only error is `Memory`; the searcher is lost with it.
+    pub fn solve_unless(
+        self,
+        algebra: A,
+        graph: &OutGraph,
+        sources: &[Vertex],
+        halt: &mut Halt<'_>,
+    ) -> Result<(Self, bool), Memory>
         requires graph { graph.now ≡ self.roads }
         requires sources { All (HasVertex graph.now) sources.now }
-        ensures roads { IfOk result (λ s. s.roads ≡ graph.now) }
-        ensures reached { IfOk result (λ s. AreNearest (A.meaning algebra) graph.now sources.now
-            s.reached) }
-        ensures labels { IfOk result (λ s. AreBest (A.meaning algebra) graph.now sources.now s.labels) }
-        ensures tree { IfOk result (λ s. IsTree (A.meaning algebra) graph.now sources.now s.tree) }
+        ensures roads { IfOk result (λ s. s.0.roads ≡ graph.now) }
+        ensures reached { IfOk result (λ s. IsTrue s.1 → AreNearest (A.meaning algebra) graph.now
+            sources.now s.0.reached) }
+        ensures labels { IfOk result (λ s. IsTrue s.1 → AreBest (A.meaning algebra) graph.now
+            sources.now s.0.labels) }
+        ensures tree { IfOk result (λ s. IsTrue s.1 → IsTree (A.meaning algebra) graph.now sources.now
+            s.0.tree) }
+        ensures halts { IfOk result (λ s. s.1 ≡ false → CanHalt halt.old) }
     {
         let TreeSearcher {
             mut search,
@@ -112,8 +157,11 @@ impl<A: PathAlgebra> TreeSearcher<A> {
         } = self;
         search.clear(algebra, &reached);
         reached.clear();
-        settle_all(algebra, &mut search, graph, sources, &mut reached)?;
-        Ok(TreeSearcher { search, reached })
+        let is_found = settle_all(algebra, &mut search, graph, sources, &mut reached, halt)?;
+        if !is_found {
+            list_waiting(&mut search, &mut reached)?;
+        }
+        Ok((TreeSearcher { search, reached }, is_found))
     }
 
     /// The vertices that the last search reached, in the order in which it settled them.

@@ -51,10 +51,12 @@ fn solve_in_two_passes<A: PathAlgebra>(
     Ok((labels, tree))
 }
 
-/// The best value of each vertex over all walks from some source of the list, and none if no walk has a value; with the tree of these values. Sources may repeat. The only error is `Memory`.
+/// The best value of each vertex over all walks from some source of the list, and none if no walk
+/// has a value; with the tree of these values. Sources may repeat. The only error is `Memory`.
 ///
-/// One search finds both, unless `ties_mostly` says that most values tie: a heap that orders by hops too then costs more than a pass over the arcs.
-/// Besides the labels and the tree it takes a byte a vertex, and the queue.
+/// One search finds both, unless `ties_mostly` says that most values tie: a heap that orders by
+/// hops too then costs more than a pass over the arcs. Besides the labels and the tree it takes a
+/// byte a vertex, and the queue.
 pub fn solve_with_tree<A: PathAlgebra>(
     alloc: Global,
     algebra: A,

@@ -67,7 +67,8 @@ impl<A: PathAlgebra> MarkTable<A> {
         })
     }
 
-    /// Whether a mark has a strictly better key than that of a place. Hops are looked at only if values tie.
+    /// Whether a mark has a strictly better key than that of a place. Hops are looked at only if
+    /// values tie.
     pub(crate) fn is_better(&self, i: usize, new: Mark<A::Value>) -> bool
         requires { i < length self.now }
         ensures { result ≡ is_better A.order (slice_index_or self.now i None) new }
@@ -157,7 +158,8 @@ impl<A: PathAlgebra> MarkTable<A> {
     }
 }
 
-/// Takes away the mark of each vertex of a list, and that it is settled. No other vertex has one, or is settled.
+/// Takes away the mark of each vertex of a list, and that it is settled. No other vertex has one,
+/// or is settled.
 pub(crate) fn put_back<A: PathAlgebra>(
     marks: &mut MarkTable<A>,
     settled: &mut Vec<bool>,

@@ -1,4 +1,4 @@
-use Rattle.std.proofs.Common.{◌≡◌, ◌∙◌, sym, subst, true, false, []}
+use Rattle.std.proofs.Common.{◌≡◌, ◌∙◌, sym, subst, true, false}
 use Rattle.tree_search.specs.Searching.{Proceeds, is_end}
 use Rattle.tree_search.proofs.Steps.{next_round, comes_nearer}
 use Rattle.tree_search.proofs.Listing.{AreListed, started, listed_next, all_found}
@@ -14,6 +14,7 @@ loop-step-init g c =
       graph = c.in_ok-start.ensures.same.roads ∙ c.requires.graph;
       between = start.0;
       listed = rw c.requires.empty start.1;
+      halt = λ can. can;
     }
 
 pub loop-step-preserved : goal.loop-step-preserved
@@ -31,6 +32,7 @@ loop-step-preserved g c =
       listed = rw c.in_ok-note.ensures
           (listed_next A c.laws_hold.ensures.lawful c.args.graph.now c.holds.ensures c.args.sources.now c.requires.sources g.A.PathAlgebra.order c.laws_hold.ensures.order
           c.loop-step.search c.settle_next.new.self was.graph was.between c.loop-step.reached.items was.listed c.in_ok-step.step more step);
+      halt = λ can. was.halt (c.is_due.ensures.kind.0 can);
     }
 
 pub loop-step-smaller : goal.loop-step-smaller
@@ -44,7 +46,7 @@ loop-step-smaller g c =
     c.loop-step.search c.settle_next.new.self was.graph was.between c.in_ok-step.step more step
 
 pub returns-then-is_end-clause-reached : goal.returns-then-is_end-clause-reached
-returns-then-is_end-clause-reached g c =
+returns-then-is_end-clause-reached g c = λ _.
     let A = g.A.PathAlgebra.meaning c.args.algebra in
     let was = c.loop-step.invariant in
     let step : Proceeds g.A.PathAlgebra.order A c.in_ok-step.step c.loop-step.search c.settle_next.new.self =
@@ -54,7 +56,7 @@ returns-then-is_end-clause-reached g c =
     c.loop-step.search c.settle_next.new.self was.graph was.between c.loop-step.reached.items was.listed c.in_ok-step.step end step).0
 
 pub returns-then-is_end-clause-labels : goal.returns-then-is_end-clause-labels
-returns-then-is_end-clause-labels g c =
+returns-then-is_end-clause-labels g c = λ _.
     let A = g.A.PathAlgebra.meaning c.args.algebra in
     let was = c.loop-step.invariant in
     let step : Proceeds g.A.PathAlgebra.order A c.in_ok-step.step c.loop-step.search c.settle_next.new.self =
@@ -64,7 +66,7 @@ returns-then-is_end-clause-labels g c =
     c.loop-step.search c.settle_next.new.self was.graph was.between c.loop-step.reached.items was.listed c.in_ok-step.step end step).1
 
 pub returns-then-is_end-clause-tree : goal.returns-then-is_end-clause-tree
-returns-then-is_end-clause-tree g c =
+returns-then-is_end-clause-tree g c = λ _.
     let A = g.A.PathAlgebra.meaning c.args.algebra in
     let was = c.loop-step.invariant in
     let step : Proceeds g.A.PathAlgebra.order A c.in_ok-step.step c.loop-step.search c.settle_next.new.self =
@@ -74,7 +76,7 @@ returns-then-is_end-clause-tree g c =
     c.loop-step.search c.settle_next.new.self was.graph was.between c.loop-step.reached.items was.listed c.in_ok-step.step end step).2
 
 pub returns-then-is_end-clause-noted : goal.returns-then-is_end-clause-noted
-returns-then-is_end-clause-noted g c =
+returns-then-is_end-clause-noted g c = λ _.
     let A = g.A.PathAlgebra.meaning c.args.algebra in
     let was = c.loop-step.invariant in
     let step : Proceeds g.A.PathAlgebra.order A c.in_ok-step.step c.loop-step.search c.settle_next.new.self =
@@ -82,3 +84,15 @@ returns-then-is_end-clause-noted g c =
     let end : is_end c.in_ok-step.step ≡ true = sym c.is_end.ensures ∙ c.if-is_end.true in
     (all_found A c.laws_hold.ensures.lawful c.args.graph.now c.holds.ensures c.args.sources.now c.requires.sources g.A.PathAlgebra.order c.laws_hold.ensures.order
     c.loop-step.search c.settle_next.new.self was.graph was.between c.loop-step.reached.items was.listed c.in_ok-step.step end step).3
+
+pub returns-then-is_due-clause-settled : goal.returns-then-is_due-clause-settled
+returns-then-is_due-clause-settled g c = λ _.
+    let A = g.A.PathAlgebra.meaning c.args.algebra in
+    let was = c.loop-step.invariant in
+    let step : Proceeds g.A.PathAlgebra.order A c.in_ok-step.step c.loop-step.search c.settle_next.new.self =
+    subst (λ a. Proceeds g.A.PathAlgebra.order (g.A.PathAlgebra.meaning a) c.in_ok-step.step c.loop-step.search c.settle_next.new.self) was.algebra c.in_ok-step.ensures in
+    let more : is_end c.in_ok-step.step ≡ false = sym c.is_end.ensures ∙ c.if-is_end.false in
+    let listed : AreListed A.no_worse c.args.graph.now c.settle_next.new.self.marks c.settle_next.new.self.settled c.note.new.reached.items = rw c.in_ok-note.ensures
+    (listed_next A c.laws_hold.ensures.lawful c.args.graph.now c.holds.ensures c.args.sources.now c.requires.sources g.A.PathAlgebra.order c.laws_hold.ensures.order
+    c.loop-step.search c.settle_next.new.self was.graph was.between c.loop-step.reached.items was.listed c.in_ok-step.step more step) in
+    record { inside = λ v on. (listed.inside v on).0; all = listed.all }

@@ -1,4 +1,5 @@
 use Rattle.std.proofs.Common.{◌≡◌, ◌+◌, ◌*◌, length}
+use Rattle.path_plain.specs.Halting.{CanHalt}
 use Rattle.tree_search.specs.Marks.{unsettled}
 use Rattle.tree_search.proofs.Rounds.{Between}
 use Rattle.tree_search.proofs.Listing.{AreListed}
@@ -10,6 +11,7 @@ invariant-loop-step g l = record {
   graph : l.search.roads ≡ l.graph;
   between : Between (g.A.PathAlgebra.meaning l.fn.algebra) l.graph l.sources l.search.marks l.search.settled;
   listed : AreListed (g.A.PathAlgebra.meaning l.fn.algebra).no_worse l.graph l.search.marks l.search.settled l.reached.items;
+  halt : CanHalt l.halt → CanHalt l.fn.halt;
 }
 
 abbrev pub decreases-loop-step : goal.decreases-loop-step

@@ -1,4 +1,4 @@
-use Rattle.std.proofs.Common.{◌≡◌, ◌∙◌, sym, subst, true, false}
+use Rattle.std.proofs.Common.{◌≡◌, ◌∙◌, sym, subst, false}
 use Rattle.tree_search.specs.Searching.{Proceeds, is_end}
 use Rattle.tree_search.specs.declared.step.Step.TheVariants.{Ended}
 use Rattle.tree_search.proofs.Listing.{started}

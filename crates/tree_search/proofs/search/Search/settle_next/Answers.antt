@@ -1,4 +1,4 @@
-use Rattle.std.proofs.Common.{◌+◌, ◌∙◌, sym, subst, arith, true, false}
+use Rattle.std.proofs.Common.{◌+◌, ◌∙◌, sym, subst, arith, false}
 use Rattle.std.proofs.lemmas.List.{get_or_default}
 use Rattle.tree_search.specs.Searching.{SearchState, Proceeds}
 use Rattle.tree_search.specs.declared.step.Step.TheVariants.{Settled}

@@ -3,14 +3,14 @@ use Rattle.road_graph.specs.GraphData.{GraphData}
 use Rattle.path_plain.specs.Rounds.{IsSearchedAsFar}
 use Rattle.path_plain.specs.UpTo.{AreBestUpTo}
 use Rattle.path_plain.proofs.Running.{searched, went_on, kept_from}
-use Rattle.path_plain.proofs.searcher.Searcher.solve_near.Goals as goal
+use Rattle.path_plain.proofs.searcher.Searcher.solve_unless.Goals as goal
 
 pub invariant_of-self-2 : goal.invariant_of-self-2
 invariant_of-self-2 g c =
     let meaning = g.A.PathAlgebra.meaning in
     let was = c.self.inside.search in
     let came = c.come_from.new.search in
-    let ran = c.run_some.new.self in
+    let ran = c.run_unless.new.self in
     let roads : was.roads ≡ c.args.graph.now = (λ i. (c.self.view_is i).roads) ∙ sym c.requires.graph in
     kept_from meaning was came ran c.args.source (rw roads c.requires.source) c.in_ok-come_from.ensures.of_same c.in_ok-come_from.ensures.between c.self.invariant.notes c.in_ok-found.ensures.of_same
     (went_on meaning was came ran c.args.source (rw roads c.requires.source) c.in_ok-come_from.ensures.of_same c.in_ok-come_from.ensures.between c.args.target c.in_ok-found.found c.in_ok-found.ensures.runs)
@@ -20,7 +20,7 @@ returns-clause-labels g c = λ found.
     let meaning = g.A.PathAlgebra.meaning in
     let was = c.self.inside.search in
     let came = c.come_from.new.search in
-    let ran = c.run_some.new.self in
+    let ran = c.run_unless.new.self in
     let roads : was.roads ≡ c.args.graph.now = (λ i. (c.self.view_is i).roads) ∙ sym c.requires.graph in
     let far : IsSearchedAsFar (meaning was.algebra) was.roads (c.args.source ∷ []) (Some c.args.target) ran.labels ran.settled =
     searched meaning was came ran c.args.source (rw roads c.requires.source) c.in_ok-come_from.ensures.of_same c.in_ok-come_from.ensures.between c.args.target (rw found at c.in_ok-found.ensures.runs) in

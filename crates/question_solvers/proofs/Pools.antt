@@ -7,19 +7,15 @@ use Rattle.std.proofs.lemmas.List.Elements.{All-append, All-drop, All-take}
 use Rattle.std.specs.List.{AllZip}
 use Rattle.std.specs.Prelude.{IfSome}
 use Rattle.road_graph.specs.GraphData.{GraphData}
-use Rattle.path_plain.specs.Searcher.{IsOfSameGraph, SearcherState}
-use Rattle.question_solvers.specs.Solvers.{IsPoolOf, IsSearcherOf}
+use Rattle.question_solvers.specs.Solvers.{IsPoolOf}
 use Rattle.question_solvers.specs.declared.pair_solver.PairSolver.{PairSolver}
-
--- a searcher is of its graph and by its algebra after a call too
-pub still_of : {S V : Type 0} (algebra : S) (g : GraphData) (old new : SearcherState S V) → IsOfSameGraph old new → IsSearcherOf algebra g old → IsSearcherOf algebra g new
-still_of algebra g old new same is = record { by = same.algebra ∙ is.by; over = same.roads ∙ is.over }
 
 -- all of a pool are of the graph
 pub pool_over : {S V : Type 0} (algebra : S) (g : GraphData) (pool : List (PairSolver S V)) → IsPoolOf algebra g pool → All (λ s. s.searcher.roads ≡ g) pool
 pool_over algebra g pool each = λ k d low. (each k d low).over
 
--- what holds of all of a list, and of all that is written over a part of it, holds of all that it has then
+-- what holds of all of a list, and of all that is written over a part of it, holds of all that it
+-- has then
 pub put_all : {X : Type 0} (P : X → Type 0) (a n : ℕ) (xs ys : List X) → All P xs → All P ys → All P (put_mid a n xs ys)
 put_all P a n xs ys old new = All-append P (take a xs) (ys ++ drop n (drop a xs)) (All-take P a xs old) (All-append P ys (drop n (drop a xs)) new (All-drop P n (drop a xs) (All-drop P a xs old)))
 

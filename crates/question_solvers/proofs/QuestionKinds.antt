@@ -28,12 +28,10 @@ pub pair_asked : (q : Questions) (i : ℕ) (ps : Vec (ℕ × ℕ) Global) (p : �
 pair_asked q i ps p e low is d =
     ap (λ (y : Questions). get_or (asked_of y).questions i d) e ∙ get_or-map of_pair ps.items i p d (in_pairs q i ps e low) ∙ ap of_pair (sym is)
 
--- what is found of this pair answers it
-pub pair_answered : {V : Type 0} (A : Algebra V) (g : GraphData) (q : Questions) (i : ℕ) (ps : Vec (ℕ × ℕ) Global) (p : ℕ × ℕ) (found : Option Found) → q ≡ variants.Pairs ps →
-    i < length (asked_of q).questions → p ≡ get_or ps.items i p → IsPairFound A g p.0 p.1 found → (d : Question) →
-    IsAnswer A g (get_or (asked_of q).questions i d) (PairAnswer p.0 p.1 (option_map found_of found))
-pair_answered A g q i ps p found e low is right d =
-    subst (λ (x : Question). IsAnswer A g x (PairAnswer p.0 p.1 (option_map found_of found))) (sym (pair_asked q i ps p e low is d)) (refl, refl, right)
+-- what is found of a pair answers a question that asks for it
+pub found_answers : {V : Type 0} (A : Algebra V) (g : GraphData) (s t : ℕ) (found : Option Found) (q : Question) → q ≡ BetweenPair s t → IsPairFound A g s t found →
+    IsAnswer A g q (PairAnswer s t (option_map found_of found))
+found_answers A g s t found q is right = subst (λ (x : Question). IsAnswer A g x (PairAnswer s t (option_map found_of found))) (sym is) (refl, refl, right)
 
 -- its source and its target are vertices of the graph
 pub pair_within : (n : ℕ) (q : Questions) (i : ℕ) (ps : Vec (ℕ × ℕ) Global) (p : ℕ × ℕ) → AskWithin n q → q ≡ variants.Pairs ps → i < length (asked_of q).questions → p ≡ get_or ps.items i p →

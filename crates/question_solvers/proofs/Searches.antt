@@ -70,14 +70,14 @@ module _ {V : Type 0} (A : Algebra V) (g : GraphData) (asked : Asked) (i : ℕ) 
   put_inside = subst (λ (l : List (Searched V)). 0 < length l) (sym put) (omega arith)
 
 -- what each of a list came to, where none failed
-all_ok : {S : Type 0} (E : Type 0) (Holds : ℕ → S → Type 0) (places : List ℕ) (ss : List S) → AllZip (λ k (r : Result S E). IfOk r (Holds k)) places (map Ok ss) → AllZip Holds places ss
+all_ok : {X S : Type 0} (E : Type 0) (Holds : X → S → Type 0) (places : List X) (ss : List S) → AllZip (λ k (r : Result S E). IfOk r (Holds k)) places (map Ok ss) → AllZip Holds places ss
 all_ok E Holds [] [] h = tt
 all_ok E Holds [] (s ∷ ss) h = absurd h
 all_ok E Holds (k ∷ ks) [] h = absurd h
 all_ok E Holds (k ∷ ks) (s ∷ ss) h = (h.0, all_ok E Holds ks ss h.1)
 
 -- and gathered in the order of the list
-pub gathered : {S E : Type 0} (Holds : ℕ → S → Type 0) (places : List ℕ) (rs : List (Result S E)) (v : Result (Vec S Global) E) → AllZip (λ k r. IfOk r (Holds k)) places rs
+pub gathered : {X S E : Type 0} (Holds : X → S → Type 0) (places : List X) (rs : List (Result S E)) (v : Result (Vec S Global) E) → AllZip (λ k r. IfOk r (Holds k)) places rs
     → MatchResult v (λ c. (ss : List S) × (rs ≡ map Ok ss) × (c.items ≡ ss)) (λ e. Contains rs (Err e)) → IfOk v (λ c. AllZip Holds places c.items)
 gathered Holds places rs (Ok c) each (ss, were, is) = rw is (all_ok _ Holds places ss (subst (λ l. AllZip (λ k r. IfOk r (Holds k)) places l) were each))
 gathered Holds places rs (Err e) each h = tt
@@ -90,13 +90,13 @@ held_answers A g asked i k ss low h =
     rw (slice_get-get_or ss k d low) (h d)
 
 -- what holds of each that is found for a list holds of all
-each_found : {S : Type 0} (P : S → Type 0) (places : List ℕ) (ss : List S) → AllZip (λ k s. P s) places ss → All P ss
+each_found : {X S : Type 0} (P : S → Type 0) (places : List X) (ss : List S) → AllZip (λ k s. P s) places ss → All P ss
 each_found P [] [] h = All-nil P
 each_found P [] (s ∷ ss) h = absurd h
 each_found P (k ∷ ks) [] h = absurd h
 each_found P (k ∷ ks) (s ∷ ss) h = All-cons P s ss h.0 (each_found P ks ss h.1)
 
-pub gathered_all : {S E : Type 0} (P : S → Type 0) (places : List ℕ) (rs : List (Result S E)) (v : Result (Vec S Global) E) → AllZip (λ k r. IfOk r P) places rs
+pub gathered_all : {X S E : Type 0} (P : S → Type 0) (places : List X) (rs : List (Result S E)) (v : Result (Vec S Global) E) → AllZip (λ k r. IfOk r P) places rs
     → MatchResult v (λ c. (ss : List S) × (rs ≡ map Ok ss) × (c.items ≡ ss)) (λ e. Contains rs (Err e)) → IfOk v (λ c. All P c.items)
 gathered_all P places rs (Ok c) each were = each_found P places c.items (gathered (λ k s. P s) places rs (Ok c) each were)
 gathered_all P places rs (Err e) each were = tt

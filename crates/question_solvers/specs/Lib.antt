@@ -1,2 +1,4 @@
+pub mod Questions
 pub mod Solved
 pub mod Solvers
+pub mod Tasks

@@ -38,7 +38,8 @@ pub record IsSearched {V : Type 0} (A : Algebra V) (g : GraphData) (asked : Aske
   pub place : s.place < length asked.questions
   pub solved : IsSolvedFor A g asked s.place s.solved
 
--- these were found from the question at a place on: the first solves it, and each the one at its own place
+-- these were found from the question at a place on: the first solves it, and each the one at its
+-- own place
 pub record AreFoundFrom {V : Type 0} (A : Algebra V) (g : GraphData) (asked : Asked) (i : ℕ) (found : List (Searched V)) : Type 0 where
   pub some : 0 < length found
   pub first : HoldsAt (λ s. IsSolvedFor A g asked i s.solved) found 0

@@ -22,25 +22,29 @@ use Rattle.question_solvers.specs.declared.solved.Solved.{Solved}
 abbrev pub IsPoolOf : {S V : Type 0} → S → GraphData → List (PairSolver S V) → Type 0
 IsPoolOf algebra g pool = All (λ s. IsSearcherOf algebra g s.searcher) pool
 
--- the plain solver's, for an algebra with this meaning: what it found is right, its pool is the graph's, and for pairs it has the rows of arcs by head
+-- the plain solver's, for an algebra with this meaning: what it found is right, its pool is the
+-- graph's, and for pairs it has the rows of arcs by head
 pub record IsPlainReady {S V : Type 0} {G : Ghosts S V} (meaning : S → Algebra V) (algebra : S) (asked : Asked) (s : PlainSolver S V G) : Type 0 where
   pub searched : All (IsSearched (meaning algebra) s.graph asked) s.searched.items
   pub pool : IsPoolOf algebra s.graph s.pool.items
   pub rows : asked.kind ≡ Pairs → IsSome s.by_head
 
--- the factors' solver: the plain one in it is ready, what was asked ahead is right, and factors have the rows of arcs by head and carry the algebra's values
+-- the factors' solver: the plain one in it is ready, what was asked ahead is right, and factors
+-- have the rows of arcs by head and carry the algebra's values
 pub record IsFactorReady {S V : Type 0} {G : Ghosts S V} (meaning : S → Algebra V) (algebra : S) (asked : Asked) (s : FactorSolver S V G) : Type 0 where
   pub plain : IsPlainReady meaning algebra asked s.plain
   pub ahead : All (IsSearched (meaning algebra) s.plain.graph asked) s.ahead.items
   pub rows : IfSome s.factored (λ f. IsSome s.plain.by_head)
   pub carried : IfSome s.factored (λ f. IsCarried (meaning algebra) (cost_of f.factors.algebra.cost))
 
--- its factors are for costs that carry the values of this algebra; and if it has none, the graph was refused for such costs
+-- its factors are for costs that carry the values of this algebra; and if it has none, the graph
+-- was refused for such costs
 pub record IsFactoredFor {S V : Type 0} {G : Ghosts S V} (A : Algebra V) (s : FactorSolver S V G) : Type 0 where
   pub factored : IfSome s.factored (λ f. IsCarried A (cost_of f.factors.algebra.cost))
   pub refused : IsNone s.factored → IfSome s.refused (λ r. IsCarried A (cost_of r.0))
 
--- what became of factoring its graph: there are factors, of sums that fit; or none, and why the graph was refused; or neither
+-- what became of factoring its graph: there are factors, of sums that fit; or none, and why the
+-- graph was refused; or neither
 abbrev pub IsFactoringBy : {S V : Type 0} {G : Ghosts S V} → FactorSolver S V G → Factoring → Type 0
 IsFactoringBy s Untried = IsNone s.factored × IsNone s.refused
 IsFactoringBy s Made = IsSomeAnd s.factored (λ f. CountsFit f.factors.roads (cost_of f.factors.algebra.cost) f.factors.algebra.bits)

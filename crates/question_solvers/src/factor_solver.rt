@@ -62,8 +62,9 @@ pub enum Factoring {
     Refused(Refusal),
 }
 
-/// Solves a pair by asking the factors of the graph, several side by side, and another question by two sweeps over them. The graph is factored when the
-/// first task begins. If it is too dense or too heavy, the plain solver in it answers.
+/// Solves a pair by asking the factors of the graph, several side by side, and another question by
+/// two sweeps over them. The graph is factored when the first task begins. If it is too dense or
+/// too heavy, the plain solver in it answers.
 #[derive(Drop)]
 pub struct FactorSolver<A: PathAlgebra> {
     pub(crate) plain: PlainSolver<A>,
@@ -142,7 +143,8 @@ impl<A: PathAlgebra> FactorSolver<A> {
         }
     }
 
-    /// Factors the graph for what arcs cost, unless it is so already, or was refused. The only error is want of memory.
+    /// Factors the graph for what arcs cost, unless it is so already, or was refused. The only
+    /// error is want of memory.
     pub(crate) fn factor(&mut self, alloc: Global, cost: Cost) -> Result<(), Memory>
         requires { IsSome self.old.plain.by_head }
         ensures graph { self.new.plain.graph ≡ self.old.plain.graph }

@@ -1,59 +1,109 @@
 //! Solves questions by the factors of the graph.
-ghost use Rattle.std.specs.Prelude.{◌≡◌, ◌<◌, length, All, IfOk, OnOk, IfSome, IsNone, IsSome};
+ghost use Rattle.std.specs.Prelude.{◌≡◌, IfOk, OnOk, IfSome, IsNone, IsSome};
 ghost use Rattle.path_algebra.specs.Carried.{IsCarried};
 ghost use Rattle.path_algebra.specs.Counted.{cost_of};
 ghost use Rattle.road_files.specs.Asked.{AreQuestionsOf, asked_of};
-ghost use Rattle.question_solvers.specs.Solved.{IsSearched, IsSolvedFor};
+ghost use Rattle.question_solvers.specs.Questions.{HasPlace};
+ghost use Rattle.question_solvers.specs.Solved.{IsSolvedFor};
 ghost use Rattle.question_solvers.specs.Solvers.{IsFactorReady, IsFactoredFor, last_by_factors};
+ghost use Rattle.question_solvers.specs.Tasks.{AreFoundIn, ArePairsIn, IsCarriedIn, IsPlaceIn, IsPoolIn, IsSolvedIn};
 
+use crate::ahead::take_at;
 use crate::askers::solve_pair;
 use crate::factor_solver::{FactorSolver, Factored};
+use crate::pair_solver::PairSolver;
+use crate::pairs::search_near;
 use crate::plain::{make_rows, solve_next_plainly, start_plain};
 use crate::searched::Searched;
 use crate::solved::Solved;
-use crate::task::Task;
-use factor_routes::{RoadFactors, RouteAsker};
+use crate::task::{FactoredTask, PairTask, Task, TaskOver};
+use factor_routes::RouteAsker;
 use path_algebra::PathAlgebra;
-use road_files::Questions;
-use road_graph::{InGraph, Memory};
+use road_files::{Kind, Questions};
+use road_graph::Memory;
 use std::alloc::Global;
 use std::thread::Threads;
 
-/// Solves the question at a place by the factors of its graph.
-fn solve_by_factors<A: PathAlgebra, R: Threads + Sync>(
-    task: &Task<'_, A, R>,
-    roads: (&InGraph, &RoadFactors),
+/// Solves the question at a place by asking the factors of its graph.
+fn ask_factors<A: PathAlgebra, R: Threads + Sync>(
+    factored: &FactoredTask<'_, A, R>,
     asker: &mut RouteAsker,
     ahead: &mut Vec<Searched<A::Value>>,
     i: usize,
 ) -> Result<Solved<A::Value>, Memory>
-    requires place { i < length (asked_of task.now.questions.now).questions }
-    requires within { AreQuestionsOf roads.0.now.vertices task.now.questions.now }
-    requires rows { roads.0.now ≡ roads.1.now.roads }
-    requires carried { IsCarried (A.meaning task.now.algebra) (cost_of roads.1.now.algebra.cost) }
-    requires same { asker.old.factors ≡ roads.1.now }
-    requires ahead { All (IsSearched (A.meaning task.now.algebra) roads.0.now
-        (asked_of task.now.questions.now)) ahead.old.items }
+    requires place { IsPlaceIn factored.now.over.now i }
+    requires carried { IsCarriedIn A.meaning factored.now }
+    requires same { asker.old.factors ≡ factored.now.factors.now }
+    requires ahead { AreFoundIn A.meaning factored.now.over.now ahead.old.items }
     ensures same { asker.new.factors ≡ asker.old.factors }
-    ensures ahead { All (IsSearched (A.meaning task.now.algebra) roads.entry.0.now
-        (asked_of task.now.questions.now)) ahead.new.items }
-    ensures solved { IfOk result (IsSolvedFor (A.meaning task.now.algebra) roads.entry.0.now
-        (asked_of task.now.questions.now) i) }
+    ensures ahead { AreFoundIn A.meaning factored.now.over.now ahead.new.items }
+    ensures solved { IfOk result (IsSolvedIn A.meaning factored.now.over.now i) }
 {
+    let task = factored.over.task;
     match task.questions {
-        Questions::Pairs(_) => solve_pair(task, roads, asker, ahead, i),
+        Questions::Pairs(_) => solve_pair(factored, asker, ahead, i),
         _ => {
-            let (alloc, algebra) = (task.alloc, task.algebra);
-            let (rows, factors) = roads;
+            let (factors, rows) = (factored.factors, factored.rows);
             let sources = task.questions.sources(i);
-            let (labels, tree) = factors.solve_with_tree(alloc, algebra, rows, sources)?;
+            let (labels, tree) = factors.solve_with_tree(task.alloc, task.algebra, rows, sources)?;
             Ok(Solved::Tree { labels, tree })
         }
     }
 }
 
-/// Factors the graph for what arcs cost under an algebra, unless it is so already, or was refused. Without a cost there are no factors. The
-/// only error is want of memory.
+/// Solves the pair at a place by a search that may give up: none if it does, or if memory does not
+/// suffice.
+fn solve_near<A: PathAlgebra, R>(
+    factored: &FactoredTask<'_, A, R>,
+    pool: &mut Vec<PairSolver<A>>,
+    i: usize,
+) -> Option<Solved<A::Value>>
+    requires place { IsPlaceIn factored.now.over.now i }
+    requires pairs { ArePairsIn factored.now.over.now }
+    requires pool { IsPoolIn factored.now.over.now pool.old.items }
+    ensures pool { IsPoolIn factored.now.over.now pool.new.items }
+    ensures solved { IfSome result (IsSolvedIn A.meaning factored.now.over.now i) }
+{
+    let (over, rows) = (factored.over, factored.rows);
+    let pairs = PairTask { over, rows };
+    match search_near(&pairs, i, pool) {
+        Ok(near) => near,
+        Err(Memory) => None,
+    }
+}
+
+/// Solves the question at a place on a factored graph: a pair by what was asked ahead, or by a
+/// search if that decides it soon; else by asking the factors.
+fn solve_by_factors<A: PathAlgebra, R: Threads + Sync>(
+    factored: &FactoredTask<'_, A, R>,
+    pool: &mut Vec<PairSolver<A>>,
+    asker: &mut RouteAsker,
+    ahead: &mut Vec<Searched<A::Value>>,
+    i: usize,
+) -> Result<Solved<A::Value>, Memory>
+    requires place { IsPlaceIn factored.now.over.now i }
+    requires carried { IsCarriedIn A.meaning factored.now }
+    requires pool { IsPoolIn factored.now.over.now pool.old.items }
+    requires same { asker.old.factors ≡ factored.now.factors.now }
+    requires ahead { AreFoundIn A.meaning factored.now.over.now ahead.old.items }
+    ensures pool { IsPoolIn factored.now.over.now pool.new.items }
+    ensures same { asker.new.factors ≡ asker.old.factors }
+    ensures ahead { AreFoundIn A.meaning factored.now.over.now ahead.new.items }
+    ensures solved { IfOk result (IsSolvedIn A.meaning factored.now.over.now i) }
+{
+    if let Some(solved) = take_at(ahead, i) {
+        return Ok(solved);
+    }
+    if factored.over.task.questions.kind() == Kind::Pairs {
+        if let Some(solved) = solve_near(factored, pool, i) {
+            return Ok(solved);
+        }
+    }
+    ask_factors(factored, asker, ahead, i)
+}
+
+/// Factors the graph for what arcs cost under an algebra, unless it is so already, or was refused.
+/// Without a cost there are no factors. The only error is want of memory.
 pub fn factor<A: PathAlgebra>(
     alloc: Global,
     algebra: A,
@@ -101,7 +151,7 @@ pub fn solve_next_by_factors<A: PathAlgebra, R: Threads + Sync>(
     solver: &mut FactorSolver<A>,
     i: usize,
 ) -> Result<(), Memory>
-    requires place { i < length (asked_of task.now.questions.now).questions }
+    requires place { HasPlace task.now.questions.now i }
     requires within { AreQuestionsOf solver.old.plain.graph.vertices task.now.questions.now }
     requires ready { IsFactorReady A.meaning task.now.algebra (asked_of task.now.questions.now)
         solver.old }
@@ -117,13 +167,24 @@ pub fn solve_next_by_factors<A: PathAlgebra, R: Threads + Sync>(
     let Some(factored) = solver.factored.take() else {
         return solve_next_plainly(task, &mut solver.plain, i);
     };
-    let Some(rows) = &solver.plain.by_head else {
+    let Factored { factors, mut asker } = factored;
+    let (plain, ahead) = (&mut solver.plain, &mut solver.ahead);
+    let Some(rows) = &plain.by_head else {
         unreachable!()
     };
-    let Factored { factors, mut asker } = factored;
-    let ahead = &mut solver.ahead;
-    let solved = solve_by_factors(task, (rows, &factors), &mut asker, ahead, i);
+    let graph = &plain.graph;
+    let over = TaskOver { task, graph };
+    let over_factors = FactoredTask {
+        over: &over,
+        rows,
+        factors: &factors,
+    };
+    let pool = &mut plain.pool;
+    let solved = solve_by_factors(&over_factors, pool, &mut asker, ahead, i);
     solver.factored = Some(Factored { factors, asker });
-    solver.last = Some(solved?);
+    let Ok(solved) = solved else {
+        return Err(Memory);
+    };
+    solver.last = Some(solved);
     Ok(())
 }

@@ -1,40 +1,51 @@
 //! Solves one pair by a search.
-ghost use Rattle.std.specs.Prelude.{◌≡◌, ◌<◌, length, IfOk};
-ghost use Rattle.road_files.specs.Asked.{AreQuestionsOf, asked_of};
-ghost use Rattle.road_files.specs.declared.questions.Kind.TheVariants.{Pairs};
-ghost use Rattle.path_plain.specs.Searcher.{IsOfSameGraph};
-ghost use Rattle.question_solvers.specs.Solved.{IsSearchedAt};
+ghost use Rattle.std.specs.Prelude.{◌≡◌, ℕ, slice_index_or, IfOk, IfSome};
+ghost use Rattle.road_files.specs.Asked.{AreQuestionsOf, BetweenPair, IsVertexOf, Question, asked_of};
+ghost use Rattle.question_solvers.specs.Questions.{ArePairs, HasPlace};
+ghost use Rattle.question_solvers.specs.Tasks.{IsFoundIn, IsPlaceIn, IsSearcherIn, IsSolvedIn};
 
 use crate::searched::Searched;
 use crate::solved::Solved;
+use crate::task::PairTask;
 use answer_text::Answer;
 use path_algebra::PathAlgebra;
+use path_plain::Halt;
 use road_files::Questions;
-use road_graph::{InGraph, Memory, OutGraph};
-use route_tree::PairSearcher;
+use road_graph::{Memory, Vertex};
+use route_tree::{Nearby, PairSearcher};
 
-/// Solves the question at a place, a pair.
-pub(crate) fn solve_at<A: PathAlgebra>(
-    searcher: &mut PairSearcher<A>,
-    roads: (&OutGraph, &InGraph),
-    questions: &Questions,
-    place: usize,
-) -> Result<Searched<A::Value>, Memory>
-    requires graph { roads.0.now ≡ searcher.old.roads }
-    requires rows { roads.1.now ≡ roads.0.now }
-    requires within { AreQuestionsOf roads.0.now.vertices questions.now }
-    requires pairs { (asked_of questions.now).kind ≡ Pairs }
-    requires place { place < length (asked_of questions.now).questions }
-    ensures solved { IfOk result (IsSearchedAt (A.meaning searcher.old.algebra)
-        roads.entry.0.now (asked_of questions.now) place) }
-    ensures same { IsOfSameGraph searcher.old searcher.new }
+/// How many steps a search takes, at most, before factors are asked: most near pairs need fewer.
+const NEAR: u32 = 500;
+
+/// The pair at a place.
+pub(crate) fn pair_at(questions: &Questions, place: usize) -> (Vertex, Vertex)
+    requires pairs { ArePairs questions.now }
+    requires place { HasPlace questions.now place }
+    ensures asked { (default : Question) → slice_index_or (asked_of questions.now).questions place
+        default ≡ BetweenPair result.0 result.1 }
+    ensures within { (n : ℕ) → AreQuestionsOf n questions.now → IsVertexOf n result.0 ×
+        IsVertexOf n result.1 }
 {
     let Questions::Pairs(pairs) = questions else {
         unreachable!()
     };
-    let (graph, rows) = roads;
-    let (source, target) = pairs[place];
-    let found = searcher.solve(graph, rows, (source, target))?;
+    pairs[place]
+}
+
+/// Solves the pair at a place.
+pub(crate) fn solve_at<A: PathAlgebra, R>(
+    searcher: &mut PairSearcher<A>,
+    pairs: &PairTask<'_, A, R>,
+    place: usize,
+) -> Result<Searched<A::Value>, Memory>
+    requires searcher { IsSearcherIn pairs.now.over.now searcher.old }
+    requires place { IsPlaceIn pairs.now.over.now place }
+    ensures searcher { IsSearcherIn pairs.now.over.now searcher.new }
+    ensures solved { IfOk result (IsFoundIn A.meaning pairs.now.over.now place) }
+{
+    let over = pairs.over;
+    let (source, target) = pair_at(over.task.questions, place);
+    let found = searcher.solve(over.graph, pairs.rows, (source, target))?;
     Ok(Searched {
         place,
         solved: Solved::Answer(Answer::Pair {
@@ -43,4 +54,33 @@ pub(crate) fn solve_at<A: PathAlgebra>(
             found,
         }),
     })
+}
+
+/// The same by a search that may give up: none if it does.
+pub(crate) fn solve_near_at<A: PathAlgebra, R>(
+    searcher: &mut PairSearcher<A>,
+    pairs: &PairTask<'_, A, R>,
+    place: usize,
+) -> Result<Option<Solved<A::Value>>, Memory>
+    requires searcher { IsSearcherIn pairs.now.over.now searcher.old }
+    requires place { IsPlaceIn pairs.now.over.now place }
+    ensures searcher { IsSearcherIn pairs.now.over.now searcher.new }
+    ensures solved { IfOk result (λ near. IfSome near (IsSolvedIn A.meaning pairs.now.over.now
+        place)) }
+{
+    let over = pairs.over;
+    let (source, target) = pair_at(over.task.questions, place);
+    match searcher.solve_unless(
+        over.graph,
+        pairs.rows,
+        (source, target),
+        &mut Halt::After(NEAR),
+    )? {
+        Nearby::Decided(found) => Ok(Some(Solved::Answer(Answer::Pair {
+            source,
+            target,
+            found,
+        }))),
+        Nearby::Undecided => Ok(None),
+    }
 }

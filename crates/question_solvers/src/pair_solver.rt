@@ -1,18 +1,13 @@
 //! Searchers for pairs that stay from one group of pairs to the next.
-ghost use Rattle.std.specs.Prelude.{◌≡◌, ℕ, ◌≤◌, ◌<◌, length, map, slice_index_or, All, IfOk, IfSome, OnOk, Some};
+ghost use Rattle.std.specs.Prelude.{◌≡◌, ℕ, ◌≤◌, ◌<◌, length, map, slice_index_or, All, IfOk, OnOk, Some};
 ghost use Rattle.road_graph.specs.GraphData.{GraphData};
-ghost use Rattle.path_plain.specs.Searcher.{IsOfSameGraph};
-ghost use Rattle.road_files.specs.Asked.{AreQuestionsOf, asked_of};
-ghost use Rattle.road_files.specs.declared.questions.Kind.TheVariants.{Pairs};
-ghost use Rattle.question_solvers.specs.Solved.{IsSearchedAt};
 ghost use Rattle.question_solvers.specs.Solvers.{IsPoolOf};
+ghost use Rattle.question_solvers.specs.Tasks.{IsPoolIn};
 
-use crate::pair_search::solve_at;
 use crate::searched::{Searched, add};
 use crate::task::TaskOver;
 use path_algebra::PathAlgebra;
-use road_files::Questions;
-use road_graph::{InGraph, Memory, OutGraph, Vertex};
+use road_graph::{Memory, Vertex};
 use route_tree::PairSearcher;
 use std::alloc::Global;
 
@@ -22,27 +17,6 @@ pub(crate) struct PairSolver<A: PathAlgebra> {
     pub(crate) searcher: PairSearcher<A>,
     /// What it found last, until it is taken; none if there was not enough memory.
     pub(crate) found: Option<Searched<A::Value>>,
-}
-
-impl<A: PathAlgebra> PairSolver<A> {
-    /// Solves the question at a place, a pair.
-    pub(crate) fn solve(
-        &mut self,
-        roads: (&OutGraph, &InGraph),
-        questions: &Questions,
-        place: usize,
-    )
-        requires graph { roads.0.now ≡ self.old.searcher.roads }
-        requires rows { roads.1.now ≡ roads.0.now }
-        requires within { AreQuestionsOf roads.0.now.vertices questions.now }
-        requires pairs { (asked_of questions.now).kind ≡ Pairs }
-        requires place { place < length (asked_of questions.now).questions }
-        ensures found { IfSome self.new.found (IsSearchedAt (A.meaning self.old.searcher.algebra)
-            roads.entry.0.now (asked_of questions.now) place) }
-        ensures same { IsOfSameGraph self.old.searcher self.new.searcher }
-    {
-        self.found = solve_at(&mut self.searcher, roads, questions, place).ok();
-    }
 }
 
 /// Gives each of a pool another algebra. Their next searches begin anew.
@@ -55,18 +29,19 @@ pub(crate) fn set_algebra<A: PathAlgebra>(pool: &mut Vec<PairSolver<A>>, algebra
     }
 }
 
-/// Adds to a pool until it has as many as these. The only error is want of memory, after which it has some of them.
+/// Adds to a pool until it has as many as these. The only error is want of memory, after which it
+/// has some of them.
 pub(crate) fn grow<A: PathAlgebra, R>(
     over: &TaskOver<'_, A, R>,
     pool: &mut Vec<PairSolver<A>>,
     count: usize,
 ) -> Result<(), Memory>
-    requires pool { IsPoolOf over.now.algebra over.now.graph.now pool.old.items }
-    ensures pool { IsPoolOf over.now.algebra over.now.graph.now pool.new.items }
+    requires pool { IsPoolIn over.now pool.old.items }
+    ensures pool { IsPoolIn over.now pool.new.items }
     ensures long { OnOk result (count ≤ length pool.new.items) }
 {
     for _k in pool.len()..count {
-        let searcher = PairSearcher::new(over.alloc, over.algebra, over.graph)?;
+        let searcher = PairSearcher::new(over.task.alloc, over.task.algebra, over.graph)?;
         let solver = PairSolver {
             searcher,
             found: None,
@@ -94,7 +69,8 @@ pub(crate) fn find_from<A: PathAlgebra>(pool: &[PairSolver<A>], source: Vertex) 
     0
 }
 
-/// Takes what each of a group found, in order. The only error is want of memory, also of one of them before.
+/// Takes what each of a group found, in order. The only error is want of memory, also of one of
+/// them before.
 pub(crate) fn gather<A: PathAlgebra>(
     alloc: Global,
     group: &mut [PairSolver<A>],

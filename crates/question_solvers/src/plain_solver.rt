@@ -9,9 +9,10 @@ use path_algebra::PathAlgebra;
 use road_graph::{InGraph, OutGraph};
 use std::alloc::Global;
 
-/// Solves each question by one search on one thread, several side by side. A pair's search stops at its target, and goes on from there
-/// for the next pair of its source; its lists stay for other pairs, also of those that are solved side by side. A question that was solved
-/// just before needs no new search. No worker is started and no gate is asked.
+/// Solves each question by one search on one thread, several side by side. A pair's search stops at
+/// its target, and goes on from there for the next pair of its source; its lists stay for other
+/// pairs, also of those that are solved side by side. A question that was solved just before needs
+/// no new search. No worker is started and no gate is asked.
 #[derive(Drop)]
 pub struct PlainSolver<A: PathAlgebra> {
     pub(crate) graph: OutGraph,

@@ -1,6 +1,7 @@
 //! What was found ahead of its turn, and which of several solves a question.
 ghost use Rattle.std.specs.Prelude.{◌≡◌, ◌<◌, [], ◌∷◌, ◌++◌, drop, length, slice_index_or, All, HoldsAt, IfSome, IsTrue, OnErr, OnOk};
 ghost use Rattle.road_files.specs.Asked.{Question, asked_of};
+ghost use Rattle.question_solvers.specs.Questions.{HasPlace};
 
 use crate::solved::Solved;
 use road_files::{Questions, are_same};
@@ -41,8 +42,8 @@ pub(crate) fn put_first<V: Copy>(
 
 /// Whether two questions are the same.
 fn is_same(questions: &Questions, i: usize, j: usize) -> bool
-    requires first { i < length (asked_of questions.now).questions }
-    requires second { j < length (asked_of questions.now).questions }
+    requires first { HasPlace questions.now i }
+    requires second { HasPlace questions.now j }
     ensures { IsTrue result → (default : Question) →
         slice_index_or (asked_of questions.now).questions i default ≡
         slice_index_or (asked_of questions.now).questions j default }
@@ -60,8 +61,8 @@ pub(crate) fn find_same<V: Copy>(
     questions: &Questions,
     i: usize,
 ) -> Option<usize>
-    requires place { i < length (asked_of questions.now).questions }
-    requires places { All (λ s. s.place < length (asked_of questions.now).questions) searched.now }
+    requires place { HasPlace questions.now i }
+    requires places { All (λ s. HasPlace questions.now s.place) searched.now }
     ensures inside { IfSome result (λ k. k < length searched.now) }
     ensures same { IfSome result
         (HoldsAt (λ s. (default : Question) →

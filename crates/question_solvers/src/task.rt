@@ -1,10 +1,12 @@
 //! Questions that are to be solved without diffusions, and by what.
-ghost use Rattle.std.specs.Prelude.{◌≤◌, length};
+ghost use Rattle.std.specs.Prelude.{◌≡◌, ◌≤◌, length};
 ghost use Rattle.road_files.specs.Asked.{AskWithin, AskWithin-prop, asked_of};
+ghost use Rattle.question_solvers.specs.Questions.{ArePairs};
 
+use factor_routes::RoadFactors;
 use path_algebra::PathAlgebra;
 use road_files::Questions;
-use road_graph::OutGraph;
+use road_graph::{InGraph, OutGraph};
 use std::alloc::Global;
 
 /// Questions, the algebra under which they are solved, and by what.
@@ -21,16 +23,30 @@ pub struct Task<'b, A: PathAlgebra, R> {
     ghost some: { 1 ≤ width },
 }
 
-/// A task over the graph of a solver.
+/// A task over a graph.
 #[derive(Drop)]
 pub(crate) struct TaskOver<'b, A: PathAlgebra, R> {
-    pub(crate) rt: &'b R,
-    pub(crate) alloc: Global,
-    pub(crate) algebra: A,
+    pub(crate) task: &'b Task<'b, A, R>,
     pub(crate) graph: &'b OutGraph,
-    pub(crate) questions: &'b Questions,
-    pub(crate) width: usize,
-    ghost some: { 1 ≤ width },
-    ghost few: { length (asked_of questions.now).questions ≤ 1048576 },
-    ghost within: { AskWithin graph.now.vertices questions.now } by { AskWithin-prop graph.now.vertices questions.now },
+    ghost few: { length (asked_of task.now.questions.now).questions ≤ 1048576 },
+    ghost within: { AskWithin graph.now.vertices task.now.questions.now } by { AskWithin-prop graph.now.vertices task.now.questions.now },
+}
+
+/// A task of pairs over a graph that has its arcs by tail and by head.
+#[derive(Drop)]
+pub(crate) struct PairTask<'b, A: PathAlgebra, R> {
+    pub(crate) over: &'b TaskOver<'b, A, R>,
+    pub(crate) rows: &'b InGraph,
+    ghost same: { rows.now ≡ over.now.graph.now },
+    ghost pairs: { ArePairs over.now.task.now.questions.now },
+}
+
+/// A task over a graph that has its arcs by tail and by head, and is factored.
+#[derive(Drop)]
+pub(crate) struct FactoredTask<'b, A: PathAlgebra, R> {
+    pub(crate) over: &'b TaskOver<'b, A, R>,
+    pub(crate) rows: &'b InGraph,
+    pub(crate) factors: &'b RoadFactors,
+    ghost same: { rows.now ≡ over.now.graph.now },
+    ghost own: { rows.now ≡ factors.now.roads },
 }

@@ -1,15 +1,18 @@
-use Rattle.std.proofs.Common.{[], ◌∷◌, ◌++◌, ◌∙◌}
+use Rattle.std.proofs.Common.{rules, [], ◌∷◌, ◌++◌, ◌∙◌}
 use Rattle.std.proofs.lemmas.List.Elements.{All-push, All-same}
 use Rattle.road_files.specs.Asked.{asked_of}
 use Rattle.question_solvers.specs.Solved.{IsSearched}
+use Rattle.question_solvers.proofs.Searches.{at_own}
 use Rattle.question_solvers.proofs.askers.ask_run.Goals as goal
 
 pub loop-place-preserved : goal.loop-place-preserved
 loop-place-preserved g c =
-    let P = IsSearched (g.A.PathAlgebra.meaning c.args.algebra) c.args.roads.0.now (asked_of c.args.questions.now) in
+    let over = c.args.factored.now.over.now in
+    let P = IsSearched (g.A.PathAlgebra.meaning over.task.now.algebra) over.graph.now (asked_of over.task.now.questions.now) in
     let next = c.in_ok-next.next in
     let i = c.loop-place.invariant in
+    let own = at_own _ _ _ c.loop-place.place next (search rules) c.in_ok-next.ensures.solved in
     record {
       same = c.ask_at.ensures.same ∙ i.same;
-      each = All-same P c.add.new.searched.items (c.loop-place.found.items ++ next ∷ []) c.in_ok-add.ensures.added (All-push P c.loop-place.found.items next i.each c.in_ok-next.ensures.own);
+      each = All-same P c.add.new.searched.items (c.loop-place.found.items ++ next ∷ []) c.in_ok-add.ensures.added (All-push P c.loop-place.found.items next i.each own);
     }

@@ -1,18 +1,18 @@
-use Rattle.std.proofs.Common.{refl}
-use Rattle.question_solvers.proofs.QuestionKinds.{pair_answered, pair_within}
+use Rattle.std.proofs.Common.{refl, subst}
+use Rattle.route_tree.specs.Found.{IsPairFound}
+use Rattle.question_solvers.proofs.QuestionKinds.{found_answers}
 use Rattle.question_solvers.proofs.pair_search.solve_at.Goals as goal
 
 pub solve-requires-clause-source : goal.solve-requires-clause-source
-solve-requires-clause-source g c κs within =
-    (pair_within c.args.roads.0.now.vertices c.args.questions.now c.args.place c.in-Pairs.pairs c.index.result.now c.requires.within.within c.in-Pairs.is c.requires.place c.index.ensures).0
+solve-requires-clause-source g c κs within = let over = c.args.pairs.now.over.now in
+    (c.pair_at-source.ensures.within over.graph.now.vertices (record { few = over.few; within = over.within })).0
 
 pub solve-requires-clause-target : goal.solve-requires-clause-target
-solve-requires-clause-target g c κs within =
-    (pair_within c.args.roads.0.now.vertices c.args.questions.now c.args.place c.in-Pairs.pairs c.index.result.now c.requires.within.within c.in-Pairs.is c.requires.place c.index.ensures).1
+solve-requires-clause-target g c κs within = let over = c.args.pairs.now.over.now in
+    (c.pair_at-source.ensures.within over.graph.now.vertices (record { few = over.few; within = over.within })).1
 
 pub returns-clause-solved : goal.returns-clause-solved
-returns-clause-solved g c = record {
-  place = refl;
-  solved = pair_answered (g.A.PathAlgebra.meaning c.args.searcher.now.algebra) c.args.roads.0.now c.args.questions.now c.args.place c.in-Pairs.pairs c.index.result.now
-      c.in_ok-found.found c.in-Pairs.is c.requires.place c.index.ensures c.in_ok-found.ensures.found;
-}
+returns-clause-solved g c =
+    let pair = c.pair_at-source.result in
+    let right = subst (λ a. IsPairFound (g.A.PathAlgebra.meaning a) c.args.pairs.now.over.now.graph.now pair.0 pair.1 c.in_ok-found.found) c.requires.searcher.by c.in_ok-found.ensures.found in
+    record { place = refl; solved = λ d. found_answers _ _ _ _ c.in_ok-found.found _ (c.pair_at-source.ensures.asked d) right }

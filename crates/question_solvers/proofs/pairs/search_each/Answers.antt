@@ -1,7 +1,6 @@
-use Rattle.question_solvers.specs.Solvers.{IsSearcherOf}
+use Rattle.question_solvers.specs.Tasks.{IsSearcherIn}
 use Rattle.question_solvers.proofs.Pools.{stored_all}
 use Rattle.question_solvers.proofs.pairs.search_each.Goals as goal
 
 pub returns-clause-pool : goal.returns-clause-pool
-returns-clause-pool g c =
-    stored_all (λ s. IsSearcherOf c.args.over.now.algebra c.args.over.now.graph.now s.searcher) _ c.grow.new.pool.items c.search_group.new.pool c.grow.ensures.pool c.search_group.ensures.pool
+returns-clause-pool g c = stored_all (λ s. IsSearcherIn c.args.pairs.now.over.now s.searcher) _ c.grow.new.pool.items c.search_group.new.pool c.grow.ensures.pool c.search_group.ensures.pool

@@ -7,15 +7,15 @@ use Rattle.question_solvers.proofs.pairs.search_pairs.Goals as goal
 
 pub returns-in-Ok-clause-found : goal.returns-in-Ok-clause-found
 returns-in-Ok-clause-found g c =
-    let asked = asked_of c.args.over.now.questions.now in
-    found_from (g.A.PathAlgebra.meaning c.args.over.now.algebra) c.args.over.now.graph.now asked c.args.i c.in_ok-places.ensures.first.0 c.as_slice.result.now c.in-Ok.group.items
+    let asked = asked_of c.args.pairs.now.over.now.task.now.questions.now in
+    found_from _ _ asked c.args.i c.in_ok-places.ensures.first.0 c.as_slice.result.now c.in-Ok.group.items
     (c.as_slice.ensures.value ∙ c.in_ok-places.ensures.first.1)
     (subst (All (λ k. k < length asked.questions)) (sym c.as_slice.ensures.value) c.in_ok-places.ensures.inside) c.in-Ok.ensures.found
 
 pub returns-clause-found : goal.returns-clause-found
 returns-clause-found g c =
-    let asked = asked_of c.args.over.now.questions.now in
+    let asked = asked_of c.args.pairs.now.over.now.task.now.questions.now in
     let one = ap (take 1) (c.deref.ensures.value ∙ c.in_ok-places.ensures.first.1) in
     let inside = All-cons (λ k. k < length asked.questions) c.args.i [] c.requires.place (All-nil (λ k. k < length asked.questions)) in
-    found_if_ok (g.A.PathAlgebra.meaning c.args.over.now.algebra) c.args.over.now.graph.now asked c.args.i [] _ c.search_each-2.result one
+    found_if_ok _ _ asked c.args.i [] _ c.search_each-2.result one
     (subst (All (λ k. k < length asked.questions)) (sym one) inside) c.search_each-2.ensures.found

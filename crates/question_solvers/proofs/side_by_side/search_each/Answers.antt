@@ -1,14 +1,13 @@
 use Rattle.std.proofs.Common.{◌∙◌, ap}
 use Rattle.std.specs.Prelude.{IfOk}
 use Rattle.rayon.proofs.ToStd.{slice-AllZip}
-use Rattle.road_files.specs.Asked.{asked_of}
-use Rattle.question_solvers.specs.Solved.{IsSearchedAt}
+use Rattle.question_solvers.specs.Tasks.{IsFoundIn}
 use Rattle.question_solvers.proofs.Searches.{gathered}
 use Rattle.question_solvers.proofs.side_by_side.search_each.Goals as goal
 
 pub returns : goal.returns
 returns g c =
-    let at = IsSearchedAt (g.A.PathAlgebra.meaning c.args.over.now.algebra) c.args.over.now.graph.now (asked_of c.args.over.now.questions.now) in
+    let at = IsFoundIn g.A.PathAlgebra.meaning c.args.over.now in
     let done = c.in_ok-searched.ensures in
     let chain = done.1 in
     let slice = ap (λ it. it.base.slice.now) c.map.ensures.base ∙ ap (λ it. it.slice.now) c.with_min_len.ensures.base ∙ c.par_iter.ensures in

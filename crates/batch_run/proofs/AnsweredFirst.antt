@@ -1,5 +1,5 @@
 -- A batch on its way: the first questions were answered, and their answers written.
-use Rattle.std.proofs.Common.{◌≡◌, ◌≢◌, ℕ, ◌+◌, ◌<◌, ◌≤◌, List, [], ◌∷◌, ◌++◌, length, take, get_or, Result, Ok, Err, Bool, true, false, inl, inr, refl, sym, ap, ◌∙◌, subst, append_assoc, append-nil, arith}
+use Rattle.std.proofs.Common.{◌≡◌, ◌≢◌, ℕ, ◌+◌, ◌<◌, ◌≤◌, List, [], ◌∷◌, ◌++◌, length, take, get_or, Result, Ok, Err, Bool, true, false, inl, inr, ◌⊎◌, refl, sym, ap, ◌∙◌, subst, append_assoc, append-nil, arith}
 use Rattle.std.proofs.lemmas.List.{take_all, take_more}
 use Rattle.std.specs.Io.KnownBytes.{Appends}
 use Rattle.road_graph.specs.GraphData.{GraphData}
@@ -27,6 +27,15 @@ pub record AnsweredFirst {V X : Type 0} (A : Algebra V) (g : GraphData) (asked :
   pub answers : List AnswerData
   pub right : AreAnswers A g (take i asked.questions) answers
   pub left : WrotePrefix old new (begun_text A asked answers) []
+
+-- there are no questions, or one is first
+none_or_some : (qs : List Question) → (qs ≡ []) ⊎ (0 < length qs)
+none_or_some [] = inl refl
+none_or_some (q ∷ qs) = inr (omega arith)
+
+-- where one is at some place, there are some
+none_first : (i : ℕ) (qs : List Question) → i < length qs → qs ≡ [] → ⊥
+none_first i qs lt none = let bad : i < 0 = subst (λ (x : List Question). i < length x) none lt in omega (arith, bad)
 
 blocks-push : (ts : List AnswerData) (t : AnswerData) → blocks_text (ts ++ t ∷ []) ≡ blocks_text ts ++ answer_text t
 blocks-push ts t = blocks_split ts (t ∷ []) ∙ ap (λ y. blocks_text ts ++ y) (append-nil (answer_text t))
@@ -66,9 +75,10 @@ module _ {V : Type 0} (A : Algebra V) (g : GraphData) (asked : Asked) where
   stop i old new p = record { count = i; answers = p.answers; right = p.right; prefix = p.left.prefix; rest = []; text_is = p.left.text_is; bytes = p.left.bytes }
 
   -- what was written between two answers is whole
-  stop_whole : (i : ℕ) {X : Type 0} (old new : Output X) → AnsweredFirst A g asked i old new → WroteWhole A g asked old new
-  stop_whole i old new p = record {
+  stop_whole : (i : ℕ) {X : Type 0} (old new : Output X) → (asked.questions ≡ []) ⊎ (i < length asked.questions) → AnsweredFirst A g asked i old new → WroteWhole A g asked old new
+  stop_whole i old new fewer p = record {
     count = i;
+    fewer = fewer;
     answers = p.answers;
     right = p.right;
     bytes = left_appends old new (begun_text A asked p.answers) p.left;
@@ -112,13 +122,15 @@ module _ {V : Type 0} (A : Algebra V) (g : GraphData) (asked : Asked) where
       kind = kind;
       failed = λ write. let one = (h.0 write).2.failed in omega (arith, one, p.left.sound);
       unfailed = λ other. ap (λ (o : Output X). o.failures) (h.1 other) ∙ p.left.sound;
-      whole = λ other. subst (WroteWhole A g asked old) (sym (h.1 other)) (stop_whole i old mid p);
+      whole = λ other. subst (WroteWhole A g asked old) (sym (h.1 other)) (stop_whole i old mid (inr lt) p);
+      some = λ _ _ none. absurd (none_first i asked.questions lt none);
     }
 
   module _ (MayStop : Cause → Type 0) {X : Type 0} (old new : Output X) where
     -- the header was not written
     pub stopped_first : (cause : Cause) → cause ≡ causes.Write → MayStop cause → FailedAfterPrefix old new (begun_text A asked []) → AnsweredAll A g asked MayStop old new (Err cause)
     stopped_first cause write kind h = record {
+      some = λ other. absurd (other write);
       text = record { count = 0; answers = []; right = tt; prefix = h.prefix; rest = h.rest; text_is = h.text_is; bytes = h.bytes };
       sound = tt;
       kind = kind;
@@ -135,7 +147,8 @@ module _ {V : Type 0} (A : Algebra V) (g : GraphData) (asked : Asked) where
       kind = kind;
       failed = λ write. let bad : causes.Unsolved group.Memory ≡ causes.Write = sym memory ∙ write in cc;
       unfailed = λ _. p.left.sound;
-      whole = λ _. stop_whole 0 old new p;
+      whole = λ _. stop_whole 0 old new (none_or_some asked.questions) p;
+      some = λ _ other. absurd (other memory);
     }
 
     -- no failure is taken back
@@ -160,9 +173,10 @@ module _ {V : Type 0} (A : Algebra V) (g : GraphData) (asked : Asked) where
   -- all questions are answered
   pub all_answered : (MayStop : Cause → Type 0) (i : ℕ) {X : Type 0} (old new : Output X) → length asked.questions ≤ i → AnsweredFirst A g asked i old new →
       AnsweredAll A g asked MayStop old new (Ok tt)
-  all_answered MayStop i old new le p = record { text = whole_text i old new le p; sound = p.left.sound; kind = tt; failed = tt; unfailed = tt; whole = tt }
+  all_answered MayStop i old new le p = record { text = whole_text i old new le p; sound = p.left.sound; kind = tt; failed = tt; unfailed = tt; whole = tt; some = tt }
 
--- a question is not solved: memory or a thread was refused; or, if workers answer, one of them stopped
+-- a question is not solved: memory or a thread was refused; or, if workers answer, one of them
+-- stopped
 pub group_may_stop : (stops : GroupFault → Type 0) (plain : Bool) (f : GroupFault) → (plain ≡ true → f ≡ group.Memory) → stops f → MayStop plain stops (causes.Unsolved f)
 group_may_stop stops true f only stop = λ other. absurd (other (only refl))
 group_may_stop stops false f only stop = λ other. (refl, stop)

@@ -22,6 +22,12 @@ write_by_number Write e = refl
 pub other_by_number : (cause : Cause) → number_of cause ≢ 42 → cause ≢ Write
 other_by_number cause other write = other (ap number_of write)
 
+-- 40 and 41 report no want of memory
+pub no_memory_by_number : (cause : Cause) → (number_of cause ≡ 40) ⊎ (number_of cause ≡ 41) → cause ≢ Unsolved Memory
+no_memory_by_number cause why memory =
+    let three : number_of cause ≡ 3 = ap number_of memory in
+    elim why [ inl e ↦ omega (arith, e, three) | inr e ↦ omega (arith, e, three) ]
+
 -- no cause is reported as a fault of a setting
 pub no_setting : (cause : Cause) → number_of cause ≢ 43
 no_setting (Unsolved Memory) e = omega (arith, e)

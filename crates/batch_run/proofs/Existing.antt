@@ -1,4 +1,5 @@
--- Every question has a right answer: best values, their tree, and the line that both give each vertex.
+-- Every question has a right answer: best values, their tree, and the line that both give each
+-- vertex.
 use Rattle.std.proofs.Common.{◌≡◌, ℕ, List, [], ◌∷◌, refl, sym, ◌∙◌, All, Option, Some, None}
 use Rattle.std.proofs.lemmas.List.Elements.{All-nil, All-cons, All-head, All-tail}
 use Rattle.road_graph.specs.GraphData.{GraphData, IsGraph, HasVertex}

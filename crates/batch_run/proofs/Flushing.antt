@@ -13,7 +13,8 @@ use Rattle.answer_text.specs.IsAnswer.{AreAnswers}
 use Rattle.answer_text.specs.AnswerText.{blocks_text, header_text}
 use Rattle.answer_text.proofs.OneAnswer.{answers_count}
 use Rattle.batch_run.specs.declared.faults.Cause.{Cause}
-use Rattle.batch_run.specs.declared.faults.Cause.TheVariants.{Write}
+use Rattle.batch_run.specs.declared.faults.Cause.TheVariants.{Unsolved, Write}
+use Rattle.worker_fleet.specs.declared.group.GroupFault.TheVariants.{Memory}
 use Rattle.question_solvers.specs.declared.factor_solver.Factoring.{Factoring}
 use Rattle.batch_run.specs.declared.settings.Settings.{Settings}
 use Rattle.batch_run.specs.declared.watcher.Progress.{Progress}
@@ -32,7 +33,7 @@ module _ {V : Type 0} (A : Algebra V) (g : GraphData) (asked : Asked) where
     all_kept w = record { answers = w.answers; right = w.right; bytes = Appends-kept old.written mid.written new.written _ w.bytes keeps }
 
     whole_kept : WroteWhole A g asked old mid → WroteWhole A g asked old new
-    whole_kept w = record { count = w.count; answers = w.answers; right = w.right; bytes = Appends-kept old.written mid.written new.written _ w.bytes keeps }
+    whole_kept w = record { count = w.count; fewer = w.fewer; answers = w.answers; right = w.right; bytes = Appends-kept old.written mid.written new.written _ w.bytes keeps }
 
     first_kept : WroteFirst A g asked old mid → WroteFirst A g asked old new
     first_kept w = record { count = w.count; answers = w.answers; right = w.right; prefix = w.prefix; rest = w.rest; text_is = w.text_is; bytes = Appends-kept old.written mid.written new.written w.prefix w.bytes keeps }
@@ -89,6 +90,13 @@ module _ {V : Type 0} (A : Algebra V) (g : GraphData) (asked : Asked) (MayStop :
   pub whole_flushed : Keeps mid.written new.written → IfErr r (λ cause. cause ≢ Write → WroteWhole A g asked old new)
   whole_flushed keeps = IfErr-weaker r _ _ (λ cause why. elim why [
     | inl e ↦ λ other. whole_kept A g asked old mid new keeps (IfErr-at_err _ e was.whole other)
+    | inr w ↦ λ other. absurd (other w.0)
+  ]) first
+
+  -- and there were questions, if memory was not refused
+  pub some_flushed : IfErr r (λ cause. cause ≢ Write → cause ≢ Unsolved Memory → asked.questions ≢ [])
+  some_flushed = IfErr-weaker r _ _ (λ cause why. elim why [
+    | inl e ↦ IfErr-at_err _ e was.some
     | inr w ↦ λ other. absurd (other w.0)
   ]) first
 

@@ -7,13 +7,15 @@ mod Existing
 pub mod Prefixes
 mod OfInputs
 pub mod Stopped
-mod OneShard
+pub mod Suiting
+pub mod OneShard
 mod Together
 mod SourcesToCome
 mod NextDiffusions
 mod Moved
 mod Reporting
 mod WrittenReports
+mod Watching
 mod Telling
 mod Flushing
 mod FileFaults

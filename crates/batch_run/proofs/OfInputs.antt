@@ -1,43 +1,40 @@
 -- What a run promises of inputs that were read, from what answering them promises.
-use Rattle.std.proofs.Common.{◌≡◌, ◌≢◌, ◌<◌, ◌≤◌, ◌+◌, inl, inr, [], ℕ, Ok, Err, Bool, refl, ap, arith}
+use Rattle.std.proofs.Common.{◌≡◌, ◌≢◌, ◌<◌, ◌≤◌, ◌+◌, inl, inr, [], ℕ, Ok, Err, Bool, refl, arith}
 use Rattle.road_graph.specs.GraphData.{GraphData}
 use Rattle.road_files.specs.Asked.{Asked}
 use Rattle.path_algebra.specs.Algebra.{Algebra}
 use Rattle.worker_fleet.specs.Stops.{Says}
 use Rattle.batch_run.specs.declared.faults.Cause.{Cause}
-use Rattle.batch_run.specs.declared.faults.Cause.TheVariants.{Write}
+use Rattle.batch_run.specs.declared.faults.Cause.TheVariants.{Unsolved, Write}
+use Rattle.worker_fleet.specs.declared.group.GroupFault.TheVariants.{Memory}
 use Rattle.batch_run.specs.declared.faults.File.{File}
-use Rattle.batch_run.specs.declared.faults.File.TheVariants.{NoFile}
-use Rattle.batch_run.specs.declared.faults.RunFault.{RunFault}
 use Rattle.batch_run.specs.declared.settings.Settings.{Settings}
 use Rattle.batch_run.specs.Answered.{WroteAnswers, WroteAnswersPrefix, WroteWhole}
 use Rattle.batch_run.specs.Causes.{MayStop, fault_of, number_of}
 use Rattle.batch_run.specs.Choice.{without_diffusions}
-use Rattle.batch_run.specs.InRange.{AreInRange}
-use Rattle.batch_run.specs.Ran.{BegunWhole, IsPassedOn}
+use Rattle.batch_run.specs.Ran.{BegunUnfinished, BegunWhole, IsPassedOn}
 use Rattle.text_lines.specs.Streams.{Output}
 use Rattle.batch_run.specs.Runs.{Ran}
 use Rattle.batch_run.specs.Stopping.{HasEnoughTurns}
-use Rattle.batch_run.proofs.CauseCases.{gated_by_number, no_setting, numbered, other_by_number, stalled_by_number, write_by_number}
+use Rattle.batch_run.proofs.CauseCases.{gated_by_number, no_memory_by_number, no_setting, numbered, other_by_number, stalled_by_number, write_by_number}
 
 -- what a batch that stopped for a cause leaves in its output
 pub record Leaves {V W : Type 0} (A : Algebra V) (g : GraphData) (asked : Asked) (cause : Cause) (out out_after : Output W) : Type 0 where
   pub text : WroteAnswersPrefix A g asked out out_after
   pub failed : cause ≡ Write → out.failures < out_after.failures
   pub whole : cause ≢ Write → WroteWhole A g asked out out_after
+  pub some : cause ≢ Write → cause ≢ Unsolved Memory → asked.questions ≢ []
   pub once : cause ≢ Write → out_after.failures ≤ out.failures + 1
   pub flushed : cause ≢ Write → IsPassedOn out_after.held out.failures out_after.failures
 
 module _ {V W : Type 0} (A : Algebra V) (how : Settings) (answers : ℕ → ℕ → Bool → Type 0) (IsRead : GraphData → Asked → Type 0) (inputs : File → Type 0) (out out_after : Output W)
-    (in_range : AreInRange how) (g : GraphData) (asked : Asked) (read : IsRead g asked) where
+    (g : GraphData) (asked : Asked) (read : IsRead g asked) where
   -- all was answered
   pub ran_whole : WroteAnswers A g asked out out_after → out_after.held ≡ [] → out_after.failures ≡ out.failures → Ran A how answers IsRead inputs out out_after (Ok tt)
   ran_whole wrote passed_on sound = record {
     done = record { graph = g; asked = asked; read = read; wrote = wrote };
     passed_on = passed_on;
     sound = sound;
-    refused = λ no. absurd (no in_range);
-    settings = λ e. cc;
     write = tt;
     kinds = tt;
     placed = tt;
@@ -59,14 +56,22 @@ module _ {V W : Type 0} (A : Algebra V) (how : Settings) (answers : ℕ → ℕ 
     begun_whole : number_of cause ≢ 42 → BegunWhole A IsRead out out_after
     begun_whole other = record { graph = g; asked = asked; read = read; wrote = leaves.whole (other_by_number cause other) }
 
+    begun_unfinished : (other : number_of cause ≢ 42) → asked.questions ≢ [] → BegunUnfinished A IsRead out out_after
+    unfolding begun_whole
+    begun_unfinished other some = record {
+      begun = begun_whole other;
+      fewer = elim (leaves.whole (other_by_number cause other)).fewer [
+        | inl none ↦ absurd (some none)
+        | inr fewer ↦ fewer
+      ];
+    }
+
     -- it stopped
     pub ran_stopped : Ran A how answers IsRead inputs out out_after (Err (fault_of cause))
     ran_stopped = record {
       done = tt;
       passed_on = tt;
       sound = tt;
-      refused = λ no. absurd (no in_range);
-      settings = λ e. let same : fault_of cause ≡ record { number = 43; file = NoFile; line = 0 } = cc in absurd (no_setting cause (ap (λ (f : RunFault). f.number) same));
       write = λ e. leaves.failed (write_by_number cause e);
       kinds = inr (refl, refl, numbered cause);
       placed = λ _. refl;
@@ -85,5 +90,6 @@ module _ {V W : Type 0} (A : Algebra V) (how : Settings) (answers : ℕ → ℕ 
             | inl e ↦ λ z. omega (arith, e, z)
             | inr e ↦ λ z. omega (arith, e, z)
           ] in
-          (begun_whole other, leaves.flushed (other_by_number cause other));
+          let some = leaves.some (other_by_number cause other) (no_memory_by_number cause why) in
+          (begun_unfinished other some, leaves.flushed (other_by_number cause other));
     }

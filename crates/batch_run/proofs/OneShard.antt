@@ -1,4 +1,5 @@
--- With one shard, best first, a batch whose limit of turns is enough for its graph does not reach it.
+-- With one shard, best first, a batch whose limit of turns is enough for its graph does not reach
+-- it.
 use Rattle.std.proofs.Common.{◌≡◌, ◌≢◌, ℕ, ◌+◌, ◌*◌, ◌<◌, ◌≤◌, ◌∙◌, Bool, true, cond, Result, Ok, Err, length, refl, sym, ap, subst, inl, inr, arith}
 use Rattle.std.specs.Prelude.{IfErr}
 use Rattle.std.proofs.lemmas.Bool.{cases_lt}

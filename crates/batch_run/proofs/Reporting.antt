@@ -1,12 +1,11 @@
 -- What was reported so far, and one report more.
-use Rattle.std.proofs.Common.{◌≡◌, ℕ, zero, suc, ◌+◌, ◌<◌, ◌≤◌, Bool, true, List, [], ◌∷◌, ◌++◌, length, map, take, get_or, Option, None, Some, Result, Ok, Err, refl, sym, ap, ◌∙◌, subst, append_assoc, append-nil, arith}
+use Rattle.std.proofs.Common.{◌≡◌, ℕ, zero, suc, ◌+◌, ◌<◌, ◌≤◌, Bool, true, List, [], ◌∷◌, ◌++◌, length, map, take, get_or, Option, None, Some, Result, Err, refl, sym, ap, ◌∙◌, subst, append_assoc, append-nil, arith}
 use Rattle.std.specs.Prelude.{IfNone, IfSome}
 use Rattle.std.specs.List.{AllZip, flat_map}
 use Rattle.std.proofs.lemmas.List.{take_all, take_more, map-append}
 use Rattle.std.proofs.lemmas.List.Concat.{flat_map-cons}
-use Rattle.text_lines.specs.Streams.{Output}
 use Rattle.road_graph.specs.GraphData.{GraphData}
-use Rattle.road_files.specs.Asked.{Question, Asked}
+use Rattle.road_files.specs.Asked.{Question}
 use Rattle.path_algebra.specs.Algebra.{Algebra}
 use Rattle.path_algebra.specs.Walks.{AreBest}
 use Rattle.shard_store.specs.Plans.{PlanData}
@@ -14,17 +13,13 @@ use Rattle.shard_store.specs.Setup.{SetupData, setup_of}
 use Rattle.station.specs.declared.gathering.Gathered.{Gathered}
 use Rattle.station.specs.Gather.{IsGathered}
 use Rattle.batch_run.specs.declared.solve.diffusion.EndedDiffusion.{EndedDiffusion}
-use Rattle.batch_run.specs.declared.faults.Cause.{Cause}
 use Rattle.batch_run.specs.declared.settings.Settings.{Settings}
 use Rattle.batch_run.specs.declared.watcher.Progress.{Progress}
 use Rattle.batch_run.specs.declared.watcher.Progress.TheVariants as report
 use Rattle.question_solvers.specs.declared.factor_solver.Factoring.{Factoring}
 use Rattle.batch_run.specs.Cut.{IsCut, order_of}
 use Rattle.batch_run.specs.Diffusions.{IsEnded}
-use Rattle.batch_run.specs.Reports.{IsAccount, Due, Beginning, Attempt, Account, Answering, IsReportOf, IsTold, FollowsReports, Reported, ReportedAllOrPrefix, ReportedPrefix, ReportedWhole, ReportedWritten, Watched, accounts_due, question_due, questions_due, start_due, batch_due, count_diffusions, diffused}
-use Rattle.batch_run.specs.Choice.{without_diffusions}
-use Rattle.batch_run.specs.Causes.{fault_of}
-use Rattle.batch_run.proofs.CauseCases.{no_setting}
+use Rattle.batch_run.specs.Reports.{IsAccount, Due, Beginning, Attempt, Account, Answering, IsReportOf, FollowsReports, Reported, ReportedAllOrPrefix, ReportedPrefix, accounts_due, question_due, questions_due, start_due, batch_due, count_diffusions, diffused}
 
 -- the counts of a diffusion that was run to its end are those that were gathered
 module _ {S V : Type 0} (meaning : S → Algebra V) where
@@ -222,17 +217,3 @@ none_diffused (q ∷ qs) = flat_map-cons (diffused true) q qs ∙ none_diffused 
 
 pub none_counted : (qs : List Question) → 0 ≡ count_diffusions true qs
 none_counted qs = sym (ap (λ (l : List ℕ). length l) (none_diffused qs))
-
--- what a run reports of inputs that were read, from what answering them reports
-module _ {V S W : Type 0} (A : Algebra V) (how : Settings) (IsRead : GraphData → Asked → Type 0) (may_become : S → Progress → S → Type 0) (old new : S) (out out_after : Output W) (g : GraphData)
-    (asked : Asked) (read : IsRead g asked) where
-  pub watched_all : ReportedWhole A how g (without_diffusions how) (IsTold how.factors) asked.questions may_become old new → Watched A how IsRead may_become old new out out_after (Ok tt)
-  watched_all reported = record { all = record { graph = g; asked = asked; read = read; reported = reported }; first = tt; nothing = tt; untouched = tt }
-
-  pub watched_first : (cause : Cause) → ReportedWritten A how g asked (without_diffusions how) (IsTold how.factors) may_become old new out out_after → Watched A how IsRead may_become old new out out_after (Err (fault_of cause))
-  watched_first cause reported = record {
-    all = tt;
-    first = λ file other. record { graph = g; asked = asked; read = read; reported = reported };
-    nothing = λ other. absurd (other refl);
-    untouched = λ setting. absurd (no_setting cause setting);
-  }

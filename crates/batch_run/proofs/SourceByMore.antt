@@ -1,4 +1,5 @@
--- Best labels from the first sources of a list, and those from the next, merge to those from one source more.
+-- Best labels from the first sources of a list, and those from the next, merge to those from one
+-- source more.
 use Rattle.std.proofs.Common.{arith, ◌≡◌, ℕ, ◌+◌, ◌<◌, ◌≤◌, List, [], ◌∷◌, ◌++◌, length, get_or, take, ap, sym, ◌∙◌, Option, Bool}
 use Rattle.std.proofs.lemmas.List.{take_more}
 use Rattle.road_graph.specs.GraphData.{GraphData}

@@ -35,7 +35,8 @@ filled xs ys w few low is =
 pub kept_few : (xs ys : List ℕ) (w : ℕ) → xs ≡ take w ys → length xs ≤ w
 kept_few xs ys w e = let many = ap (λ (l : List ℕ). length l) e in omega (arith, many, length-take {A = ℕ})
 
--- of the sources that are to come from source j of question i on, so many at most, these are the first, and those from question k on follow
+-- of the sources that are to come from source j of question i on, so many at most, these are the
+-- first, and those from question k on follow
 abbrev pub AreCollected : List Question → (w i j k : ℕ) → List ℕ → Type 0
 AreCollected qs w i j k xs = take w (xs ++ flat_map sources_of (drop k qs)) ≡ take w (sources_to_come qs i j)
 

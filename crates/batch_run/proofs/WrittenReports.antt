@@ -98,7 +98,8 @@ module _ {V : Type 0} (A : Algebra V) (g : GraphData) (asked : Asked) where
     | inr other ↦ subst (λ (x : Output X). AllByRecursion (IsWritten A g asked old x) ds) (sym (h.1 other)) all
   ]
 
--- so many questions were reported as answered, and of factoring what may be told; and what that says was written
+-- so many questions were reported as answered, and of factoring what may be told; and what that
+-- says was written
 pub record ReportedUntil {V S W : Type 0} (A : Algebra V) (how : Settings) (g : GraphData) (asked : Asked) (plain : Bool) (Told : Option Factoring → Type 0) (may_become : S → Progress → S → Type 0)
     (i : ℕ) (old new : S) (out out_after : Output W) : Type 0 where
   pub became : Option Factoring

@@ -1,5 +1,5 @@
 -- What a batch leaves: the text of the right answers, whole or a prefix of it.
-use Rattle.std.specs.Prelude.{◌≡◌, ◌≢◌, ℕ, ◌+◌, List, [], ◌++◌, length, take, All, Result, Ok, Err, OnOk, IfErr}
+use Rattle.std.specs.Prelude.{◌≡◌, ◌≢◌, ℕ, ◌+◌, ◌<◌, ◌⊎◌, List, [], ◌++◌, length, take, All, Result, Ok, Err, OnOk, IfErr}
 use Rattle.std.specs.Io.KnownBytes.{Appends}
 use Rattle.road_graph.specs.GraphData.{GraphData, HasVertex}
 use Rattle.road_files.specs.Asked.{Question, FromSource, BetweenPair, FromSources, Asked}
@@ -10,13 +10,15 @@ use Rattle.answer_text.specs.AnswerText.{answer_text, header_text, blocks_text, 
 use Rattle.text_lines.specs.Streams.{Output}
 use Rattle.text_lines.specs.Written.{WritesText, WrotePrefix, FailedAfterPrefix}
 use Rattle.batch_run.specs.declared.faults.Cause.{Cause}
-use Rattle.batch_run.specs.declared.faults.Cause.TheVariants.{Write}
+use Rattle.worker_fleet.specs.declared.group.GroupFault.TheVariants.{Memory}
+use Rattle.batch_run.specs.declared.faults.Cause.TheVariants.{Unsolved, Write}
 
 -- the right answer to a question was written, whole; or a prefix of it, and then a write failed
 abbrev pub WroteAnswer : {V X E : Type 0} → Algebra V → GraphData → Question → (old new : Output X) → Result (Unit {0}) E → Type 0
 WroteAnswer A g q old new result = (answer : AnswerData) × IsAnswer A g q answer × WritesText old new (answer_text answer) result
 
--- so it was, or a cause stopped it: a failed write after a prefix of the answer, another cause before the output was touched
+-- so it was, or a cause stopped it: a failed write after a prefix of the answer, another cause
+-- before the output was touched
 abbrev pub WroteNext : {V X : Type 0} → Algebra V → GraphData → Question → (old new : Output X) → Result (Unit {0}) Cause → Type 0
 WroteNext A g q old new (Ok _) = (answer : AnswerData) × IsAnswer A g q answer × WrotePrefix old new (answer_text answer) []
 WroteNext A g q old new (Err cause) =
@@ -57,10 +59,12 @@ pub record WroteFirst {V X : Type 0} (A : Algebra V) (g : GraphData) (asked : As
   pub text_is : begun_text A asked answers ≡ prefix ++ rest
   pub bytes : Appends old.written new.written prefix
 
--- the header was written, and the right answers to the first questions, each of them whole
+-- the header was written, and the right answers to the first questions, each of them whole: fewer
+-- than were asked, if any were
 pub record WroteWhole {V X : Type 0} (A : Algebra V) (g : GraphData) (asked : Asked) (old new : Output X) : Type 0 where
   pub count : ℕ
   pub answers : List AnswerData
+  pub fewer : (asked.questions ≡ []) ⊎ (count < length asked.questions)
   pub right : AreAnswers A g (take count asked.questions) answers
   pub bytes : Appends old.written new.written (begun_text A asked answers)
 
@@ -69,7 +73,8 @@ abbrev pub WroteAllOrFirst : {V X E : Type 0} → Algebra V → GraphData → As
 WroteAllOrFirst A g asked old new (Ok _) = WroteAnswers A g asked old new
 WroteAllOrFirst A g asked old new (Err _) = WroteFirst A g asked old new
 
--- the header was written, and the right answers to the first questions, so many of them, each whole; and then maybe more
+-- the header was written, and the right answers to the first questions, so many of them, each
+-- whole; and then maybe more
 pub record WroteAtLeast {V X : Type 0} (A : Algebra V) (g : GraphData) (asked : Asked) (count : ℕ) (old new : Output X) : Type 0 where
   pub answers : List AnswerData
   pub right : AreAnswers A g (take count asked.questions) answers
@@ -88,8 +93,10 @@ pub record AnsweredAll {V X : Type 0} (A : Algebra V) (g : GraphData) (asked : A
   pub failed : IfErr outcome (λ cause. cause ≡ Write → new.failures ≡ old.failures + 1)
   -- if it is another, none did
   pub unfailed : IfErr outcome (λ cause. cause ≢ Write → new.failures ≡ old.failures)
-  -- and the header and the first answers are whole
+  -- and the header and the first answers are whole, fewer than were asked
   pub whole : IfErr outcome (λ cause. cause ≢ Write → WroteWhole A g asked old new)
+  -- if it is not memory either, some question was asked
+  pub some : IfErr outcome (λ cause. cause ≢ Write → cause ≢ Unsolved Memory → asked.questions ≢ [])
 
 -- the question asks of vertices of the graph alone
 abbrev pub AsksWithin : GraphData → Question → Type 0

@@ -1,4 +1,5 @@
--- What contracts say of a batch and its solver: that the question at a place is next, and what stops it, where `may_answer` says what its gate may answer.
+-- What contracts say of a batch and its solver: that the question at a place is next, and what
+-- stops it, where `may_answer` says what its gate may answer.
 use Rattle.std.specs.Prelude.{ℕ, ◌+◌, Bool, false, Result, slice_index_or}
 use Rattle.road_graph.specs.GraphData.{GraphData}
 use Rattle.road_files.specs.Asked.{Question, asked_of}
@@ -17,7 +18,7 @@ use Rattle.batch_run.specs.Causes.{MayStop}
 use Rattle.batch_run.specs.Diffusions.{AreNext, sources_to_come}
 use Rattle.batch_run.specs.Factored.{MayTell}
 use Rattle.batch_run.specs.Reports.{ReportedAllOrPrefix, ReportedWhole, ReportedWritten, accounts_due}
-use Rattle.batch_run.specs.Solvers.{IsReady, graph_of, is_plain}
+use Rattle.batch_run.specs.Solvers.{IsReady, graph_of, is_without_diffusions}
 use Rattle.batch_run.specs.Stopping.{Stops}
 
 -- the solver is ready for the question at this place
@@ -30,15 +31,15 @@ StopsBatch meaning may_answer batch g = Stops meaning batch.algebra g batch.run.
 
 -- it may stop for this, if this solver answers
 abbrev pub MayStopBatch : {S R T V : Type 0} {G : Ghosts S V} → (S → Algebra V) → (T → ℕ → ℕ → Bool → Type 0) → Batch S R T V G → Solver S V G → Cause → Type 0
-MayStopBatch meaning may_answer batch s = MayStop (is_plain s) (StopsBatch meaning may_answer batch (graph_of s))
+MayStopBatch meaning may_answer batch s = MayStop (is_without_diffusions s) (StopsBatch meaning may_answer batch (graph_of s))
 
 -- all that is due of it was reported to a watcher, if this solver answers
 abbrev pub ReportedBatch : {S R T V X : Type 0} {G : Ghosts S V} → (S → Algebra V) → Batch S R T V G → Solver S V G → (X → Progress → X → Type 0) → (old new : X) → Type 0
-ReportedBatch meaning batch s = ReportedWhole (meaning batch.algebra) batch.run.now.settings.now (graph_of s) (is_plain s) (MayTell s) (asked_of batch.questions.now).questions
+ReportedBatch meaning batch s = ReportedWhole (meaning batch.algebra) batch.run.now.settings.now (graph_of s) (is_without_diffusions s) (MayTell s) (asked_of batch.questions.now).questions
 
 -- a prefix of it was, and what that says was written
 abbrev pub ReportedOfBatch : {S R T V X W : Type 0} {G : Ghosts S V} → (S → Algebra V) → Batch S R T V G → Solver S V G → (X → Progress → X → Type 0) → (old new : X) → (out out_after : Output W) → Type 0
-ReportedOfBatch meaning batch s = ReportedWritten (meaning batch.algebra) batch.run.now.settings.now (graph_of s) (asked_of batch.questions.now) (is_plain s) (MayTell s)
+ReportedOfBatch meaning batch s = ReportedWritten (meaning batch.algebra) batch.run.now.settings.now (graph_of s) (asked_of batch.questions.now) (is_without_diffusions s) (MayTell s)
 
 -- what waits goes on with the diffusion from source j of question i
 abbrev pub AreNextAt : {S R T V : Type 0} {G : Ghosts S V} {K : FromArcsGhosts GraphData} → (S → Algebra V) → BatchOver S GraphData R T V G K → (i j : ℕ) → DiffusionQueue V → Type 0

@@ -1,4 +1,5 @@
--- How a batch cuts a graph into shards, and in which order the parts of its diffusions take their items.
+-- How a batch cuts a graph into shards, and in which order the parts of its diffusions take their
+-- items.
 use Rattle.std.specs.Prelude.{cond}
 use Rattle.road_graph.specs.GraphData.{GraphData}
 use Rattle.shard_store.specs.Plans.{PlanData, IsBlocks}

@@ -41,7 +41,8 @@ pub record AreEnded {A V : Type 0} (t : SetupData A) (floor : FloorData A) (stat
 abbrev pub IsEnded : {A V : Type 0} → A → Settings → GraphData → PlanData → EndedDiffusion A V → Type 0
 IsEnded algebra how roads plan e = AreEnded (setup_of algebra roads e.source plan (order_of how)) e.floor e.stations.items
 
--- a diffusion over the graph was gathered: its labels are best from its source, and its counts are its own
+-- a diffusion over the graph was gathered: its labels are best from its source, and its counts are
+-- its own
 pub record IsGatheredOver {V : Type 0} (A : Algebra V) (how : Settings) (g : GraphData) (d : GatheredDiffusion V) : Type 0 where
   pub labels : AreBest A g (d.source ∷ []) d.labels
   pub account : IsAccount A how g d.source d.tally
@@ -50,7 +51,8 @@ pub record IsGatheredOver {V : Type 0} (A : Algebra V) (how : Settings) (g : Gra
 abbrev pub sources_in_order : {V : Type 0} → List (GatheredDiffusion V) → List ℕ
 sources_in_order waiting = reverse (map (λ d. d.source) waiting)
 
--- the plan is the one that the settings choose, those that wait were gathered, and their sources are a prefix of those to come
+-- the plan is the one that the settings choose, those that wait were gathered, and their sources
+-- are a prefix of those to come
 pub record AreNext {V : Type 0} (A : Algebra V) (how : Settings) (g : GraphData) (to_come : List ℕ) (queue : DiffusionQueue V) : Type 0 where
   pub plan : IsCut how g queue.plan
   pub gathered : All (IsGatheredOver A how g) queue.waiting.items

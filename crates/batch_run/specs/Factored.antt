@@ -16,7 +16,8 @@ is_by_factors (Plain s) = false
 is_by_factors (Factors s) = true
 is_by_factors (Workers s) = false
 
--- what became of factoring its graph: it is made exactly if there are factors; nothing did if it solves without them
+-- what became of factoring its graph: it is made exactly if there are factors; nothing did if it
+-- solves without them
 abbrev pub IsFactoringOf : {S V : Type 0} {G : Ghosts S V} → Solver S V G → Option Factoring → Type 0
 IsFactoringOf (Plain s) became = became ≡ None
 IsFactoringOf (Factors s) None = ⊥

@@ -1,4 +1,5 @@
--- What a success says of the inputs stays true at a later fault, and what a fault of the settings says is true of inputs that were not read.
+-- What a success says of the inputs stays true at a later fault, and what a fault of the settings
+-- says is true of inputs that were not read.
 use Rattle.std.proofs.Common.{◌≡◌, ◌≢◌, ◌↔◌, ◌∙◌, ℕ, Result, Ok, Err, refl, sym, ap, arith}
 use Rattle.batch_run.specs.declared.faults.File.{File}
 use Rattle.batch_run.specs.declared.faults.File.TheVariants.{Graph, Questions, Bundle, NoFile}

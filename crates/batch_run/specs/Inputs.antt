@@ -23,7 +23,8 @@ pub record HasReadPair {G Q : Type 0} (first first_after : Input G) (second seco
   pub read_graph : (outcome ≡ Err (record { number = 1; file = Graph; line = 0 })) ↔ (first_after.failures ≢ first.failures)
   -- and of the questions exactly if one of them did
   pub read_questions : (outcome ≡ Err (record { number = 1; file = Questions; line = 0 })) ↔ (second_after.failures ≢ second.failures)
-  -- 3 is reported of the graph only of bytes that fit, after those of all reads but the last, which break no rule
+  -- 3 is reported of the graph only of bytes that fit, after those of all reads but the last, which
+  -- break no rule
   pub memory : IfErr outcome (λ f. f.file ≡ Graph → f.number ≡ 3 → RunsOutAfter (BreaksNone gr_rules) first.left first_after.left)
   -- and so it is of the questions, over a graph that has no fault
   pub memory_questions : IfErr outcome (λ f. f.file ≡ Questions → f.number ≡ 3 →
@@ -45,7 +46,8 @@ pub record HasReadBundle {B : Type 0} (text text_after : Input B) (outcome : Res
   pub bundle : IfErr outcome (λ f. f.file ≡ Bundle → IsBundleFault text.left f)
   -- 1 is reported exactly if a read failed
   pub read_bundle : (outcome ≡ Err (record { number = 1; file = Bundle; line = 0 })) ↔ (text_after.failures ≢ text.failures)
-  -- 3 is reported only of bytes that fit, after those of all reads but the last, which break no rule
+  -- 3 is reported only of bytes that fit, after those of all reads but the last, which break no
+  -- rule
   pub memory : IfErr outcome (λ f. f.file ≡ Bundle → f.number ≡ 3 → RunsOutAfter (BreaksNone bundle_rules) text.left text_after.left)
   -- settings are tested before anything is read
   pub untouched : IfErr outcome (λ f. f.number ≡ 43 → text_after ≡ text)

@@ -1,4 +1,5 @@
 pub mod InRange
+pub mod Unsuited
 pub mod Choice
 pub mod WrittenLines
 pub mod Diffusions

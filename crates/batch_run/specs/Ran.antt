@@ -1,5 +1,5 @@
 -- What a batch promises of its inputs and its output.
-use Rattle.std.specs.Prelude.{◌≡◌, ◌≢◌, ℕ, ◌<◌, ◌≤◌, ◌⊎◌, List, [], Option, None, Ok, Err, IfSome}
+use Rattle.std.specs.Prelude.{◌≡◌, ◌≢◌, ℕ, ◌<◌, ◌≤◌, ◌⊎◌, List, [], length, Option, None, Ok, Err, IfSome}
 use Rattle.road_graph.specs.GraphData.{GraphData}
 use Rattle.text_lines.specs.Reads.{IsNumberFrom}
 use Rattle.text_lines.specs.Streams.{Output}
@@ -14,7 +14,8 @@ use Rattle.batch_run.specs.declared.faults.File.{File}
 use Rattle.batch_run.specs.declared.faults.File.TheVariants.{Graph, Questions, Bundle, NoFile}
 use Rattle.batch_run.specs.Answered.{WroteAnswers, WroteAnswersPrefix, WroteWhole}
 
--- the value is what the input spells; and it is what some text spells, also if the input does not show its bytes
+-- the value is what the input spells; and it is what some text spells, also if the input does not
+-- show its bytes
 pub record IsReadAs {S V : Type 0} (rules : Rules S V) (input : Option (List ℕ)) (value : V) : Type 0 where
   pub told : IfSome input (λ b. text_read rules b ≡ Ok value)
   pub some_text : (b : List ℕ) × (text_read rules b ≡ Ok value)
@@ -42,12 +43,18 @@ pub record Begun {V X : Type 0} (A : Algebra V) (IsRead : GraphData → Asked �
   pub read : IsRead graph asked
   pub wrote : WroteAnswersPrefix A graph asked old new
 
--- the header was, and the answers to the first questions, each of them whole
+-- the header was, and the answers to the first questions, each of them whole; fewer than were
+-- asked, if any were
 pub record BegunWhole {V X : Type 0} (A : Algebra V) (IsRead : GraphData → Asked → Type 0) (old new : Output X) : Type 0 where
   pub graph : GraphData
   pub asked : Asked
   pub read : IsRead graph asked
   pub wrote : WroteWhole A graph asked old new
+
+-- the header was, and the answers to the first questions, each of them whole, but not to all
+pub record BegunUnfinished {V X : Type 0} (A : Algebra V) (IsRead : GraphData → Asked → Type 0) (old new : Output X) : Type 0 where
+  pub begun : BegunWhole A IsRead old new
+  pub fewer : begun.wrote.count < length begun.asked.questions
 
 -- the fault of a line, and none of reading or of memory
 abbrev pub IsTextFault : RunFault → Type 0
@@ -78,7 +85,8 @@ IsPairFile file = (file ≡ Graph) ⊎ (file ≡ Questions)
 abbrev pub IsBundleFile : File → Type 0
 IsBundleFile file = file ≡ Bundle
 
--- a fault of one of these inputs, with a number of theirs; or one of the run: memory or a thread, a limit of turns, a gate, a write, or a setting
+-- a fault of one of these inputs, with a number of theirs; or one of the run: memory or a thread, a
+-- limit of turns, a gate, a write, or a setting
 abbrev pub IsRunFaultOf : (File → Type 0) → RunFault → Type 0
 IsRunFaultOf inputs f =
     (inputs f.file × IsRoadNumber f.number)

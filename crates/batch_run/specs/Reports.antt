@@ -1,6 +1,8 @@
--- What a batch reports while it runs. Of two questions, from 1 and from 4 and 5, by diffusions: it begins (2 questions, 3 diffusions), question 1 from 1 was
--- gathered, 1 is answered, question 2 from 4 was gathered, question 2 from 5 was, 2 are answered. With the plain solver: it begins (2 questions, 0 diffusions),
--- 1 is answered, 2 are. With factors: it begins (2 questions, 0 diffusions), the graph is factored, 1 is answered, 2 are.
+-- What a batch reports while it runs. Of two questions, from 1 and from 4 and 5, by diffusions: it
+-- begins (2 questions, 3 diffusions), question 1 from 1 was gathered, 1 is answered, question 2
+-- from 4 was gathered, question 2 from 5 was, 2 are answered. With the plain solver: it begins (2
+-- questions, 0 diffusions), 1 is answered, 2 are. With factors: it begins (2 questions, 0
+-- diffusions), the graph is factored, 1 is answered, 2 are.
 use Rattle.std.specs.Prelude.{◌≡◌, ◌≢◌, ℕ, ◌+◌, Bool, true, false, List, [], ◌∷◌, ◌++◌, length, map, Option, None, Some, IsSome, Result, Ok, Err, OnOk, IfErr}
 use Rattle.std.specs.List.{AllByRecursion, AllZip, flat_map}
 use Rattle.text_lines.specs.Streams.{Output}
@@ -21,17 +23,19 @@ use Rattle.batch_run.specs.Cut.{IsCut, order_of}
 use Rattle.batch_run.specs.declared.watcher.Progress.{Progress}
 use Rattle.batch_run.specs.declared.watcher.Progress.TheVariants.{Begun, Factored, Gathered, Answered}
 
--- The counts of a diffusion over a graph from a source are those that `gather` reports with some labels, in the shards and the order that the settings choose: some events, counted in full, lead from
--- its opening to a state that has ended and is quiet; each counter is the lesser of its total and its top, full exactly where a total reaches that, and all totals are
--- the same.
+-- The counts of a diffusion over a graph from a source are those that `gather` reports with some
+-- labels, in the shards and the order that the settings choose: some events, counted in full, lead
+-- from its opening to a state that has ended and is quiet; each counter is the lesser of its total
+-- and its top, full exactly where a total reaches that, and all totals are the same.
 pub record IsAccount {V : Type 0} (A : Algebra V) (how : Settings) (g : GraphData) (source : ℕ) (tally : Tally) : Type 0 where
   pub plan : PlanData
   pub cut : IsCut how g plan
   pub labels : List (Option V)
   pub gathered : IsGathered (λ (B : Algebra V). B) (setup_of A g source plan (order_of how)) (record { labels = labels; tally = tally })
 
--- what is due to be reported: that the batch begins, with so many questions and diffusions; what became of factoring its graph; that a question's diffusion from
--- a source was gathered; or that so many questions are answered
+-- what is due to be reported: that the batch begins, with so many questions and diffusions; what
+-- became of factoring its graph; that a question's diffusion from a source was gathered; or that so
+-- many questions are answered
 pub data Due : Type 0 where
   Beginning : (questions diffusions : ℕ) → Due
   Attempt : (became : Factoring) → Due
@@ -62,12 +66,14 @@ accounts_due plain k q = map (Account k) (diffused plain q)
 abbrev pub question_due : Bool → ℕ → Question → List Due
 question_due plain k q = accounts_due plain k q ++ Answering k ∷ []
 
--- due of questions, in order, when so many are answered: for each its accounts, and that it is answered
+-- due of questions, in order, when so many are answered: for each its accounts, and that it is
+-- answered
 abbrev pub questions_due : Bool → ℕ → List Question → List Due
 questions_due plain n [] = []
 questions_due plain n (q ∷ qs) = accounts_due plain (n + 1) q ++ Answering (n + 1) ∷ [] ++ questions_due plain (n + 1) qs
 
--- due before the first question: that the batch begins, and what became of factoring its graph, if factors are to answer
+-- due before the first question: that the batch begins, and what became of factoring its graph, if
+-- factors are to answer
 abbrev pub start_due : Bool → Option Factoring → List Question → List Due
 start_due plain None qs = Beginning (length qs) (count_diffusions plain qs) ∷ []
 start_due plain (Some became) qs = Beginning (length qs) (count_diffusions plain qs) ∷ Attempt became ∷ []
@@ -76,7 +82,8 @@ start_due plain (Some became) qs = Beginning (length qs) (count_diffusions plain
 abbrev pub batch_due : Bool → Option Factoring → List Question → List Due
 batch_due plain became qs = start_due plain became qs ++ questions_due plain 0 qs
 
--- what is told of factoring the graph: if the settings choose factors, what became of it; else nothing
+-- what is told of factoring the graph: if the settings choose factors, what became of it; else
+-- nothing
 abbrev pub IsTold : (factors : Bool) → Option Factoring → Type 0
 IsTold true became = IsSome became
 IsTold false became = became ≡ None
@@ -110,41 +117,61 @@ pub record ReportedWhole {V S : Type 0} (A : Algebra V) (how : Settings) (g : Gr
   pub told : Told became
   pub reported : Reported A how g may_become (batch_due plain became qs) old new
 
--- so it was with what was read
-pub record ReportedAll {V S : Type 0} (A : Algebra V) (how : Settings) (plain : Bool) (IsRead : GraphData → Asked → Type 0) (may_become : S → Progress → S → Type 0) (old new : S) : Type 0 where
-  pub graph : GraphData
-  pub asked : Asked
-  pub read : IsRead graph asked
-  pub reported : ReportedWhole A how graph plain (IsTold how.factors) asked.questions may_become old new
-
--- what a report says was written, before: that a batch begins, the header; that so many questions are answered, their answers too, each whole
+-- what a report says was written, before: that a batch begins, the header; that so many questions
+-- are answered, their answers too, each whole
 abbrev pub IsWritten : {V W : Type 0} → Algebra V → GraphData → Asked → Output W → Output W → Due → Type 0
 IsWritten A g asked out out_after (Beginning n d) = WroteAtLeast A g asked 0 out out_after
 IsWritten A g asked out out_after (Attempt became) = Unit {0}
 IsWritten A g asked out out_after (Account k s) = Unit {0}
 IsWritten A g asked out out_after (Answering n) = WroteAtLeast A g asked n out out_after
 
--- a prefix of what is due of a batch was reported, of factoring what may be told, and what it says was written
+-- a prefix of what is due of a batch was reported, of factoring what may be told, and what it says
+-- was written
 pub record ReportedWritten {V S W : Type 0} (A : Algebra V) (how : Settings) (g : GraphData) (asked : Asked) (plain : Bool) (Told : Option Factoring → Type 0) (may_become : S → Progress → S → Type 0) (old new : S) (out out_after : Output W) : Type 0 where
   pub became : Option Factoring
   pub told : Told became
   pub reported : ReportedPrefix A how g may_become (batch_due plain became asked.questions) old new
   pub written : AllByRecursion (IsWritten A g asked out out_after) reported.prefix
 
--- so it was with a prefix of what is due of what was read
-pub record ReportedFirst {V S W : Type 0} (A : Algebra V) (how : Settings) (plain : Bool) (IsRead : GraphData → Asked → Type 0) (may_become : S → Progress → S → Type 0) (old new : S) (out out_after : Output W) : Type 0 where
+-- these are all reports that are due of what was read, in order
+pub record AreAllReports {V : Type 0} (A : Algebra V) (how : Settings) (IsRead : GraphData → Asked → Type 0) (reports : List Progress) : Type 0 where
   pub graph : GraphData
   pub asked : Asked
   pub read : IsRead graph asked
-  pub reported : ReportedWritten A how graph asked plain (IsTold how.factors) may_become old new out out_after
+  pub became : Option Factoring
+  pub told : IsTold how.factors became
+  pub are_due : AllZip (IsReportOf A how graph) (batch_due (without_diffusions how) became asked.questions) reports
 
--- what a batch over what was read reported to a watcher, which went from the one state to the other, while the output took bytes
-pub record Watched {V S W : Type 0} (A : Algebra V) (how : Settings) (IsRead : GraphData → Asked → Type 0) (may_become : S → Progress → S → Type 0) (old new : S) (out out_after : Output W) (outcome : Result (Unit {0}) RunFault) : Type 0 where
-  -- on success all that is due was reported, in order, and nothing else
-  pub all : OnOk outcome (ReportedAll A how (without_diffusions how) IsRead may_become old new)
-  -- before a fault of the run a prefix of it was, and each question that it reports as answered has its answer in the output, whole
-  pub first : IfErr outcome (λ f. f.file ≡ NoFile → f.number ≢ 43 → ReportedFirst A how (without_diffusions how) IsRead may_become old new out out_after)
-  -- before a fault of an input nothing was
-  pub nothing : IfErr outcome (λ f. f.file ≢ NoFile → new ≡ old)
+-- these are the first reports that are due of what was read, in order, and what each says was
+-- written
+pub record AreFirstReports {V W : Type 0} (A : Algebra V) (how : Settings) (IsRead : GraphData → Asked → Type 0) (out out_after : Output W) (reports : List Progress) : Type 0 where
+  pub graph : GraphData
+  pub asked : Asked
+  pub read : IsRead graph asked
+  pub became : Option Factoring
+  pub told : IsTold how.factors became
+  pub prefix : List Due
+  pub rest : List Due
+  pub due_is : batch_due (without_diffusions how) became asked.questions ≡ prefix ++ rest
+  pub are_due : AllZip (IsReportOf A how graph) prefix reports
+  pub written : AllByRecursion (IsWritten A graph asked out out_after) prefix
+
+-- these are the reports of a batch over what was read, which ended with this outcome, while the
+-- output took bytes
+pub record AreReports {V W : Type 0} (A : Algebra V) (how : Settings) (IsRead : GraphData → Asked → Type 0) (out out_after : Output W) (outcome : Result (Unit {0}) RunFault) (reports : List Progress) : Type 0 where
+  -- on success they are all that are due, in order, and no others
+  pub all : OnOk outcome (AreAllReports A how IsRead reports)
+  -- before a fault of the run they are the first of these, and each question that they report as
+  -- answered has its answer in the output, whole
+  pub first : IfErr outcome (λ f. f.file ≡ NoFile → f.number ≢ 43 → AreFirstReports A how IsRead out out_after reports)
+  -- before a fault of an input there are none
+  pub nothing : IfErr outcome (λ f. f.file ≢ NoFile → reports ≡ [])
   -- nor before one of a setting
-  pub untouched : IfErr outcome (λ f. f.number ≡ 43 → new ≡ old)
+  pub untouched : IfErr outcome (λ f. f.number ≡ 43 → reports ≡ [])
+
+-- a batch over what was read made its reports to a watcher, and no others: given them, one after
+-- the other, the watcher went from the one state to the other
+pub record Watched {V S W : Type 0} (A : Algebra V) (how : Settings) (IsRead : GraphData → Asked → Type 0) (may_become : S → Progress → S → Type 0) (old new : S) (out out_after : Output W) (outcome : Result (Unit {0}) RunFault) : Type 0 where
+  pub reports : List Progress
+  pub are : AreReports A how IsRead out out_after outcome reports
+  pub told : FollowsReports may_become old reports new

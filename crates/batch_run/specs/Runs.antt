@@ -1,6 +1,6 @@
 -- What a batch leaves, between two moments of its inputs and its output.
 pub use Rattle.text_lines.specs.Streams.{Input, Output}
-use Rattle.std.specs.Prelude.{◌≡◌, ◌≢◌, ℕ, ◌+◌, ◌≤◌, ◌<◌, ◌⊎◌, Bool, true, false, [], Result, Err, OnOk, IfErr}
+use Rattle.std.specs.Prelude.{◌≡◌, ◌≢◌, ℕ, ◌+◌, ◌≤◌, ◌<◌, ◌⊎◌, Bool, false, [], Result, OnOk, IfErr}
 use Rattle.std.specs.Io.KnownBytes.{Keeps}
 use Rattle.road_graph.specs.GraphData.{GraphData}
 use Rattle.road_files.specs.Asked.{Asked}
@@ -10,10 +10,9 @@ use Rattle.batch_run.specs.declared.faults.File.{File}
 use Rattle.batch_run.specs.declared.faults.File.TheVariants.{NoFile}
 use Rattle.batch_run.specs.declared.faults.RunFault.{RunFault}
 use Rattle.batch_run.specs.declared.settings.Settings.{Settings}
-use Rattle.batch_run.specs.InRange.{AreInRange}
 use Rattle.batch_run.specs.Choice.{without_diffusions}
 use Rattle.batch_run.specs.Inputs.{HasReadPair, HasReadBundle}
-use Rattle.batch_run.specs.Ran.{Done, Begun, BegunWhole, IsPassedOn, IsRunFaultOf, IsPairOf, IsBundleOf, IsPairFile, IsBundleFile}
+use Rattle.batch_run.specs.Ran.{Done, Begun, BegunUnfinished, BegunWhole, IsPassedOn, IsRunFaultOf, IsPairOf, IsBundleOf, IsPairFile, IsBundleFile}
 
 -- the questions of a batch were answered over its graph, or this fault stopped it
 pub record Ran {V W : Type 0} (A : Algebra V) (how : Settings) (answers : ℕ → ℕ → Bool → Type 0) (IsRead : GraphData → Asked → Type 0) (inputs : File → Type 0) (out out_after : Output W) (outcome : Result (Unit {0}) RunFault) : Type 0 where
@@ -23,21 +22,18 @@ pub record Ran {V W : Type 0} (A : Algebra V) (how : Settings) (answers : ℕ �
   pub passed_on : OnOk outcome (out_after.held ≡ [])
   -- no write failed
   pub sound : OnOk outcome (out_after.failures ≡ out.failures)
-  -- 43 is reported if a setting is out of its range,
-  pub refused : (AreInRange how → ⊥) → outcome ≡ Err (record { number = 43; file = NoFile; line = 0 })
-  -- and else only if factors are chosen
-  pub settings : outcome ≡ Err (record { number = 43; file = NoFile; line = 0 }) → (AreInRange how → ⊥) ⊎ (how.factors ≡ true)
   -- 42 is reported only if a write failed
   pub write : IfErr outcome (λ f. f.number ≡ 42 → out.failures < out_after.failures)
   -- a fault is one of these inputs, with a number of theirs, or one of the run
   pub kinds : IfErr outcome (IsRunFaultOf inputs)
   -- 1 to 3 are in no line
   pub placed : IfErr outcome (λ f. f.number ≤ 3 → f.line ≡ 0)
-  -- 40 is reported only if stations answer, and some worker made each turn up to the limit
+  -- 40 is reported only if workers answer, and some worker made each turn up to the limit
   pub stalled : IfErr outcome (λ f. f.number ≡ 40 → (without_diffusions how ≡ false) × Stalls answers how.workers how.turns)
   -- with one shard, best first, it is not reported if the limit is enough for the arcs of the graph
   pub unstalled : HasEnoughTurns how IsRead → IfErr outcome (λ f. f.number ≢ 40)
-  -- 41 is reported only if stations answer, and the gate answered some worker false before a turn up to the limit
+  -- 41 is reported only if workers answer, and the gate answered some worker false before a turn up
+  -- to the limit
   pub gated : IfErr outcome (λ f. f.number ≡ 41 → (without_diffusions how ≡ false) × Closes answers how.workers how.turns)
   -- after a fault of an input nothing was written
   pub nothing : IfErr outcome (λ f. f.file ≢ NoFile → Keeps out.written out_after.written)
@@ -47,14 +43,16 @@ pub record Ran {V W : Type 0} (A : Algebra V) (how : Settings) (answers : ℕ �
   pub untouched : IfErr outcome (λ f. f.number ≡ 43 → out_after ≡ out)
   -- a later fault leaves a prefix of the right text
   pub begun : IfErr outcome (λ f. f.file ≡ NoFile → f.number ≢ 43 → Begun A IsRead out out_after)
-  -- want of memory leaves the first answers, each of them whole
+  -- want of memory leaves the first answers, each of them whole, and fewer than were asked, if any
+  -- were
   pub whole : IfErr outcome (λ f. f.file ≡ NoFile → f.number ≡ 3 → BegunWhole A IsRead out out_after)
   -- and they are passed on, or passing them on failed
   pub flushed : IfErr outcome (λ f. f.file ≡ NoFile → f.number ≡ 3 → IsPassedOn out_after.held out.failures out_after.failures)
   -- at most that one write failed
   pub once : IfErr outcome (λ f. f.file ≡ NoFile → f.number ≡ 3 → out_after.failures ≤ out.failures + 1)
-  -- a limit of turns or a gate leaves the first answers, each of them whole, and passed on
-  pub stopped : IfErr outcome (λ f. (f.number ≡ 40) ⊎ (f.number ≡ 41) → BegunWhole A IsRead out out_after × IsPassedOn out_after.held out.failures out_after.failures)
+  -- a limit of turns or a gate leaves the first answers, each of them whole, fewer than were asked,
+  -- and passed on
+  pub stopped : IfErr outcome (λ f. (f.number ≡ 40) ⊎ (f.number ≡ 41) → BegunUnfinished A IsRead out out_after × IsPassedOn out_after.held out.failures out_after.failures)
 
 -- the questions of one input were answered over the graph of another, or this fault stopped it
 pub record RanPair {V G Q W : Type 0} (A : Algebra V) (how : Settings) (answers : ℕ → ℕ → Bool → Type 0) (first first_after : Input G) (second second_after : Input Q) (out out_after : Output W) (outcome : Result (Unit {0}) RunFault) : Type 0 where

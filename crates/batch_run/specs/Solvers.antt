@@ -24,10 +24,10 @@ graph_of (Factors s) = s.plain.graph
 graph_of (Workers s) = s.graph
 
 -- it solves without diffusions
-abbrev pub is_plain : {S V : Type 0} {G : Ghosts S V} → Solver S V G → Bool
-is_plain (Plain s) = true
-is_plain (Factors s) = true
-is_plain (Workers s) = false
+abbrev pub is_without_diffusions : {S V : Type 0} {G : Ghosts S V} → Solver S V G → Bool
+is_without_diffusions (Plain s) = true
+is_without_diffusions (Factors s) = true
+is_without_diffusions (Workers s) = false
 
 -- what it solved last
 abbrev pub last_of : {S V : Type 0} {G : Ghosts S V} → Solver S V G → Option (Solved V)
@@ -35,7 +35,8 @@ last_of (Plain s) = last_of_plain s
 last_of (Factors s) = last_by_factors s.last s.plain
 last_of (Workers s) = s.last
 
--- what it holds is right for this algebra, of this meaning, these settings and question list, and the question at this place is the next one
+-- what it holds is right for this algebra, of this meaning, these settings and question list, and
+-- the question at this place is the next one
 abbrev pub IsReady : {S V : Type 0} {G : Ghosts S V} → (S → Algebra V) → S → Settings → Asked → ℕ → Solver S V G → Type 0
 IsReady meaning algebra how asked i (Plain s) = IsPlainReady meaning algebra asked s
 IsReady meaning algebra how asked i (Factors s) = IsFactorReady meaning algebra asked s
@@ -44,4 +45,4 @@ IsReady meaning algebra how asked i (Workers s) = IsWorkerReady (meaning algebra
 -- it is of one kind, over one graph, from the one moment to the other
 pub record IsSameSolver {S V : Type 0} {G : Ghosts S V} (old new : Solver S V G) : Type 0 where
   pub graph : graph_of new ≡ graph_of old
-  pub kind : is_plain new ≡ is_plain old
+  pub kind : is_without_diffusions new ≡ is_without_diffusions old

@@ -1,4 +1,5 @@
--- What stops a batch if stations answer, where `answers` says what a gate may answer to a worker before a turn of it.
+-- What stops a batch if workers answer, where `answers` says what a gate may answer to a worker
+-- before a turn of it.
 use Rattle.std.specs.Prelude.{◌≡◌, ◌⊎◌, ◌+◌, ◌*◌, ◌≤◌, ℕ, Bool, true, Result, IfErr, length}
 use Rattle.road_graph.specs.GraphData.{GraphData, HasVertex, IsGraph}
 use Rattle.road_files.specs.Asked.{Asked}
@@ -13,7 +14,8 @@ use Rattle.batch_run.specs.declared.settings.Settings.{Settings}
 use Rattle.batch_run.specs.Cut.{IsCut, order_of}
 pub use Rattle.worker_fleet.specs.Stops.{Stalls, Closes}
 
--- the setup of a diffusion of a batch: over its graph, from a vertex of it, in the shards and the order that the settings choose
+-- the setup of a diffusion of a batch: over its graph, from a vertex of it, in the shards and the
+-- order that the settings choose
 pub record IsDiffusionOf {S : Type 0} (algebra : S) (g : GraphData) (how : Settings) (t : SetupData S) : Type 0 where
   pub source : ℕ
   pub is_vertex : HasVertex g source
@@ -23,8 +25,9 @@ pub record IsDiffusionOf {S : Type 0} (algebra : S) (g : GraphData) (how : Setti
   pub cut : IsCut how g plan
   pub setup_is : t ≡ setup_of algebra g source plan (order_of how)
 
--- this fault stops a batch: memory or a thread was refused; or diffusions of it, at most its width, were opened together, dealt to its workers by its rule and driven by them, by its
--- budget and its limit, and the least numbered worker that stopped before the end did so by this fault
+-- this fault stops a batch: memory or a thread was refused; or diffusions of it, at most its width,
+-- were opened together, dealt to its workers by its rule and driven by them, by its budget and its
+-- limit, and the least numbered worker that stopped before the end did so by this fault
 abbrev pub Stops : {S V : Type 0} → (S → Algebra V) → S → GraphData → Settings → (ℕ → ℕ → Bool → Type 0) → GroupFault → Type 0
 Stops meaning algebra g how answers fault = (fault ≡ Memory) ⊎ StopsGroup meaning (IsDiffusionOf algebra g how) how.dealing how.workers how.width how.budget how.turns answers fault
 
@@ -35,18 +38,21 @@ pub record StopsRead {S V : Type 0} (meaning : S → Algebra V) (algebra : S) (h
   pub read : IsRead graph asked
   pub stops : Stops meaning algebra graph how answers fault
 
--- why workers did not run a group of diffusions of a batch to its end, by the number of the fault that this left
+-- why workers did not run a group of diffusions of a batch to its end, by the number of the fault
+-- that this left
 pub record Stopped {S V : Type 0} (meaning : S → Algebra V) (algebra : S) (how : Settings) (answers : ℕ → ℕ → Bool → Type 0) (IsRead : GraphData → Asked → Type 0) (outcome : Result (Unit {0}) RunFault) : Type 0 where
   -- 40 is reported only if the first of them that stopped was at its limit of turns
   pub stalled : IfErr outcome (λ f. f.number ≡ 40 → StopsRead meaning algebra how answers IsRead Stalled)
   -- 41 is reported only if the gate stopped it
   pub gated : IfErr outcome (λ f. f.number ≡ 41 → StopsRead meaning algebra how answers IsRead Gated)
 
--- with one shard, best first, the limit of turns is enough for a graph: twice the number of its arcs, and three, as many times as questions are under way together
+-- with one shard, best first, the limit of turns is enough for a graph: twice the number of its
+-- arcs, and three, as many times as questions are under way together
 abbrev pub IsEnoughFor : Settings → GraphData → Type 0
 IsEnoughFor how g = how.width * (2 * (length g.arcs + 1) + 1) ≤ how.turns
 
--- there is one shard, best first, and the limit of turns is enough for each graph that may have been read
+-- there is one shard, best first, and the limit of turns is enough for each graph that may have
+-- been read
 pub record HasEnoughTurns (how : Settings) (IsRead : GraphData → Asked → Type 0) : Type 0 where
   pub one : how.shards ≡ 1
   pub best_first : how.best_first ≡ true

@@ -4,7 +4,7 @@ ghost use Rattle.road_files.specs.Asked.{AreQuestionsOf, Question, asked_of};
 ghost use Rattle.batch_run.specs.Answered.{AnsweredAll, WroteNext};
 ghost use Rattle.batch_run.specs.Batches.{IsReadyAt, MayStopBatch, ReportedBatch, ReportedOfBatch};
 ghost use Rattle.batch_run.specs.Reports.{Reported, ReportedPrefix, accounts_due, question_due};
-ghost use Rattle.batch_run.specs.Solvers.{IsSameSolver, graph_of, is_plain};
+ghost use Rattle.batch_run.specs.Solvers.{IsSameSolver, graph_of, is_without_diffusions};
 
 use crate::batch::Batch;
 use crate::begin::begin;
@@ -38,12 +38,12 @@ fn answer_next<A: PathAlgebra, W: RoadWrite, R: Threads + Wait + Sync, T: Gate, 
     ensures kind { IfErr result (MayStopBatch A.meaning T.may_answer batch.now solver.old) }
     ensures reported { OnOk result ((default : Question) → Reported (A.meaning batch.now.algebra)
         batch.now.run.now.settings.now (graph_of solver.old) O.may_become
-        (question_due (is_plain solver.old) (i + 1)
+        (question_due (is_without_diffusions solver.old) (i + 1)
         (slice_index_or (asked_of batch.now.questions.now).questions i default)) watcher.old
         watcher.new) }
     ensures unreported { OnErr result ((default : Question) →
         ReportedPrefix (A.meaning batch.now.algebra) batch.now.run.now.settings.now
-        (graph_of solver.old) O.may_become (accounts_due (is_plain solver.old) (i + 1)
+        (graph_of solver.old) O.may_become (accounts_due (is_without_diffusions solver.old) (i + 1)
         (slice_index_or (asked_of batch.now.questions.now).questions i default)) watcher.old
         watcher.new) }
 {
@@ -64,7 +64,8 @@ fn report_factoring<O: Watcher>(became: Option<Factoring>, watcher: &mut O)
     }
 }
 
-/// Answers all questions in order, writes the answers, and stops at the first fault. Nothing is flushed.
+/// Answers all questions in order, writes the answers, and stops at the first fault. Nothing is
+/// flushed.
 pub fn answer_all<A: PathAlgebra, W: RoadWrite, R: Threads + Wait + Sync, T: Gate, O: Watcher>(
     batch: &Batch<'_, A, R, T>,
     solver: &mut Solver<A>,
@@ -81,7 +82,7 @@ pub fn answer_all<A: PathAlgebra, W: RoadWrite, R: Threads + Wait + Sync, T: Gat
     ensures reported { ReportedOfBatch A.meaning batch.now solver.old O.may_become watcher.old
         watcher.new (W.seen out.old) (W.seen out.new) }
 {
-    let plain = solver.is_plain();
+    let plain = solver.is_without_diffusions();
     begin(batch.algebra, batch.questions, plain, out, watcher)?;
     start(batch, solver)?;
     report_factoring(solver.factoring(), watcher);

@@ -12,7 +12,8 @@ use path_algebra::PathAlgebra;
 use road_files::Questions;
 use text_lines::{RoadWrite, WriteFault};
 
-/// Writes the header of the answers, and reports how many questions there are and how many diffusions answer them.
+/// Writes the header of the answers, and reports how many questions there are and how many
+/// diffusions answer them.
 pub(crate) fn begin<A: PathAlgebra, W: RoadWrite, O: Watcher>(
     algebra: A,
     questions: &Questions,

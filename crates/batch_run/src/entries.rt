@@ -3,6 +3,7 @@ ghost use Rattle.batch_run.specs.Reports.{Watched};
 ghost use Rattle.batch_run.specs.Runs.{RanBundle, RanPair};
 ghost use Rattle.batch_run.specs.Ran.{IsBundleOf, IsPairOf};
 ghost use Rattle.batch_run.specs.Stopping.{Stopped};
+ghost use Rattle.batch_run.specs.Unsuited.{IsRefusedUnsuited};
 
 use crate::batch::Run;
 use crate::faults::RunFault;
@@ -15,7 +16,8 @@ use std::thread::Threads;
 use text_lines::{RoadRead, RoadWrite};
 use worker_fleet::Gate;
 
-/// Answers the questions of one input over the graph of another, and writes the answers, as `run_batch` does.
+/// Answers the questions of one input over the graph of another, and writes the answers, as
+/// `run_batch` does.
 pub fn run_pair<
     A: PathAlgebra,
     G: RoadRead,
@@ -35,6 +37,7 @@ pub fn run_pair<
     ensures ran { RanPair (A.meaning algebra) run.now.settings.now (T.may_answer run.now.gate.now)
         (G.seen graph.old) (G.seen graph.new) (Q.seen questions.old) (Q.seen questions.new)
         (W.seen out.old) (W.seen out.new) result }
+    ensures suited { IsRefusedUnsuited (A.arc_cost algebra) run.now.settings.now result }
     ensures stopped { Stopped A.meaning algebra run.now.settings.now
         (T.may_answer run.now.gate.now) (IsPairOf (G.seen graph.old).left
         (Q.seen questions.old).left) result }
@@ -46,7 +49,8 @@ pub fn run_pair<
     run_batch(run, algebra, &mut input, out, watcher)
 }
 
-/// Answers the questions of a bundle, a graph and questions over it in one input, and writes the answers, as `run_batch` does.
+/// Answers the questions of a bundle, a graph and questions over it in one input, and writes the
+/// answers, as `run_batch` does.
 pub fn run_bundle<
     A: PathAlgebra,
     B: RoadRead,
@@ -63,6 +67,7 @@ pub fn run_bundle<
 ) -> Result<(), RunFault>
     ensures ran { RanBundle (A.meaning algebra) run.now.settings.now (T.may_answer run.now.gate.now)
         (B.seen bundle.old) (B.seen bundle.new) (W.seen out.old) (W.seen out.new) result }
+    ensures suited { IsRefusedUnsuited (A.arc_cost algebra) run.now.settings.now result }
     ensures stopped { Stopped A.meaning algebra run.now.settings.now
         (T.may_answer run.now.gate.now) (IsBundleOf (B.seen bundle.old).left) result }
     ensures watched { Watched (A.meaning algebra) run.now.settings.now (IsBundleOf

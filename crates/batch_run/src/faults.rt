@@ -39,7 +39,8 @@ impl File {
     }
 }
 
-/// Why a batch stopped: the number of the fault, the input, and the line in it (0 if none is meant).
+/// Why a batch stopped: the number of the fault, the input, and the line in it (0 if none is
+/// meant).
 #[derive(Clone, Copy, Debug, PartialEq, Eq)]
 pub struct RunFault {
     pub number: u8,

@@ -6,6 +6,7 @@ ghost use Rattle.batch_run.specs.Answered.{WroteAllOrPrefix, WroteWhole};
 ghost use Rattle.batch_run.specs.Batches.{MayStopBatch, ReportedBatch, ReportedOfBatch};
 ghost use Rattle.batch_run.specs.Ran.{IsPassedOn};
 ghost use Rattle.batch_run.specs.Solvers.{graph_of};
+ghost use Rattle.worker_fleet.specs.declared.group.GroupFault.TheVariants.{Memory};
 
 use crate::answering::answer_all;
 use crate::batch::Batch;
@@ -67,6 +68,8 @@ pub(crate) fn answer_and_flush<
     ensures whole { IfErr result (λ cause. cause ≢ Cause.Write → WroteWhole
         (A.meaning batch.now.algebra) (graph_of solver.old) (asked_of batch.now.questions.now)
         (W.seen out.old) (W.seen out.new)) }
+    ensures some { IfErr result (λ cause. cause ≢ Cause.Write → cause ≢ Cause.Unsolved Memory →
+        (asked_of batch.now.questions.now).questions ≢ []) }
     ensures once { IfErr result (λ cause. cause ≢ Cause.Write → (W.seen out.new).failures ≤
         (W.seen out.old).failures + 1) }
     ensures flushed { IfErr result (λ cause. cause ≢ Cause.Write → IsPassedOn (W.seen out.new).held
@@ -76,6 +79,7 @@ pub(crate) fn answer_and_flush<
     ensures reported { ReportedOfBatch A.meaning batch.now solver.old O.may_become watcher.old
         watcher.new (W.seen out.old) (W.seen out.new) }
 {
+    // Laws for the proof: right answers exist, the first of them begin all, and a graph is one.
     answers_exist(batch.algebra);
     first_answers_begin_all(batch.algebra);
     let _ = solver.vertices();

@@ -28,7 +28,8 @@ pub fn answers_exist<A: PathAlgebra>(algebra: A)
     routes_follow_parents(algebra);
 }
 
-/// With one shard, best first, under every algebra: each counter of an account is one, and one more for each arc in which some walk with a value ends.
+/// With one shard, best first, under every algebra: each counter of an account is one, and one more
+/// for each arc in which some walk with a value ends.
 pub fn best_first_accounts_count_each_arc_once<A: PathAlgebra>(_algebra: A)
     ensures { (how : Settings) (g : GraphData) (source : ℕ) (tally : Tally) → how.shards ≡ 1 →
         how.best_first ≡ true → IsAccount (A.meaning _algebra) how g source tally →
@@ -36,7 +37,8 @@ pub fn best_first_accounts_count_each_arc_once<A: PathAlgebra>(_algebra: A)
         tally ≡ each_shows (1 + count_marked g marked) }
 {}
 
-/// A limit of 17,179,869,376 turns, of which the usual one is more than fifty times as many, is enough for every graph with one shard, best first.
+/// A limit of 17,179,869,376 turns, of which the usual one is more than fifty times as many, is
+/// enough for every graph with one shard, best first.
 pub fn usual_turns_are_enough()
     ensures { (how : Settings) (g : GraphData) → IsGraph g → how.width ≤ 64 →
         17179869376 ≤ how.turns → IsEnoughFor how g }

@@ -6,8 +6,9 @@ ghost use Rattle.batch_run.specs.Runs.{Ran};
 ghost use Rattle.batch_run.specs.Stopping.{Stopped};
 ghost use Rattle.batch_run.specs.Ran.{IsRoadNumber};
 ghost use Rattle.batch_run.specs.Factored.{is_by_factors};
-ghost use Rattle.batch_run.specs.Solvers.{graph_of, is_plain};
+ghost use Rattle.batch_run.specs.Solvers.{graph_of, is_without_diffusions};
 ghost use Rattle.batch_run.specs.Choice.{without_diffusions};
+ghost use Rattle.batch_run.specs.Unsuited.{IsRefusedUnsuited};
 
 use crate::batch::{Batch, Run};
 use crate::faults::{File, RunFault, SETTINGS, fault_of_run};
@@ -30,7 +31,7 @@ fn read_batch<A: PathAlgebra, I: BatchInput, R, T>(
     run: &Run<'_, R, T>,
     input: &mut I,
 ) -> Result<(Solver<A>, Questions), RunFault>
-    ensures kind { IfOk result (λ r. is_plain r.0 ≡ without_diffusions run.now.settings.now) }
+    ensures kind { IfOk result (λ r. is_without_diffusions r.0 ≡ without_diffusions run.now.settings.now) }
     ensures factors { IfOk result (λ r. is_by_factors r.0 ≡ run.now.settings.now.factors) }
     ensures read { IfOk result (λ r. I.is_read input.old (graph_of r.0) (asked_of r.1)) }
     ensures within { IfOk result (λ r. AreQuestionsOf (graph_of r.0).vertices r.1) }
@@ -57,23 +58,28 @@ fn read_batch<A: PathAlgebra, I: BatchInput, R, T>(
     }
 }
 
-/// Answers the questions of an input over its graph, writes the answers, and reports to a watcher as it goes: that the questions
-/// were read; with `factors`, what became of factoring the graph; each diffusion that was gathered, with its counts; and each
-/// question that was answered. With `plain` or `factors` there are no diffusions. Before a fault of an input nothing is reported.
+/// Answers the questions of an input over its graph, writes the answers, and reports to a watcher
+/// as it goes: that the questions were read; with `factors`, what became of factoring the graph;
+/// each diffusion that was gathered, with its counts; and each question that was answered. With
+/// `plain` or `factors` there are no diffusions. Before a fault of an input nothing is reported.
 ///
-/// The settings are tested first (43), and if they choose factors, whether the algebra has a cost (43 too); then the graph is read
-/// and then the questions, and then each question is answered and written, in order; at last the output is flushed. The first
-/// fault in this order is reported. After a fault of an input nothing has been written; after a later one (3, 40 to 42) a prefix
-/// of the answers' text has.
+/// The settings are tested first (43), and if they choose factors, whether the algebra has a cost
+/// (43 too); then the graph is read and then the questions, and then each question is answered and
+/// written, in order; at last the output is flushed. The first fault in this order is reported.
+/// After a fault of an input nothing has been written; after a later one (3, 40 to 42) a prefix of
+/// the answers' text has.
 ///
-/// Questions are run in groups of `width` diffusions, each over its own shards, by workers on threads: of n workers, worker w
-/// turns the station of shard k of diffusion q if k is w modulo n, or, dealt by questions, if q + k is. With `plain` the one-thread solver answers each question, one that
-/// was solved just before without a new search, and a pair goes on with the search from its source; `width` searches go side by
-/// side on all processors. With `factors` the graph is factored when the header is written, and its factors answer: pairs in
-/// `width` runs side by side, other questions one after the other. With either no
-/// worker is started, the gate is not asked, and the graph is kept with its arcs by tail alone; for pairs and factors by head too.
+/// Questions are run in groups of `width` diffusions, each over its own shards, by workers on
+/// threads: of n workers, worker w turns the station of shard k of diffusion q if k is w modulo n,
+/// or, dealt by questions, if q + k is. With `plain` the one-thread solver answers each question,
+/// one that was solved just before without a new search, and a pair goes on with the search from
+/// its source; `width` searches go side by side on all processors. With `factors` the graph is
+/// factored when the header is written, and its factors answer: pairs in `width` runs side by side,
+/// other questions one after the other. With either no worker is started, the gate is not asked,
+/// and the graph is kept with its arcs by tail alone; for pairs and factors by head too.
 ///
-/// With one shard, best first, no worker reaches a limit of turns (40) that is enough for the arcs of the graph (`usual_turns_are_enough`).
+/// With one shard, best first, no worker reaches a limit of turns (40) that is enough for the arcs
+/// of the graph (`usual_turns_are_enough`).
 pub fn run_batch<
     A: PathAlgebra,
     I: BatchInput,
@@ -90,6 +96,7 @@ pub fn run_batch<
 ) -> Result<(), RunFault>
     ensures ran { Ran (A.meaning algebra) run.now.settings.now (T.may_answer run.now.gate.now)
         (I.is_read input.old) I.is_own (W.seen out.old) (W.seen out.new) result }
+    ensures suited { IsRefusedUnsuited (A.arc_cost algebra) run.now.settings.now result }
     ensures read { I.has_read input.old input.new result }
     ensures stopped { Stopped A.meaning algebra run.now.settings.now
         (T.may_answer run.now.gate.now) (I.is_read input.old) result }

@@ -1,12 +1,13 @@
 //! How a batch is run.
-ghost use Rattle.std.specs.Prelude.{◌≡◌, ◌↔◌, ◌⊎◌, IsTrue, true, false};
+ghost use Rattle.std.specs.Prelude.{◌≡◌, ◌↔◌, IsTrue, true, false};
 ghost use Rattle.shard_store.specs.declared.queue_order.QueueOrder.TheVariants.{Arrival, BestFirst};
 
-use path_algebra::{Cost, PathAlgebra};
+use path_algebra::PathAlgebra;
 use shard_part::QueueOrder;
 use worker_fleet::Dealing;
 
-/// How a batch is run. The plain solver and factors write the same bytes whatever settings in range are given.
+/// How a batch is run. The plain solver and factors write the same bytes whatever settings in range
+/// are given.
 #[derive(Clone, Copy, Debug, PartialEq, Eq)]
 pub struct Settings {
     /// The number of worker threads, 1 to 64.
@@ -21,13 +22,15 @@ pub struct Settings {
     pub turns: u64,
     /// Whether each question is solved by the one-thread solver.
     pub plain: bool,
-    /// Whether the graph is factored and each question is solved by its factors, whatever `plain` says. The algebra has to have a cost.
-    /// A graph that is too dense or too heavy is left to the one-thread solver.
+    /// Whether the graph is factored and each question is solved by its factors, whatever `plain`
+    /// says. The algebra has to have a cost. A graph that is too dense or too heavy is left to the
+    /// one-thread solver.
     pub factors: bool,
     /// Whether a part takes the best waiting message first, and not what came first.
     pub best_first: bool,
-    /// Best first, by what weight a shard may run ahead of the best message that waits at another shard or was sent to one:
-    /// worse ones are held back. A fifth of the mean weight of the arcs, if it is not given.
+    /// Best first, by what weight a shard may run ahead of the best message that waits at another
+    /// shard or was sent to one: worse ones are held back. A fifth of the mean weight of the arcs,
+    /// if it is not given.
     pub ahead: Option<u32>,
     /// By which rule the workers are dealt the shards of the questions that are under way together.
     pub dealing: Dealing,
@@ -46,8 +49,7 @@ pub enum SolverKind {
 
 impl Settings {
     ghost use Rattle.batch_run.specs.InRange.{AreInRange};
-    ghost use Rattle.path_algebra.specs.Carried.{IsCarried};
-    ghost use Rattle.path_algebra.specs.Counted.{cost_of};
+    ghost use Rattle.batch_run.specs.Unsuited.{IsUnsuited};
     ghost use Rattle.batch_run.specs.Choice.{without_diffusions};
 
     /// Whether each setting is in its range.
@@ -65,12 +67,11 @@ impl Settings {
             && self.turns <= 1_000_000_000_000
     }
 
-    /// Whether each setting is in its range, and factors are chosen only for an algebra that has a cost.
+    /// Whether each setting is in its range, and factors are chosen only for an algebra that has a
+    /// cost.
     pub fn suit<A: PathAlgebra>(&self, algebra: A) -> bool
         ensures in_range { IsTrue result → AreInRange self.now }
-        ensures costs { IsTrue result → self.now.factors ≡ true → (cost : Cost) × IsCarried
-            (A.meaning algebra) (cost_of cost) }
-        ensures out { result ≡ false → (AreInRange self.now → ⊥) ⊎ (self.now.factors ≡ true) }
+        ensures exactly { (result ≡ false) ↔ IsUnsuited (A.arc_cost algebra) self.now }
     {
         if !self.are_in_range() {
             return false;

@@ -6,7 +6,7 @@ ghost use Rattle.batch_run.specs.Batches.{IsReadyAt, StopsBatch};
 ghost use Rattle.batch_run.specs.Reports.{ReportedAllOrPrefix, accounts_due};
 ghost use Rattle.question_solvers.specs.Solved.{IsSolvedFor};
 ghost use Rattle.batch_run.specs.Factored.{IsFactoringOf, is_by_factors};
-ghost use Rattle.batch_run.specs.Solvers.{IsSameSolver, graph_of, is_plain, last_of};
+ghost use Rattle.batch_run.specs.Solvers.{IsSameSolver, graph_of, is_without_diffusions, last_of};
 
 mod diffusion;
 mod group;
@@ -32,9 +32,11 @@ use std::thread::Threads;
 use worker_fleet::{Gate, GroupFault};
 pub use workers::WorkerSolver;
 
-/// What solves the questions of a batch, one after the other: a pair to its answer, another to best labels and their tree.
+/// What solves the questions of a batch, one after the other: a pair to its answer, another to best
+/// labels and their tree.
 ///
-/// It is an enum and no trait: the method of an `impl` can't call what sends a value of a type parameter to a thread.
+/// It is an enum and no trait: the method of an `impl` can't call what sends a value of a type
+/// parameter to a thread.
 #[derive(Drop)]
 pub enum Solver<A: PathAlgebra> {
     Plain(PlainSolver<A>),
@@ -44,8 +46,8 @@ pub enum Solver<A: PathAlgebra> {
 
 impl<A: PathAlgebra> Solver<A> {
     /// Whether it solves without diffusions.
-    pub(crate) fn is_plain(&self) -> bool
-        ensures { result ≡ is_plain self.now }
+    pub(crate) fn is_without_diffusions(&self) -> bool
+        ensures { result ≡ is_without_diffusions self.now }
     {
         match self {
             Solver::Plain(_) | Solver::Factors(_) => true,
@@ -127,11 +129,11 @@ pub(crate) fn solve_next<A: PathAlgebra, R: Threads + Wait + Sync, T: Gate, O: W
     ensures some { OnOk result (IsSome (last_of solver.new)) }
     ensures solved { OnOk result (IfSome (last_of solver.new) (IsSolvedFor
         (A.meaning batch.now.algebra) (graph_of solver.old) (asked_of batch.now.questions.now) i)) }
-    ensures plain { is_plain solver.old ≡ true → IfErr result (λ f. f ≡ GroupFault.Memory) }
+    ensures plain { is_without_diffusions solver.old ≡ true → IfErr result (λ f. f ≡ GroupFault.Memory) }
     ensures stops { IfErr result (StopsBatch A.meaning T.may_answer batch.now (graph_of
         solver.old)) }
     ensures reported { (default : Question) → ReportedAllOrPrefix (A.meaning batch.now.algebra)
-        batch.now.run.now.settings.now (graph_of solver.old) O.may_become (accounts_due (is_plain
+        batch.now.run.now.settings.now (graph_of solver.old) O.may_become (accounts_due (is_without_diffusions
         solver.old) (i + 1) (slice_index_or (asked_of batch.now.questions.now).questions i default))
         watcher.old watcher.new result }
 {

@@ -1,5 +1,5 @@
-//! What a batch does beside what the built program shows (`system_tests/worked`): gates, turns, watchers, failing readers and writers,
-//! and an algebra of a caller's own.
+//! What a batch does beside what the built program shows (`system_tests/worked`): gates, turns,
+//! watchers, failing readers and writers, and an algebra of a caller's own.
 mod dealing;
 mod factors;
 mod faults;

@@ -1,4 +1,5 @@
-//! What the words of a command line ask for; what commands do, the built program shows (`system_tests/commands`).
+//! What the words of a command line ask for; what commands do, the built program shows
+//! (`system_tests/commands`).
 
 use crate::texts::joined;
 use batch_run::{Dealing, Settings, fault_of_run};

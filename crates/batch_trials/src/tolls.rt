@@ -1,5 +1,5 @@
 //! An algebra of a caller's own, for tests: each arc costs twice its weight.
-use path_algebra::{AlgebraName, PathAlgebra};
+use path_algebra::{AlgebraName, Cost, PathAlgebra};
 
 /// The greatest value.
 const GREATEST: u64 = 1 << 63;
@@ -9,7 +9,7 @@ const GREATEST: u64 = 1 << 63;
 pub struct Tolls;
 
 impl PathAlgebra for Tolls {
-    ghost use Rattle.std.specs.Prelude.{refl};
+    ghost use Rattle.std.specs.Prelude.{refl, None};
     ghost use Rattle.path_algebra.specs.Laws.{less_is_better};
     ghost use Rattle.batch_trials.specs.Tolls.{tolls, tolls_laws};
 
@@ -18,6 +18,8 @@ impl PathAlgebra for Tolls {
     ghost order = { tolls.no_worse };
 
     ghost meaning = { λ _. tolls };
+
+    ghost arc_cost = { λ _. None };
 
     ghost one_order = { λ _. refl };
 
@@ -51,5 +53,9 @@ impl PathAlgebra for Tolls {
 
     fn name(self) -> AlgebraName {
         AlgebraName::Own
+    }
+
+    fn cost(self) -> Option<Cost> {
+        None
     }
 }

@@ -45,7 +45,8 @@ bad_problem : requests true 5 (text (codes "p aux sp p2p x" ∷ codes "q 1 9" �
 unfolding lines fields number question_line_of question_problem source_of_line pair_of_line sources_of_line
 bad_problem = refl
 
--- a second problem line, early: fault 19 there, and it begins the next request, whose first line may have a fault too
+-- a second problem line, early: fault 19 there, and it begins the next request, whose first line
+-- may have a fault too
 early : requests true 5 (text (codes "p aux sp p2p 2" ∷ codes "q 1 4" ∷ codes "p aux sp p2p 1" ∷ codes "q 4 1" ∷ codes "p aux sp ss 1" ∷ codes "p aux sp ss" ∷ [])) ≡ Err
     (fault_at 3 19) ∷ pair 4 1 ∷ Err (fault_at 6 19) ∷ Err (fault_at 6 12) ∷ []
 unfolding lines fields number question_line_of question_problem source_of_line pair_of_line sources_of_line

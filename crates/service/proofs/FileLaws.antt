@@ -28,7 +28,8 @@ second_problem : (n : ℕ) (q : AskedSoFar) (fs : List (List ℕ)) → begins_re
 second_problem n q [] h = cc
 second_problem n q (f ∷ fs) h = subst (λ w. question_line n None (Some q) (map word_of (w ∷ fs)) ≡ Err 11) (sym (is_word f (codes "p") h)) (problem_word n q fs)
 
--- a request that is whole takes blank lines and comments alone, which change nothing between requests
+-- a request that is whole takes blank lines and comments alone, which change nothing between
+-- requests
 abbrev IsErr : {A : Type 0} → Result A ℕ → Type 0
 IsErr {A = A} r = (e : ℕ) × (r ≡ Err e)
 

@@ -1,5 +1,5 @@
 -- What a service promises of its inputs and its output, from what reading and serving promise.
-use Rattle.std.proofs.Common.{◌≡◌, ◌≢◌, ◌⊎◌, ◌↔◌, inl, inr, Bool, true, false, eqb, ℕ, ◌+◌, ◌≤◌, Result, Ok, Err, refl, sym, ap, ◌∙◌, subst, arith}
+use Rattle.std.proofs.Common.{◌≡◌, ◌≢◌, ◌⊎◌, ◌↔◌, inl, inr, Bool, true, false, eqb, ℕ, ◌+◌, ◌≤◌, Option, Result, Ok, Err, refl, sym, ap, ◌∙◌, subst, arith}
 use Rattle.std.specs.Prelude.{IfSome}
 use Rattle.std.proofs.lemmas.Bool.{eqb-true}
 use Rattle.std.specs.Io.KnownBytes.{IsAtEnd}
@@ -9,11 +9,13 @@ use Rattle.road_graph.specs.GraphData.{GraphData}
 use Rattle.text_lines.specs.Reads.{BreaksNone, RunsOutAfter}
 use Rattle.graph_text.specs.GraphFiles.{gr_rules}
 use Rattle.path_algebra.specs.Algebra.{Algebra}
+use Rattle.path_algebra.specs.declared.counted_sums.Cost.{Cost}
 use Rattle.batch_run.specs.declared.faults.File.TheVariants.{Graph, Questions, NoFile}
 use Rattle.batch_run.specs.declared.faults.RunFault.{RunFault}
 use Rattle.batch_run.specs.declared.settings.Settings.{Settings}
-use Rattle.batch_run.specs.InRange.{AreInRange}
 use Rattle.batch_run.specs.Ran.{IsReadAs, IsRoadNumber}
+use Rattle.batch_run.specs.Unsuited.{IsRefusedUnsuited, IsUnsuited}
+use Rattle.batch_run.proofs.Suiting.{suited_by, suited_whole}
 use Rattle.batch_run.specs.Runs.{Input, Output}
 use Rattle.service.specs.Over.{IsOverFault, RanOver}
 use Rattle.service.specs.Served.{IsStopOfInput, RanService}
@@ -79,9 +81,19 @@ kind_of_service f (inr (file, line, inr write)) = inr (inr (file, line, inr (inl
 no_fault : (r : Result (Unit {0}) RunFault) (u : Unit {0}) (f : RunFault) → r ≡ Ok u → r ≡ Err f → ⊥
 no_fault r u f p q = cc
 
+-- settings that suit are not refused, over a graph or by a fault of one
+module _ (cost : Option Cost) (how : Settings) (suits : Bool) (suit : suits ≡ true) (exactly : (suits ≡ false) ↔ IsUnsuited cost how) where
+  pub over_suited : {V Q W : Type 0} (A : Algebra V) (gate : ℕ → ℕ → Bool → Type 0) (g : GraphData) (input input_after : Input Q) (out out_after : Output W) (r : Result (Unit {0}) RunFault)
+      → RanOver A how gate g input input_after out out_after r → IsRefusedUnsuited cost how r
+  over_suited A gate g input input_after out out_after (Ok u) over = suited_whole cost how suits suit exactly
+  over_suited A gate g input input_after out out_after (Err f) over = suited_by cost how suits suit exactly f (λ _. not_a_setting f over.kinds)
+
+  pub graph_suited : (f : ReadFault) → IsRefusedUnsuited cost how (Err (record { number = f.number; file = Graph; line = f.line }))
+  graph_suited f = suited_by cost how suits suit exactly (record { number = f.number; file = Graph; line = f.line }) (λ file. absurd (graph_or_none file))
+
 -- what serving over a graph promises is what a service does that read the graph from an input
 module _ {V G Q W : Type 0} (A : Algebra V) (how : Settings) (gate : ℕ → ℕ → Bool → Type 0) (graph graph_after : Input G) (input input_after : Input Q) (out out_after : Output W)
-    (inside : AreInRange how) (g : GraphData) (read : IsReadAs gr_rules graph.left g) (sound : graph_after.failures ≡ graph.failures) (end : IsAtEnd graph_after.left)
+    (g : GraphData) (read : IsReadAs gr_rules graph.left g) (sound : graph_after.failures ≡ graph.failures) (end : IsAtEnd graph_after.left)
     (asked : graph_after.asked ≤ graph.asked + 4294967297) where
   pub over_graph : (r : Result (Unit {0}) RunFault) → RanOver A how gate g input input_after out out_after r → RanService A how gate graph graph_after input input_after out out_after r
   over_graph (Ok u) over = record {
@@ -93,8 +105,6 @@ module _ {V G Q W : Type 0} (A : Algebra V) (how : Settings) (gate : ℕ → ℕ
     too_long = tt;
     nothing_held = tt;
     fell = tt;
-    refused = λ no. absurd (no inside);
-    settings = λ e. absurd (no_fault _ u _ refl e);
     graph_fault = tt;
     graph_memory = tt;
     read_graph = (λ e. absurd (no_fault _ u _ refl e), λ failed. absurd (failed sound));
@@ -115,8 +125,6 @@ module _ {V G Q W : Type 0} (A : Algebra V) (how : Settings) (gate : ℕ → ℕ
     too_long = λ file two. (g, read, over.too_long file two);
     nothing_held = over.nothing_held;
     fell = λ write. (g, read, over.fell write);
-    refused = λ no. absurd (no inside);
-    settings = λ e. absurd (not_a_setting f over.kinds (number_of _ _ _ refl e));
     graph_fault = λ file. absurd (not_of_graph f over.kinds file);
     graph_memory = λ file. absurd (not_of_graph f over.kinds file);
     read_graph = (λ e. absurd (not_of_graph f over.kinds (file_of _ _ _ refl e)), λ failed. absurd (failed sound));
@@ -131,12 +139,12 @@ module _ {V G Q W : Type 0} (A : Algebra V) (how : Settings) (gate : ℕ → ℕ
 
 module _ {V G Q W : Type 0} (A : Algebra V) (how : Settings) (gate : ℕ → ℕ → Bool → Type 0) (graph graph_after : Input G) (input : Input Q) (out : Output W) where
   -- the graph has a fault, or a read of it failed
-  pub graph_failed : (f : ReadFault) → AreInRange how → (2 ≤ f.number → f.number ≢ 3 → IfSome graph.left (λ all. text_read gr_rules all ≡ Err f))
+  pub graph_failed : (f : ReadFault) → (2 ≤ f.number → f.number ≢ 3 → IfSome graph.left (λ all. text_read gr_rules all ≡ Err f))
       → (f.number ≡ 3 → RunsOutAfter (BreaksNone gr_rules) graph.left graph_after.left)
       → (f.number ≡ 1 → graph_after.failures ≢ graph.failures) → (f.number ≢ 1 → graph_after.failures ≡ graph.failures) → (f.number ≤ 3 → f.line ≡ 0) → IsRoadNumber f.number →
       graph_after.asked ≤ graph.asked + 4294967297
       → RanService A how gate graph graph_after input input out out (Err (record { number = f.number; file = Graph; line = f.line }))
-  graph_failed f inside fault memory told untold placed numbered asked = record {
+  graph_failed f fault memory told untold placed numbered asked = record {
     done = tt;
     passed_on = tt;
     sound = tt;
@@ -145,8 +153,6 @@ module _ {V G Q W : Type 0} (A : Algebra V) (how : Settings) (gate : ℕ → ℕ
     too_long = λ file two. absurd (graph_or_questions file);
     nothing_held = λ file. absurd (graph_or_questions file);
     fell = λ write. absurd (of_input 42 (omega arith) write);
-    refused = λ no. absurd (no inside);
-    settings = λ e. absurd (other_file _ _ _ graph_or_none refl e);
     graph_fault = λ file own. fault own.0 own.1;
     graph_memory = λ file three. memory three;
     read_graph = (λ e. told (number_of _ _ _ refl e), λ failed. one_line (is_one f.number graph_after.failures graph.failures untold failed));

@@ -92,9 +92,13 @@ module _ (answers : Asked → List ℕ → Type 0) where
     whole : (fed : List ℕ) (rs : List Request) (t : Service) → t.cutter.taker.questions.list.vertices ≡ n → WasFed t fed rs → MakesWhole n fed rs
     whole fed rs t e h = (parser_state t.cutter.taker, subst (λ k. LinesMay k 1 (Gives None) (lines true fed) rs (parser_state t.cutter.taker)) e h.made)
 
+    -- a read is about to be made
+    pub so_far : ServedSoFar answers n left mid first was
+    so_far = let (fed, rs, gone, taken, replied) = served in (fed, rs, gone, whole fed rs s same taken, replied_kept rs first old was kept sound replied)
+
     -- a read failed
     pub read_failed : Keeps mid now → ServedSoFar answers n left now first was
-    read_failed stays = let (fed, rs, gone, taken, replied) = served in (fed, rs, consumes_kept left mid now fed gone stays, whole fed rs s same taken, replied_kept rs first old was kept sound replied)
+    read_failed stays = let (fed, rs, gone, all, replied) = so_far in (fed, rs, consumes_kept left mid now fed gone stays, all, replied)
 
     -- a write failed in the replies to what a piece makes whole
     pub feed_fell : (t : Service) (piece : List ℕ) → t.cutter.taker.questions.list.vertices ≡ n → Consumes mid now piece → FedPart answers s t piece was new →

@@ -7,15 +7,15 @@ use Rattle.path_algebra.specs.Algebra.{Algebra}
 use Rattle.batch_run.specs.declared.settings.Settings.{Settings}
 use Rattle.batch_run.specs.declared.solve.Solver.{Solver}
 use Rattle.batch_run.specs.Choice.{without_diffusions}
-use Rattle.batch_run.specs.Solvers.{IsSameSolver, graph_of, is_plain}
+use Rattle.batch_run.specs.Solvers.{IsSameSolver, graph_of, is_without_diffusions}
 use Rattle.service.specs.Answering.{MayAnswer, MayAnswerAs, MayAnswerBy}
 
 module _ {S V : Type 0} {G : Ghosts S V} (A : Algebra V) (how : Settings) (gate : ℕ → ℕ → Bool → Type 0) (s t : Solver S V G) (same : IsSameSolver s t) where
   pub stays : (P : (Asked → List ℕ → Type 0) → Type 0) → P (MayAnswerBy A how gate t) → P (MayAnswerBy A how gate s)
   stays P h =
       subst (λ (b : Bool). P (MayAnswerAs A b how gate (graph_of s))) same.kind
-      (subst (λ (g : GraphData). P (MayAnswerAs A (is_plain t) how gate g)) same.graph h)
+      (subst (λ (g : GraphData). P (MayAnswerAs A (is_without_diffusions t) how gate g)) same.graph h)
 
   -- it is the solver that the settings choose
-  pub stays_own : is_plain s ≡ without_diffusions how → (P : (Asked → List ℕ → Type 0) → Type 0) → P (MayAnswerBy A how gate t) → P (MayAnswer A how gate (graph_of s))
+  pub stays_own : is_without_diffusions s ≡ without_diffusions how → (P : (Asked → List ℕ → Type 0) → Type 0) → P (MayAnswerBy A how gate t) → P (MayAnswer A how gate (graph_of s))
   stays_own kind P h = subst (λ (b : Bool). P (MayAnswerAs A b how gate (graph_of s))) kind (stays P h)

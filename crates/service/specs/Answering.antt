@@ -1,5 +1,5 @@
 -- Which texts may answer a request: those that a batch writes.
-use Rattle.std.specs.Prelude.{◌≡◌, ◌≢◌, ℕ, ◌⊎◌, Bool, List, ◌++◌, take}
+use Rattle.std.specs.Prelude.{◌≡◌, ◌≢◌, ℕ, ◌<◌, ◌⊎◌, Bool, true, List, [], ◌++◌, length, take}
 use Rattle.road_graph.specs.GraphData.{GraphData}
 use Rattle.road_files.specs.Asked.{Asked}
 use Rattle.path_algebra.specs.declared.algebra.PathAlgebra.{Ghosts}
@@ -15,7 +15,8 @@ use Rattle.batch_run.specs.declared.faults.Cause.TheVariants.{Write}
 use Rattle.batch_run.specs.declared.settings.Settings.{Settings}
 use Rattle.batch_run.specs.declared.solve.Solver.{Solver}
 use Rattle.batch_run.specs.Choice.{without_diffusions}
-use Rattle.batch_run.specs.Solvers.{graph_of, is_plain}
+use Rattle.batch_run.specs.Stopping.{IsEnoughFor}
+use Rattle.batch_run.specs.Solvers.{graph_of, is_without_diffusions}
 use Rattle.service.specs.Replies.{fault_text}
 
 -- the right answers, as a batch writes them
@@ -23,18 +24,23 @@ abbrev pub IsAnswered : {V : Type 0} → Algebra V → GraphData → Asked → L
 IsAnswered A g asked text =
     (told : AnswerList) × IsAnswerList A g asked told × (text ≡ answers_text told)
 
--- the header, the right answers to the first questions, each whole, and then the fault that stopped the run, which is no failed write
+-- The header, the right answers to the first questions, each whole, and then the fault that stopped
+-- the run, which is no failed write. They are fewer than were asked, or memory ran out and none
+-- were. With one shard, best first, the fault is no limit of turns that is enough for the arcs of
+-- the graph.
 pub record IsStopped {V : Type 0} (A : Algebra V) (plain : Bool) (how : Settings) (gate : ℕ → ℕ → Bool → Type 0) (g : GraphData) (asked : Asked) (text : List ℕ) : Type 0 where
   pub count : ℕ
   pub answers : List AnswerData
   pub right : AreAnswers A g (take count asked.questions) answers
   pub cause : Cause
+  pub fewer : ((number_of cause ≡ 3) × (asked.questions ≡ [])) ⊎ (count < length asked.questions)
   pub may : MayStop plain (Says gate how.workers how.turns) cause
   pub other : cause ≢ Write
+  pub unstalled : how.shards ≡ 1 → how.best_first ≡ true → IsEnoughFor how g → number_of cause ≢ 40
   pub text_is : text ≡ begun_text A asked answers ++ fault_text (number_of cause) 0
 
--- which texts may reply to what is asked, with diffusions or without, where `gate` says what the gate may answer to a
--- worker before a turn
+-- which texts may reply to what is asked, with diffusions or without, where `gate` says what the
+-- gate may answer to a worker before a turn
 abbrev pub MayAnswerAs : {V : Type 0} → Algebra V → (plain : Bool) → Settings → (ℕ → ℕ → Bool → Type 0) → GraphData → Asked → List ℕ → Type 0
 MayAnswerAs A plain how gate g asked text =
     IsAnswered A g asked text ⊎ IsStopped A plain how gate g asked text
@@ -45,4 +51,4 @@ MayAnswer A how = MayAnswerAs A (without_diffusions how) how
 
 -- which of them if this solver answers
 abbrev pub MayAnswerBy : {S V : Type 0} {G : Ghosts S V} → Algebra V → Settings → (ℕ → ℕ → Bool → Type 0) → Solver S V G → Asked → List ℕ → Type 0
-MayAnswerBy A how gate s = MayAnswerAs A (is_plain s) how gate (graph_of s)
+MayAnswerBy A how gate s = MayAnswerAs A (is_without_diffusions s) how gate (graph_of s)

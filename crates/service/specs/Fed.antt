@@ -16,7 +16,8 @@ abbrev pub goes_on : ServiceState → Bool
 goes_on (Gives (Some q)) = true
 goes_on _ = false
 
--- whether a line ended a request or none goes on after it: bytes are counted from 0 again after such a line
+-- whether a line ended a request or none goes on after it: bytes are counted from 0 again after
+-- such a line
 abbrev pub counts_anew : List (Result Asked ℕ) → ServiceState → Bool
 counts_anew [] next = not (goes_on next)
 counts_anew (e ∷ es) next = true
@@ -38,7 +39,8 @@ pub record EndsAnew (n : ℕ) (text : List ℕ) (next : ServiceState) : Type 0 w
   pub may : LineMay n state (fields l) (record { ended = ended; next = next })
   pub anew : counts_anew ended next ≡ true
 
--- These last bytes are all that are counted: those of one request that goes on, and of the present line. No request ends in them.
+-- These last bytes are all that are counted: those of one request that goes on, and of the present
+-- line. No request ends in them.
 pub record IsUnfinished (n : ℕ) (fed : List ℕ) (rs : List Request) (state : ServiceState) (own : List ℕ) : Type 0 where
   pub before : List ℕ
   pub fed_is : fed ≡ before ++ own
@@ -48,7 +50,8 @@ pub record IsUnfinished (n : ℕ) (fed : List ℕ) (rs : List Request) (state : 
   pub made : LinesMay n 1 (Gives None) (lines true before) rs from
   pub goes : LinesGoOn n from (lines true own) state
 
--- the service was fed just these bytes, which make just these requests whole; unless memory ran out, they are `requests true n fed`
+-- the service was fed just these bytes, which make just these requests whole; unless memory ran
+-- out, they are `requests true n fed`
 pub record WasFed (s : Service) (fed : List ℕ) (rs : List Request) : Type 0 where
   pub made : LinesMay s.cutter.taker.questions.list.vertices 1 (Gives None) (lines true fed) rs (parser_state s.cutter.taker)
   pub line : s.line ≡ held_line (1 + length (lines true fed))
@@ -73,12 +76,14 @@ abbrev pub Fed : {X : Type 0} → (Asked → List ℕ → Type 0) → Service �
 Fed answers old new bytes before after =
     (fed : List ℕ) (rs : List Request) → WasFed old fed rs → (more : List Request) × WasFed new (fed ++ bytes) (rs ++ more) × Replied answers more before after
 
--- the service took a prefix of these bytes, and a write failed in the replies to the requests that it makes whole: a prefix of them was written
+-- the service took a prefix of these bytes, and a write failed in the replies to the requests that
+-- it makes whole: a prefix of them was written
 abbrev pub FedPart : {X : Type 0} → (Asked → List ℕ → Type 0) → Service → Service → List ℕ → Output X → Output X → Type 0
 FedPart answers old new bytes before after =
     (fed : List ℕ) (rs : List Request) → WasFed old fed rs → (prefix rest : List ℕ) × (more : List Request) × (bytes ≡ prefix ++ rest) × WasFed new (fed ++ prefix) (rs ++ more) × FellIn answers more before after
 
--- the service took a prefix of these bytes, and replied to just the requests that it makes whole; then one request, or one line, would have more than 2^32 bytes
+-- the service took a prefix of these bytes, and replied to just the requests that it makes whole;
+-- then one request, or one line, would have more than 2^32 bytes
 abbrev pub FedLong : {X : Type 0} → (Asked → List ℕ → Type 0) → Service → Service → List ℕ → Output X → Output X → Type 0
 FedLong answers old new bytes before after =
     (fed : List ℕ) (rs : List Request) → WasFed old fed rs
@@ -123,7 +128,8 @@ BeginsWith left text = IfSome left (λ all. (rest : List ℕ) × (all ≡ text +
 abbrev pub ServedSoFar : {X : Type 0} → (Asked → List ℕ → Type 0) → ℕ → Option (List ℕ) → Option (List ℕ) → Output X → Output X → Type 0
 ServedSoFar answers n left now old new = (text : List ℕ) × (rs : List Request) × Consumes left now text × MakesWhole n text rs × Replied answers rs old new
 
--- the bytes consumed have more than 2^32 in one request, or in one line: just the requests that the bytes before make whole were replied to
+-- the bytes consumed have more than 2^32 in one request, or in one line: just the requests that the
+-- bytes before make whole were replied to
 pub record ServedToLimit {X : Type 0} (answers : Asked → List ℕ → Type 0) (n : ℕ) (left now : Option (List ℕ)) (old new : Output X) : Type 0 where
   -- what was taken, and what was consumed beyond it
   pub text : List ℕ
@@ -140,11 +146,13 @@ pub record ServedToLimit {X : Type 0} (answers : Asked → List ℕ → Type 0) 
   pub is_open : IsUnfinished n text rs next own
   pub full : length own ≡ 4294967296
 
--- a write failed in the replies to the requests that a prefix of the input makes whole, or to all of them
+-- a write failed in the replies to the requests that a prefix of the input makes whole, or to all
+-- of them
 abbrev pub ServedPart : {X : Type 0} → (Asked → List ℕ → Type 0) → ℕ → Option (List ℕ) → Output X → Output X → Type 0
 ServedPart answers n left old new = (text : List ℕ) × (rs : List Request) × BeginsWith left text × (MakesWhole n text rs ⊎ HasRequests n text rs) × FellIn answers rs old new
 
--- the service took what was consumed of its input, and replied to just the requests that it makes whole
+-- the service took what was consumed of its input, and replied to just the requests that it makes
+-- whole
 abbrev pub HasServed : {X : Type 0} → (Asked → List ℕ → Type 0) → Service → Option (List ℕ) → Option (List ℕ) → Output X → Output X → Type 0
 HasServed answers s left now old new = (fed : List ℕ) × (rs : List Request) × Consumes left now fed × WasFed s fed rs × Replied answers rs old new
 

@@ -1,4 +1,5 @@
--- Which texts the answers of a service may give to what is asked, where `may_answer` says what its gate may answer.
+-- Which texts the answers of a service may give to what is asked, where `may_answer` says what its
+-- gate may answer.
 use Rattle.std.specs.Prelude.{ℕ, Bool, List}
 use Rattle.road_graph.specs.GraphData.{GraphData}
 use Rattle.road_files.specs.Asked.{Asked}

@@ -6,3 +6,4 @@ pub mod Giving
 pub mod Fed
 pub mod Served
 pub mod Over
+pub mod Reading

@@ -1,4 +1,5 @@
--- What a service does over a graph that was read, between two states of its input of requests and its output.
+-- What a service does over a graph that was read, between two states of its input of requests and
+-- its output.
 use Rattle.std.specs.Prelude.{◌≡◌, ◌≢◌, ℕ, ◌↔◌, ◌⊎◌, Bool, true, [], Result, Err, OnOk, IfErr}
 use Rattle.std.specs.Io.KnownBytes.{IsAtEnd}
 use Rattle.road_graph.specs.GraphData.{GraphData}
@@ -19,7 +20,8 @@ fault_of_stop Read = record { number = 1; file = Questions; line = 0 }
 fault_of_stop TooLong = record { number = 2; file = Questions; line = 0 }
 fault_of_stop Write = record { number = 42; file = NoFile; line = 0 }
 
--- it is one of the input of requests; or of no input, in no line: memory that was refused while the graph was factored, or a failed write
+-- it is one of the input of requests; or of no input, in no line: memory that was refused while the
+-- graph was factored, or a failed write
 abbrev pub IsOverFault : RunFault → Type 0
 IsOverFault f = ((f.file ≡ Questions) × IsStopOfInput f) ⊎ ((f.file ≡ NoFile) × (f.line ≡ 0) × ((f.number ≡ 3) ⊎ (f.number ≡ 42)))
 

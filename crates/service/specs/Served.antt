@@ -8,7 +8,6 @@ use Rattle.path_algebra.specs.Algebra.{Algebra}
 use Rattle.batch_run.specs.declared.faults.File.TheVariants.{Graph, Questions, NoFile}
 use Rattle.batch_run.specs.declared.faults.RunFault.{RunFault}
 use Rattle.batch_run.specs.declared.settings.Settings.{Settings}
-use Rattle.batch_run.specs.InRange.{AreInRange}
 use Rattle.batch_run.specs.Ran.{IsReadAs, IsGraphFault, IsRoadNumber}
 use Rattle.text_lines.specs.Streams.{Input, Output}
 use Rattle.service.specs.Fed.{Served, ServedSoFar, ServedToLimit, ServedPart}
@@ -38,8 +37,8 @@ pub record RanService {V G Q W : Type 0} (A : Algebra V) (how : Settings) (gate 
   pub stopped : IfErr outcome (λ f. f.file ≡ Questions → f.number ≡ 1 → OverGraph graph.left (λ g.
       ServedSoFar (MayAnswer A how gate g) g.vertices input.left input_after.left
       out out_after))
-  -- 2 is reported of the requests only of one that has more than 2^32 bytes, or of such a line: just
-  -- the requests before it were replied to
+  -- 2 is reported of the requests only of one that has more than 2^32 bytes, or of such a line:
+  -- just the requests before it were replied to
   pub too_long : IfErr outcome (λ f. f.file ≡ Questions → f.number ≡ 2 → OverGraph graph.left (λ g.
       ServedToLimit (MayAnswer A how gate g) g.vertices input.left input_after.left
       out out_after))
@@ -50,20 +49,17 @@ pub record RanService {V G Q W : Type 0} (A : Algebra V) (how : Settings) (gate 
   pub fell : IfErr outcome (λ f. f.number ≡ 42 → OverGraph graph.left (λ g.
       ServedPart (MayAnswer A how gate g) g.vertices input.left
       out out_after))
-  -- 43 is reported if a setting is out of its range,
-  pub refused : (AreInRange how → ⊥) → outcome ≡ Err (record { number = 43; file = NoFile; line = 0 })
-  -- and else only if factors are chosen
-  pub settings : outcome ≡ Err (record { number = 43; file = NoFile; line = 0 }) → (AreInRange how → ⊥) ⊎ (how.factors ≡ true)
   -- a fault of the graph is its first one
   pub graph_fault : IfErr outcome (λ f. f.file ≡ Graph → IsGraphFault graph.left f)
-  -- 3 is reported of the graph only of bytes that fit, after those of all reads but the last, which break no rule
+  -- 3 is reported of the graph only of bytes that fit, after those of all reads but the last, which
+  -- break no rule
   pub graph_memory : IfErr outcome (λ f. f.file ≡ Graph → f.number ≡ 3 → RunsOutAfter (BreaksNone gr_rules) graph.left graph_after.left)
   -- 1 is reported of the graph exactly if a read of it failed
   pub read_graph : (outcome ≡ Err (record { number = 1; file = Graph; line = 0 })) ↔ (graph_after.failures ≢ graph.failures)
   -- and of the requests exactly if a read of them failed
   pub read_input : (outcome ≡ Err (record { number = 1; file = Questions; line = 0 })) ↔ (input_after.failures ≢ input.failures)
-  -- a fault is one of the graph, with a number of its own, one of the input of requests, or one of no
-  -- input: memory that was refused while the graph was factored, a failed write, or a setting
+  -- a fault is one of the graph, with a number of its own, one of the input of requests, or one of
+  -- no input: memory that was refused while the graph was factored, a failed write, or a setting
   pub kinds : IfErr outcome (λ f.
       ((f.file ≡ Graph) × IsRoadNumber f.number)
       ⊎ (((f.file ≡ Questions) × IsStopOfInput f)
@@ -74,7 +70,8 @@ pub record RanService {V G Q W : Type 0} (A : Algebra V) (how : Settings) (gate 
       × OverGraph graph.left (λ g. Unit {0}) × IsAtEnd graph_after.left × (input_after ≡ input) × (out_after ≡ out))
   -- faults 1 to 3 are in no line
   pub placed : IfErr outcome (λ f. f.number ≤ 3 → f.line ≡ 0)
-  -- a fault of the graph is reported before anything of the requests is read, and before anything is written
+  -- a fault of the graph is reported before anything of the requests is read, and before anything
+  -- is written
   pub before_requests : IfErr outcome (λ f. f.file ≡ Graph → (input_after ≡ input) × (out_after ≡ out))
   -- settings are tested before anything is read or written
   pub untouched : IfErr outcome (λ f. f.number ≡ 43 → (graph_after ≡ graph) × (input_after ≡ input) × (out_after ≡ out))

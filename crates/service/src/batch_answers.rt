@@ -14,6 +14,7 @@ use road_files::Questions;
 use std::sync::Wait;
 use std::thread::Threads;
 use text_lines::{RoadWrite, WriteFault};
+use worker_fleet::one_shard_never_stalls;
 
 /// How questions are answered.
 #[derive(Drop)]
@@ -24,7 +25,8 @@ pub(crate) struct BatchAnswers<'r, A: PathAlgebra, R, T> {
 }
 
 impl<A: PathAlgebra, R: Threads + Wait + Sync, T: Gate> BatchAnswers<'_, A, R, T> {
-    /// Writes the right answers; or the first of them, and then the line of the fault that stopped the run.
+    /// Writes the right answers; or the first of them, fewer than all, and then the line of the
+    /// fault that stopped the run.
     pub(crate) fn answer<W: RoadWrite>(
         &self,
         solver: &mut Solver<A>,
@@ -38,8 +40,11 @@ impl<A: PathAlgebra, R: Threads + Wait + Sync, T: Gate> BatchAnswers<'_, A, R, T
             (asked_of questions.now) text ×
             WritesText (W.seen out.old) (W.seen out.new) text result }
     {
+        // Laws for the proof: right answers exist, the first of them begin all, one shard does not
+        // stall, and a graph is one.
         answers_exist(self.algebra);
         first_answers_begin_all(self.algebra);
+        one_shard_never_stalls(self.algebra, self.run.gate);
         let _ = solver.vertices();
         let batch = Batch {
             run: self.run,

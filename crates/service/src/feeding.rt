@@ -81,7 +81,8 @@ impl Service {
         send_done(answers, solver, done, line, out)
     }
 
-    /// Takes the next bytes, and replies, in order, to just those requests that the bytes so far make whole.
+    /// Takes the next bytes, and replies, in order, to just those requests that the bytes so far
+    /// make whole.
     pub fn feed<A: PathAlgebra, R: Threads + Wait + Sync, T: Gate, W: RoadWrite>(
         &mut self,
         answers: &BatchAnswers<'_, A, R, T>,
@@ -145,7 +146,8 @@ impl Service {
         Ok(())
     }
 
-    /// Takes the end of the text, and replies to the requests that end with it: one that goes on has too few lines.
+    /// Takes the end of the text, and replies to the requests that end with it: one that goes on
+    /// has too few lines.
     pub fn finish<A: PathAlgebra, R: Threads + Wait + Sync, T: Gate, W: RoadWrite>(
         mut self,
         answers: &BatchAnswers<'_, A, R, T>,

@@ -9,7 +9,8 @@ ghost use Rattle.road_files.specs.ServiceText.{Request, ServiceState, LinesMay, 
 ghost use Rattle.service.specs.Replies.{IsNotOutOfMemory};
 ghost use Rattle.service.specs.RequestTexts.{IsTextIn};
 
-/// Bytes make the same requests whole whatever comes after them: the requests of a prefix are a prefix of the requests.
+/// Bytes make the same requests whole whatever comes after them: the requests of a prefix are a
+/// prefix of the requests.
 #[tactic(auto, using(crate::proofs::RequestLaws::prefix_first))]
 pub fn requests_stay()
     ensures { (cut : Bool) (n : ℕ) (bytes more : List ℕ) → (later : List Request) ×
@@ -23,7 +24,8 @@ pub fn requests_are_texts()
         (IsTextIn n 1 (lines cut bytes)) (requests cut n bytes) }
 {}
 
-/// Question files one after the other, each ending at a line's end, are one request each, which asks what the file asks.
+/// Question files one after the other, each ending at a line's end, are one request each, which
+/// asks what the file asks.
 #[tactic(auto, using(crate::proofs::FileLaws::row_of_files))]
 pub fn files_are_requests()
     ensures { (cut : Bool) (n : ℕ) (files : List (List ℕ)) (asks : List Asked) → AllZip (IsFileOf n)

@@ -6,15 +6,19 @@ ghost use Rattle.batch_run.specs.Causes.{number_of};
 ghost use Rattle.batch_run.specs.Choice.{without_diffusions};
 ghost use Rattle.batch_run.specs.Factored.{HasFactorsOf, is_by_factors};
 ghost use Rattle.batch_run.specs.InRange.{AreInRange};
-ghost use Rattle.batch_run.specs.Solvers.{IsSameSolver, graph_of, is_plain};
+ghost use Rattle.batch_run.specs.Solvers.{IsSameSolver, graph_of, is_without_diffusions};
+ghost use Rattle.batch_run.specs.Unsuited.{IsRefusedUnsuited};
+ghost use Rattle.service.specs.Answering.{MayAnswer};
 ghost use Rattle.service.specs.Over.{RanOver, fault_of_stop};
+ghost use Rattle.service.specs.Reading.{ToldOfService, ToldReads};
 ghost use Rattle.service.specs.Served.{RanService};
 
 use crate::batch_answers::BatchAnswers;
+use crate::read_watcher::ReadWatcher;
 use crate::serving::{Stopped, serve};
 use batch_run::{
     Cause, FactorSolver, File, Gate, PlainSolver, Run, RunFault, SETTINGS, Solver, SolverKind,
-    WRITE, WorkerSolver, fault_in, fault_of_run,
+    Unwatched, WRITE, WorkerSolver, fault_in, fault_of_run,
 };
 use graph_text::read_gr_as;
 use path_algebra::PathAlgebra;
@@ -37,7 +41,7 @@ fn read_solver<A: PathAlgebra, G: RoadRead, R, T>(
 ) -> Result<Solver<A>, ReadFault>
     ensures reads { ReadsText (G.seen graph_in.old) (G.seen graph_in.new) gr_rules graph_of
         10 19 result }
-    ensures kind { IfOk result (λ s. is_plain s ≡ without_diffusions run.now.settings.now) }
+    ensures kind { IfOk result (λ s. is_without_diffusions s ≡ without_diffusions run.now.settings.now) }
     ensures factors { IfOk result (λ s. is_by_factors s ≡ run.now.settings.now.factors) }
 {
     match run.settings.solver() {
@@ -85,40 +89,56 @@ fn fault_of_stop(stop: Stopped) -> RunFault
     }
 }
 
-/// Replies to each request of an input over the graph of a solver, which is factored first if factors are to answer.
-fn serve_over<A: PathAlgebra, Q: RoadRead, W: RoadWrite, R: Threads + Wait + Sync, T: Gate>(
+/// Replies to each request of an input over the graph of a solver, which is factored first if
+/// factors are to answer. The watcher is told at each read.
+fn serve_over<
+    A: PathAlgebra,
+    Q: RoadRead,
+    W: RoadWrite,
+    R: Threads + Wait + Sync,
+    T: Gate,
+    O: ReadWatcher<Q, W>,
+>(
     run: &Run<'_, R, T>,
     algebra: A,
     solver: &mut Solver<A>,
     requests_in: &mut Q,
     out: &mut W,
+    watcher: &mut O,
 ) -> Result<(), RunFault>
     requires in_range { AreInRange run.now.settings.now }
-    requires kind { is_plain solver.old ≡ without_diffusions run.now.settings.now }
+    requires kind { is_without_diffusions solver.old ≡ without_diffusions run.now.settings.now }
     requires factors { is_by_factors solver.old ≡ run.now.settings.now.factors }
     ensures ran { RanOver (A.meaning algebra) run.now.settings.now (T.may_answer run.now.gate.now)
         (graph_of solver.old) (Q.seen requests_in.old) (Q.seen requests_in.new) (W.seen out.old)
         (W.seen out.new) result }
+    ensures told { ToldReads (MayAnswer (A.meaning algebra) run.now.settings.now
+        (T.may_answer run.now.gate.now) (graph_of solver.old)) (graph_of solver.old).vertices
+        O.may_become watcher.old watcher.new (Q.seen requests_in.old) (Q.seen requests_in.new)
+        (W.seen out.old) }
 {
     factor_graph(run, algebra, solver)?;
     let answers = BatchAnswers { run, algebra };
-    match serve(&answers, solver, requests_in, out) {
+    match serve(&answers, solver, requests_in, out, watcher) {
         Ok(()) => Ok(()),
         Err(stop) => Err(fault_of_stop(stop)),
     }
 }
 
-/// Reads a graph from one input, and replies to each request of another input as soon as it is whole.
+/// Reads a graph from one input, and replies to each request of another input as soon as it is
+/// whole.
 ///
-/// A request is a question text: a problem line and its lines. The reply is the text of its answers, as a batch writes
-/// it. The output is then flushed, before any further byte is waited for. A fault of a request ends its reply with a
-/// line `f NUMBER LINE`, LINE counted through the whole input, and the service goes on with the next problem line. A
-/// fault of the run (3, 40, 41) does the same, with LINE 0.
+/// A request is a question text: a problem line and its lines. The reply is the text of its
+/// answers, as a batch writes it. The output is then flushed, before any further byte is waited
+/// for. A fault of a request ends its reply with a line `f NUMBER LINE`, LINE counted through the
+/// whole input, and the service goes on with the next problem line. A fault of the run (3, 40, 41)
+/// does the same, with LINE 0.
 ///
-/// The settings are tested first (43), and if they choose factors, whether the algebra has any (43 too). Then the graph is
-/// read, and factored, if they choose that. A fault of the graph, or want of memory while it is factored (3, of no input), is
-/// reported before any request is read. The service ends at the end of the input, after a failed read (1), at a request with
-/// more than 2^32 bytes (2), or after a failed write or flush (42).
+/// The settings are tested first (43), and if they choose factors, whether the algebra has a cost
+/// (43 too). Then the graph is read, and factored, if they choose that. A fault of the graph, or
+/// want of memory while it is factored (3, of no input), is reported before any request is read.
+/// The service ends at the end of the input, after a failed read (1), at a request with more than
+/// 2^32 bytes (2), or after a failed write or flush (42).
 pub fn run_service<
     A: PathAlgebra,
     G: RoadRead,
@@ -136,12 +156,43 @@ pub fn run_service<
     ensures ran { RanService (A.meaning algebra) run.now.settings.now
         (T.may_answer run.now.gate.now) (G.seen graph_in.old) (G.seen graph_in.new)
         (Q.seen requests_in.old) (Q.seen requests_in.new) (W.seen out.old) (W.seen out.new) result }
+    ensures suited { IsRefusedUnsuited (A.arc_cost algebra) run.now.settings.now result }
+{
+    run_service_watched(run, algebra, graph_in, requests_in, out, &mut Unwatched)
+}
+
+/// Does what `run_service` does, and tells a watcher at each read of the requests, before it: just
+/// the requests that the bytes read so far make whole have been replied to then, and nothing is
+/// left buffered in the output.
+pub fn run_service_watched<
+    A: PathAlgebra,
+    G: RoadRead,
+    Q: RoadRead,
+    W: RoadWrite,
+    R: Threads + Wait + Sync,
+    T: Gate,
+    O: ReadWatcher<Q, W>,
+>(
+    run: &Run<'_, R, T>,
+    algebra: A,
+    graph_in: &mut G,
+    requests_in: &mut Q,
+    out: &mut W,
+    watcher: &mut O,
+) -> Result<(), RunFault>
+    ensures ran { RanService (A.meaning algebra) run.now.settings.now
+        (T.may_answer run.now.gate.now) (G.seen graph_in.old) (G.seen graph_in.new)
+        (Q.seen requests_in.old) (Q.seen requests_in.new) (W.seen out.old) (W.seen out.new) result }
+    ensures suited { IsRefusedUnsuited (A.arc_cost algebra) run.now.settings.now result }
+    ensures told { ToldOfService (A.meaning algebra) run.now.settings.now
+        (T.may_answer run.now.gate.now) O.may_become watcher.old watcher.new
+        (G.seen graph_in.old) (Q.seen requests_in.old) (Q.seen requests_in.new) (W.seen out.old) }
 {
     if !run.settings.suit(algebra) {
         return Err(fault_of_run(SETTINGS));
     }
     match read_solver(run, graph_in) {
-        Ok(mut solver) => serve_over(run, algebra, &mut solver, requests_in, out),
+        Ok(mut solver) => serve_over(run, algebra, &mut solver, requests_in, out, watcher),
         Err(fault) => Err(fault_in(File::Graph, fault)),
     }
 }

@@ -3,11 +3,13 @@ ghost use Rattle.std.specs.Prelude.{◌≡◌, ◌≢◌, ℕ, ◌≤◌, ◌+�
 ghost use Rattle.std.specs.Io.KnownBytes.{IsAtEnd, ReadConsumes};
 ghost use Rattle.service.specs.Giving.{MayGiveOver};
 ghost use Rattle.batch_run.specs.Choice.{without_diffusions};
-ghost use Rattle.batch_run.specs.Solvers.{graph_of, is_plain};
+ghost use Rattle.batch_run.specs.Solvers.{graph_of, is_without_diffusions};
 ghost use Rattle.service.specs.Fed.{Served, ServedSoFar, ServedToLimit, ServedPart};
+ghost use Rattle.service.specs.Reading.{ToldReads};
 
 use crate::batch_answers::BatchAnswers;
 use crate::feeding::Unfed;
+use crate::read_watcher::ReadWatcher;
 use crate::service::Service;
 use batch_run::{Gate, Solver};
 use path_algebra::PathAlgebra;
@@ -29,29 +31,43 @@ pub(crate) enum Stopped {
     TooLong,
 }
 
-/// Reads the next piece. At each read nothing is left buffered in the output.
-fn read_piece<I: RoadRead, W: RoadWrite>(
+/// Reads the next piece, and tells the watcher before. At each read nothing is left buffered in the
+/// output.
+fn read_piece<I: RoadRead, W: RoadWrite, O: ReadWatcher<I, W>>(
     input: &mut I,
-    _out: &W,
+    out: &W,
+    watcher: &mut O,
     buffer: &mut [u8],
 ) -> Result<usize, ReadFailed>
-    requires { (W.seen _out.now).held ≡ [] }
+    requires { (W.seen out.now).held ≡ [] }
+    ensures told { O.may_become watcher.old (I.seen input.old) (W.seen out.now) watcher.new }
+    ensures counted { (I.seen input.new).asked ≡ (I.seen input.old).asked + 1 }
     ensures bound { IfOk result (λ n. n ≤ length buffer.new) }
     ensures bytes { ReadConsumes (I.seen input.old).left (I.seen input.new).left result buffer.new }
     ensures sound { OnOk result ((I.seen input.new).failures ≡ (I.seen input.old).failures) }
     ensures failed { OnErr result ((I.seen input.new).failures ≡ (I.seen input.old).failures + 1) }
 {
+    watcher.before_read(input, out);
     input.read(buffer)
 }
 
-/// Replies to each request of an input, over the graph of the solver, as soon as it is whole.
-pub(crate) fn serve<A: PathAlgebra, I: RoadRead, W: RoadWrite, R: Threads + Wait + Sync, T: Gate>(
+/// Replies to each request of an input, over the graph of the solver, as soon as it is whole. The
+/// watcher is told at each read.
+pub(crate) fn serve<
+    A: PathAlgebra,
+    I: RoadRead,
+    W: RoadWrite,
+    R: Threads + Wait + Sync,
+    T: Gate,
+    O: ReadWatcher<I, W>,
+>(
     answers: &BatchAnswers<'_, A, R, T>,
     solver: &mut Solver<A>,
     input: &mut I,
     out: &mut W,
+    watcher: &mut O,
 ) -> Result<(), Stopped>
-    requires kind { is_plain solver.old ≡ without_diffusions answers.now.run.now.settings.now }
+    requires kind { is_without_diffusions solver.old ≡ without_diffusions answers.now.run.now.settings.now }
     ensures served { OnOk result (Served (MayGiveOver A.meaning T.may_answer answers.now (graph_of
         solver.old)) (graph_of solver.old).vertices (I.seen input.old).left (W.seen out.old) (W.seen
         out.new)) }
@@ -69,6 +85,9 @@ pub(crate) fn serve<A: PathAlgebra, I: RoadRead, W: RoadWrite, R: Threads + Wait
     ensures end { OnOk result (IsAtEnd (I.seen input.new).left) }
     ensures sound { result ≢ Err Stopped.Read → (I.seen input.new).failures ≡
         (I.seen input.old).failures }
+    ensures told { ToldReads (MayGiveOver A.meaning T.may_answer answers.now (graph_of solver.old))
+        (graph_of solver.old).vertices O.may_become watcher.old watcher.new (I.seen input.old)
+        (I.seen input.new) (W.seen out.old) }
 {
     match out.flush() {
         Ok(()) => {}
@@ -77,7 +96,7 @@ pub(crate) fn serve<A: PathAlgebra, I: RoadRead, W: RoadWrite, R: Threads + Wait
     let mut service = Service::new(answers.run.alloc, solver.vertices());
     let mut buffer = [0u8; BUFFER];
     for _ in answers.run.rt.forever() {
-        match read_piece(input, out, &mut buffer) {
+        match read_piece(input, out, watcher, &mut buffer) {
             Err(_) => return Err(Stopped::Read),
             Ok(0) => match service.finish(answers, solver, out) {
                 Ok(()) => return Ok(()),

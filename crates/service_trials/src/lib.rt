@@ -9,3 +9,5 @@ mod asking;
 mod replies;
 #[cfg(test)]
 mod stops;
+#[cfg(test)]
+mod watched;

@@ -83,7 +83,8 @@ fn a_fault_of_the_graph_comes_first(rt: HostRuntime) {
     assert_eq!(rt; out.into_inner().len(), 0);
 }
 
-/// Whatever growth is refused while the graph is read and factored, no request is read: the first read would fail.
+/// Whatever growth is refused while the graph is read and factored, no request is read: the first
+/// read would fail.
 #[test]
 fn want_of_memory_comes_before_the_first_read(rt: HostRuntime) {
     let mut input = Pieces::new(b"", 1, true);
@@ -119,7 +120,8 @@ fn a_setting_out_of_its_range(rt: HostRuntime) {
     assert_eq!(rt; out.into_inner().len(), 0);
 }
 
-/// Asserts that the reply to each request that workers answer is stopped, and that the service goes on.
+/// Asserts that the reply to each request that workers answer is stopped, and that the service goes
+/// on.
 fn assert_stops(
     rt: &(impl Abort + AllocGlobal + Threads + Wait + Sync),
     turns: u64,

@@ -23,7 +23,8 @@ use std::sync::Wait;
 use std::thread::Threads;
 use worker_fleet::{Gate, GroupFault, GroupSettings, run_group};
 
-/// A floor, and its stations, for a diffusion from a source. Its shards are held back as the pace says.
+/// A floor, and its stations, for a diffusion from a source. Its shards are held back as the pace
+/// says.
 fn open_at_pace<'g, A: PathAlgebra>(
     alloc: Global,
     algebra: A,
@@ -123,7 +124,8 @@ fn gathered_from<'g, A: PathAlgebra, R, T>(
     })
 }
 
-/// Runs diffusions from each source to their end, together, and gathers each; the one from the first source comes last.
+/// Runs diffusions from each source to their end, together, and gathers each; the one from the
+/// first source comes last.
 pub(crate) fn run_together<A: PathAlgebra, R: Threads + Wait, T: Gate>(
     batch: &BatchOver<'_, A, Graph, R, T>,
     plan: &Plan,

@@ -13,8 +13,8 @@ use std::sync::Wait;
 use std::thread::Threads;
 use worker_fleet::{Gate, GroupFault};
 
-/// The best values over all walks from some source of the question at a place: of each source a diffusion of its own, reported for
-/// the question, and then these merged.
+/// The best values over all walks from some source of the question at a place: of each source a
+/// diffusion of its own, reported for the question, and then these merged.
 pub(crate) fn merge_all<A: PathAlgebra, R: Threads + Wait, T: Gate, O: Watcher>(
     batch: &BatchOver<'_, A, Graph, R, T>,
     queue: &mut DiffusionQueue<A::Value>,

@@ -6,7 +6,8 @@ use crate::settings::Settings;
 use road_graph::{ArcNo, Graph};
 use shard_part::QueueOrder;
 
-/// In which order parts take their items, and by what weight a shard may run ahead of the others, if it is held back.
+/// In which order parts take their items, and by what weight a shard may run ahead of the others,
+/// if it is held back.
 #[derive(Clone, Copy)]
 pub(crate) struct Pace {
     pub(crate) order: QueueOrder,
@@ -14,7 +15,8 @@ pub(crate) struct Pace {
 }
 
 impl Pace {
-    /// The pace that settings ask for. Best first, a shard may run ahead by a fifth of the mean weight of the arcs, unless they say by what weight.
+    /// The pace that settings ask for. Best first, a shard may run ahead by a fifth of the mean
+    /// weight of the arcs, unless they say by what weight.
     pub(crate) fn of(settings: &Settings, graph: &Graph) -> Pace
         ensures { result.order ≡ order_of settings.now }
     {

@@ -1,4 +1,5 @@
-//! The diffusions of a batch, one after the other: several are run together, and wait here until they are asked for.
+//! The diffusions of a batch, one after the other: several are run together, and wait here until
+//! they are asked for.
 ghost use Rattle.std.specs.Prelude.{◌≡◌, ◌≤◌, ◌+◌, [], ◌∷◌, length, IfOk, IfErr, OnOk, OnErr};
 ghost use Rattle.path_algebra.specs.Walks.{AreBest};
 ghost use Rattle.road_files.specs.Asked.{asked_of};
@@ -73,7 +74,8 @@ fn take_next<A: PathAlgebra, R: Threads + Wait, T: Gate>(
     Ok(next)
 }
 
-/// The labels of the next diffusion, which is the one from source j of question i. It is reported with its counts.
+/// The labels of the next diffusion, which is the one from source j of question i. It is reported
+/// with its counts.
 pub(crate) fn next_labels<A: PathAlgebra, R: Threads + Wait, T: Gate, O: Watcher>(
     batch: &BatchOver<'_, A, Graph, R, T>,
     queue: &mut DiffusionQueue<A::Value>,

@@ -5,7 +5,8 @@ ghost use Rattle.batch_run.specs.Reports.{count_diffusions};
 
 use road_files::Questions;
 
-/// How many diffusions a batch has, one from each source of each question: none if the plain solver answers.
+/// How many diffusions a batch has, one from each source of each question: none if the plain solver
+/// answers.
 pub(crate) fn count_diffusions(questions: &Questions, plain: bool) -> u64
     requires { (vertices : ℕ) × AreQuestionsOf vertices questions.now }
     ensures { result ≡ count_diffusions plain (asked_of questions.now).questions }

@@ -89,7 +89,8 @@ fn solve_by_workers<A: PathAlgebra, R: Threads + Wait, T: Gate, O: Watcher>(
 }
 
 impl<V: Copy> WorkerSolver<V> {
-    /// The solver over a graph, which is indexed. If memory is refused for that, workers look for arcs instead.
+    /// The solver over a graph, which is indexed. If memory is refused for that, workers look for
+    /// arcs instead.
     pub fn new(alloc: Global, mut graph: Graph) -> Self
         ensures { result.graph ≡ graph }
     {

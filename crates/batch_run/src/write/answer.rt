@@ -18,7 +18,8 @@ use road_graph::Vertex;
 use route_tree::Tree;
 use text_lines::{RoadWrite, WriteFault};
 
-/// Writes the right answer to a question from one source to all vertices, by the tree of its best labels.
+/// Writes the right answer to a question from one source to all vertices, by the tree of its best
+/// labels.
 fn answer_source<A: PathAlgebra, W: RoadWrite>(
     algebra: A,
     solver: &Solver<A>,
@@ -37,7 +38,8 @@ fn answer_source<A: PathAlgebra, W: RoadWrite>(
     write_lines(out, algebra, n, labels, tree)
 }
 
-/// Writes the right answer to a question from several sources to all vertices, by the tree of its best labels.
+/// Writes the right answer to a question from several sources to all vertices, by the tree of its
+/// best labels.
 fn answer_sources<A: PathAlgebra, W: RoadWrite>(
     algebra: A,
     solver: &Solver<A>,

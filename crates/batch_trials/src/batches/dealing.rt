@@ -8,7 +8,8 @@ use std::sync::Wait;
 use std::sync::atomic::{AtomicU64, Ordering};
 use std::thread::Threads;
 
-/// Asserts which is the greatest worker that makes a turn, if three questions over one shard are dealt to five.
+/// Asserts which is the greatest worker that makes a turn, if three questions over one shard are
+/// dealt to five.
 fn assert_greatest_worker(
     rt: &(impl Abort + AllocGlobal + Threads + Wait + Sync),
     dealing: Dealing,

@@ -1,4 +1,5 @@
-//! Batches that are answered by factors: the same bytes, what is told of the factors, and what refuses them.
+//! Batches that are answered by factors: the same bytes, what is told of the factors, and what
+//! refuses them.
 use super::reports::{answered, assert_notes, assert_reports, begun, watch_pair};
 use super::{FIVE, FROM_ONE, PAIRS, SHORTEST, THRICE, assert_answered, assert_ended, run_two};
 use crate::tolls::Tolls;

@@ -147,7 +147,8 @@ fn assert_unread(rt: &(impl Abort + AllocGlobal + Threads + Wait + Sync), prefix
     );
 }
 
-/// Asserts that two inputs of which the second fails, and perhaps the first, are refused for one of them.
+/// Asserts that two inputs of which the second fails, and perhaps the first, are refused for one of
+/// them.
 fn assert_pair_unread(
     rt: &(impl Abort + AllocGlobal + Threads + Wait + Sync),
     graph_fails: bool,
@@ -174,7 +175,8 @@ fn a_reader_that_fails(rt: HostRuntime) {
     assert_pair_unread(&rt, false, File::Questions);
 }
 
-/// Asserts that a writer with room for this prefix of the answers takes just that, and how the batch ends.
+/// Asserts that a writer with room for this prefix of the answers takes just that, and how the
+/// batch ends.
 fn assert_prefix(
     rt: &(impl Abort + AllocGlobal + Threads + Wait + Sync),
     text: &str,

@@ -1,4 +1,5 @@
-//! What stops a batch on workers at a gate; limits of turns are tried on the built program (`system_tests/worked`).
+//! What stops a batch on workers at a gate; limits of turns are tried on the built program
+//! (`system_tests/worked`).
 use super::gates::{Closed, ClosedAt, ClosedTo, FalseOnce};
 use super::workers::{SLOW, assert_ends};
 use super::{FIVE, FROM_ONE, SHORTEST, SHORTEST_THRICE, THRICE, assert_ended, run_at};
@@ -43,7 +44,8 @@ fn a_gate_that_closes(rt: HostRuntime) {
     assert_ends(&rt, FROM_ONE, &SLOW, &ClosedAt(19), Ok(()), SHORTEST);
 }
 
-/// Three questions of 18 turns each: the one in whose turn the gate answers `false` is not answered, and the gate is not asked again.
+/// Three questions of 18 turns each: the one in whose turn the gate answers `false` is not
+/// answered, and the gate is not asked again.
 #[test]
 fn a_gate_that_answers_false_once(rt: HostRuntime) {
     for &(after, written) in &[

@@ -139,7 +139,8 @@ fn turns_asked<A: PathAlgebra>(
     gate.counts().0
 }
 
-/// Asserts that the gate of one worker is asked as often as the stations of a question turn when nobody drives them.
+/// Asserts that the gate of one worker is asked as often as the stations of a question turn when
+/// nobody drives them.
 fn assert_turns_agree<A: PathAlgebra>(
     rt: &(impl Abort + AllocGlobal + Threads + Wait + Sync),
     algebra: A,
@@ -169,7 +170,8 @@ fn turns_agree(rt: HostRuntime) {
     assert_turns_agree(&rt, Widest, WALK);
 }
 
-/// Asserts how often the gate of one worker is asked, and its greatest turn, until questions over `FIVE` are answered.
+/// Asserts how often the gate of one worker is asked, and its greatest turn, until questions over
+/// `FIVE` are answered.
 fn assert_asked(
     rt: &(impl Abort + AllocGlobal + Threads + Wait + Sync),
     questions: &str,
@@ -192,7 +194,8 @@ fn turns_from(rt: &(impl Abort + AllocGlobal), graph: &Graph, source: u32) -> u6
     turns
 }
 
-/// Nine messages and nine signals: with two items a turn half as many turns, and with 1,024 fewer than that.
+/// Nine messages and nine signals: with two items a turn half as many turns, and with 1,024 fewer
+/// than that.
 #[test]
 fn budgets_are_kept(rt: HostRuntime) {
     let graph = graph_of(&rt, FIVE);

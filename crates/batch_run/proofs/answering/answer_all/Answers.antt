@@ -7,7 +7,7 @@ use Rattle.batch_run.specs.Answered.{WroteNext}
 use Rattle.batch_run.specs.Batches.{MayStopBatch}
 use Rattle.batch_run.specs.Reports.{count_diffusions}
 use Rattle.batch_run.specs.Factored.{MayTell}
-use Rattle.batch_run.specs.Solvers.{graph_of, is_plain}
+use Rattle.batch_run.specs.Solvers.{graph_of, is_without_diffusions}
 use Rattle.batch_run.proofs.AnsweredFirst.{start, answered, stopped_first, stopped_at, stopped_for_memory, all_answered}
 use Rattle.batch_run.proofs.Reporting.{begun as reports_begun}
 use Rattle.batch_run.proofs.Telling.{some_told}
@@ -26,7 +26,7 @@ returns-in_err-begin-clause-answered g c =
 pub returns-in_err-begin-clause-reported : goal.returns-in_err-begin-clause-reported
 returns-in_err-begin-clause-reported g c =
     let told = some_told c.args.solver.now in
-    unreported (g.A.PathAlgebra.meaning c.args.batch.now.algebra) c.args.batch.now.run.now.settings.now (graph_of c.args.solver.now) (asked_of c.args.batch.now.questions.now) (is_plain c.args.solver.now) (MayTell c.args.solver.now) g.O.Watcher.may_become _ _ told.0 told.1 _ _ c.in_err-begin.ensures.unreported
+    unreported (g.A.PathAlgebra.meaning c.args.batch.now.algebra) c.args.batch.now.run.now.settings.now (graph_of c.args.solver.now) (asked_of c.args.batch.now.questions.now) (is_without_diffusions c.args.solver.now) (MayTell c.args.solver.now) g.O.Watcher.may_become _ _ told.0 told.1 _ _ c.in_err-begin.ensures.unreported
 
 pub returns-in_err-start-clause-answered : goal.returns-in_err-start-clause-answered
 returns-in_err-start-clause-answered g c =
@@ -38,10 +38,10 @@ returns-in_err-start-clause-answered g c =
 pub returns-in_err-start-clause-reported : goal.returns-in_err-start-clause-reported
 returns-in_err-start-clause-reported g c =
     let told = some_told c.args.solver.now in
-    only_begun (g.A.PathAlgebra.meaning c.args.batch.now.algebra) c.args.batch.now.run.now.settings.now (graph_of c.args.solver.now) (asked_of c.args.batch.now.questions.now) (is_plain c.args.solver.now) (MayTell c.args.solver.now) g.O.Watcher.may_become _ _ told.0 told.1 _
+    only_begun (g.A.PathAlgebra.meaning c.args.batch.now.algebra) c.args.batch.now.run.now.settings.now (graph_of c.args.solver.now) (asked_of c.args.batch.now.questions.now) (is_without_diffusions c.args.solver.now) (MayTell c.args.solver.now) g.O.Watcher.may_become _ _ told.0 told.1 _
     (at_least (g.A.PathAlgebra.meaning c.args.batch.now.algebra) (graph_of c.args.solver.now) (asked_of c.args.batch.now.questions.now) 0 _ _ (start (g.A.PathAlgebra.meaning c.args.batch.now.algebra) (graph_of c.args.solver.now) (asked_of c.args.batch.now.questions.now) _ _ c.in_ok-begin.ensures.wrote)) _
-    (reports_begun (g.A.PathAlgebra.meaning c.args.batch.now.algebra) c.args.batch.now.run.now.settings.now (graph_of c.args.solver.now) g.O.Watcher.may_become (is_plain c.args.solver.now) (asked_of c.args.batch.now.questions.now).questions _ _ _ _ refl
-    (ap (λ b. count_diffusions b (asked_of c.args.batch.now.questions.now).questions) c.is_plain-plain.ensures) c.in_ok-begin.ensures.reported)
+    (reports_begun (g.A.PathAlgebra.meaning c.args.batch.now.algebra) c.args.batch.now.run.now.settings.now (graph_of c.args.solver.now) g.O.Watcher.may_become (is_without_diffusions c.args.solver.now) (asked_of c.args.batch.now.questions.now).questions _ _ _ _ refl
+    (ap (λ b. count_diffusions b (asked_of c.args.batch.now.questions.now).questions) c.is_without_diffusions-plain.ensures) c.in_ok-begin.ensures.reported)
 
 pub answer_next-requires-clause-within : goal.answer_next-requires-clause-within
 answer_next-requires-clause-within g c κs within = rw c.loop-i.invariant.same.graph c.requires.within
@@ -53,11 +53,11 @@ loop-i-init g c =
       answered = header;
       ready = c.in_ok-start.ensures.ready;
       same = c.in_ok-start.ensures.same;
-      first = until_first (g.A.PathAlgebra.meaning c.args.batch.now.algebra) c.args.batch.now.run.now.settings.now (graph_of c.args.solver.now) (asked_of c.args.batch.now.questions.now) (is_plain c.args.solver.now) (MayTell c.args.solver.now) g.O.Watcher.may_become _ _ c.factoring.result
+      first = until_first (g.A.PathAlgebra.meaning c.args.batch.now.algebra) c.args.batch.now.run.now.settings.now (graph_of c.args.solver.now) (asked_of c.args.batch.now.questions.now) (is_without_diffusions c.args.solver.now) (MayTell c.args.solver.now) g.O.Watcher.may_become _ _ c.factoring.result
           (record { moment = c.start.new.solver; graph = c.in_ok-start.ensures.same.graph; kind = c.in_ok-start.ensures.kind; is_true = c.factoring.ensures }) _
           (at_least (g.A.PathAlgebra.meaning c.args.batch.now.algebra) (graph_of c.args.solver.now) (asked_of c.args.batch.now.questions.now) 0 _ _ header) _
-          (reports_begun (g.A.PathAlgebra.meaning c.args.batch.now.algebra) c.args.batch.now.run.now.settings.now (graph_of c.args.solver.now) g.O.Watcher.may_become (is_plain c.args.solver.now) (asked_of c.args.batch.now.questions.now).questions _ _ _ _ refl
-          (ap (λ b. count_diffusions b (asked_of c.args.batch.now.questions.now).questions) c.is_plain-plain.ensures) c.in_ok-begin.ensures.reported) _ c.report_factoring.ensures.some c.report_factoring.ensures.none;
+          (reports_begun (g.A.PathAlgebra.meaning c.args.batch.now.algebra) c.args.batch.now.run.now.settings.now (graph_of c.args.solver.now) g.O.Watcher.may_become (is_without_diffusions c.args.solver.now) (asked_of c.args.batch.now.questions.now).questions _ _ _ _ refl
+          (ap (λ b. count_diffusions b (asked_of c.args.batch.now.questions.now).questions) c.is_without_diffusions-plain.ensures) c.in_ok-begin.ensures.reported) _ c.report_factoring.ensures.some c.report_factoring.ensures.none;
     }
 
 pub loop-i-preserved : goal.loop-i-preserved
@@ -71,7 +71,7 @@ loop-i-preserved g c =
       answered = first;
       ready = next.ready;
       same = record { graph = next.same.graph ∙ was.same.graph; kind = next.same.kind ∙ was.same.kind };
-      first = until_next (g.A.PathAlgebra.meaning c.args.batch.now.algebra) c.args.batch.now.run.now.settings.now (graph_of c.args.solver.now) (asked_of c.args.batch.now.questions.now) (is_plain c.args.solver.now) (MayTell c.args.solver.now) g.O.Watcher.may_become _ _ c.loop-i.i _ _ was.first (FromSource 0) _ _ (answer_text wrote.0) (search rules)
+      first = until_next (g.A.PathAlgebra.meaning c.args.batch.now.algebra) c.args.batch.now.run.now.settings.now (graph_of c.args.solver.now) (asked_of c.args.batch.now.questions.now) (is_without_diffusions c.args.solver.now) (MayTell c.args.solver.now) g.O.Watcher.may_become _ _ c.loop-i.i _ _ was.first (FromSource 0) _ _ (answer_text wrote.0) (search rules)
           (rw (was.same.graph, was.same.kind) at (next.reported (FromSource 0))) wrote.2 first;
     }
 
@@ -95,7 +95,7 @@ pub returns-in_err-answer_next-clause-reported : goal.returns-in_err-answer_next
 returns-in_err-answer_next-clause-reported g c =
     let was = c.loop-i.invariant in
     let next = c.in_err-answer_next.ensures in
-    until_stopped (g.A.PathAlgebra.meaning c.args.batch.now.algebra) c.args.batch.now.run.now.settings.now (graph_of c.args.solver.now) (asked_of c.args.batch.now.questions.now) (is_plain c.args.solver.now) (MayTell c.args.solver.now) g.O.Watcher.may_become _ _ c.loop-i.i _ _ was.first (FromSource 0) _ _ c.in_err-answer_next.field-0.0 (search rules)
+    until_stopped (g.A.PathAlgebra.meaning c.args.batch.now.algebra) c.args.batch.now.run.now.settings.now (graph_of c.args.solver.now) (asked_of c.args.batch.now.questions.now) (is_without_diffusions c.args.solver.now) (MayTell c.args.solver.now) g.O.Watcher.may_become _ _ c.loop-i.i _ _ was.first (FromSource 0) _ _ c.in_err-answer_next.field-0.0 (search rules)
     (rw (was.same.graph, was.same.kind) at (next.unreported (FromSource 0)))
     (subst (λ (r : GraphData). WroteNext (g.A.PathAlgebra.meaning c.args.batch.now.algebra) r (get_or (asked_of c.args.batch.now.questions.now).questions c.loop-i.i (FromSource 0))
     (g.W.RoadWrite.seen c.loop-i.out) (g.W.RoadWrite.seen c.answer_next.new.out) (Err c.in_err-answer_next.field-0.0)) was.same.graph (next.wrote (FromSource 0)))
@@ -105,8 +105,8 @@ returns-clause-answered g c = all_answered (g.A.PathAlgebra.meaning c.args.batch
 
 pub returns-clause-all : goal.returns-clause-all
 returns-clause-all g c =
-    until_all (g.A.PathAlgebra.meaning c.args.batch.now.algebra) c.args.batch.now.run.now.settings.now (graph_of c.args.solver.now) (asked_of c.args.batch.now.questions.now) (is_plain c.args.solver.now) (MayTell c.args.solver.now) g.O.Watcher.may_become _ _ c.loop-i.i _ _ c.loop-i.invariant.first (search rules)
+    until_all (g.A.PathAlgebra.meaning c.args.batch.now.algebra) c.args.batch.now.run.now.settings.now (graph_of c.args.solver.now) (asked_of c.args.batch.now.questions.now) (is_without_diffusions c.args.solver.now) (MayTell c.args.solver.now) g.O.Watcher.may_become _ _ c.loop-i.i _ _ c.loop-i.invariant.first (search rules)
 
 pub returns-clause-reported : goal.returns-clause-reported
 returns-clause-reported g c =
-    until_ended (g.A.PathAlgebra.meaning c.args.batch.now.algebra) c.args.batch.now.run.now.settings.now (graph_of c.args.solver.now) (asked_of c.args.batch.now.questions.now) (is_plain c.args.solver.now) (MayTell c.args.solver.now) g.O.Watcher.may_become _ _ c.loop-i.i _ _ c.loop-i.invariant.first
+    until_ended (g.A.PathAlgebra.meaning c.args.batch.now.algebra) c.args.batch.now.run.now.settings.now (graph_of c.args.solver.now) (asked_of c.args.batch.now.questions.now) (is_without_diffusions c.args.solver.now) (MayTell c.args.solver.now) g.O.Watcher.may_become _ _ c.loop-i.i _ _ c.loop-i.invariant.first

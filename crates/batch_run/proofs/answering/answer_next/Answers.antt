@@ -7,7 +7,7 @@ use Rattle.answer_text.specs.AnswerData.{AnswerData}
 use Rattle.answer_text.specs.AnswerText.{answer_text}
 use Rattle.answer_text.specs.IsAnswer.{IsAnswer}
 use Rattle.batch_run.specs.Stopping.{Stops}
-use Rattle.batch_run.specs.Solvers.{graph_of, is_plain}
+use Rattle.batch_run.specs.Solvers.{graph_of, is_without_diffusions}
 use Rattle.batch_run.proofs.AnsweredFirst.{group_may_stop, not_solved, not_written}
 use Rattle.batch_run.proofs.Reporting.{prefix_all, question_answered}
 use Rattle.batch_run.proofs.answering.answer_next.Goals as goal
@@ -20,7 +20,7 @@ returns-in_err-solve_next-clause-wrote g c =
 pub returns-in_err-solve_next-clause-kind : goal.returns-in_err-solve_next-clause-kind
 returns-in_err-solve_next-clause-kind g c =
     let fault = err_from_is_err_and c.from_residual.result c.from_residual.ensures.1 in
-    rw (fault.1, fault.2) (group_may_stop (Stops g.A.PathAlgebra.meaning c.args.batch.now.algebra (graph_of c.args.solver.now) c.args.batch.now.run.now.settings.now (g.T.Gate.may_answer c.args.batch.now.run.now.gate.now)) (is_plain c.args.solver.now) c.in_err-solve_next.field-0.0
+    rw (fault.1, fault.2) (group_may_stop (Stops g.A.PathAlgebra.meaning c.args.batch.now.algebra (graph_of c.args.solver.now) c.args.batch.now.run.now.settings.now (g.T.Gate.may_answer c.args.batch.now.run.now.gate.now)) (is_without_diffusions c.args.solver.now) c.in_err-solve_next.field-0.0
     c.in_err-solve_next.ensures.plain c.in_err-solve_next.ensures.stops)
 
 pub answer_at-requires-clause-within : goal.answer_at-requires-clause-within
@@ -46,5 +46,5 @@ pub returns-clause-wrote : goal.returns-clause-wrote
 returns-clause-wrote g c = λ d. rw c.in_ok-solve_next.ensures.same.graph at (c.in_ok-answer_at.ensures d)
 
 pub returns-clause-reported : goal.returns-clause-reported
-returns-clause-reported g c = λ d. question_answered (g.A.PathAlgebra.meaning c.args.batch.now.algebra) c.args.batch.now.run.now.settings.now (graph_of c.args.solver.now) g.O.Watcher.may_become (is_plain c.args.solver.now) (c.args.i + 1)
+returns-clause-reported g c = λ d. question_answered (g.A.PathAlgebra.meaning c.args.batch.now.algebra) c.args.batch.now.run.now.settings.now (graph_of c.args.solver.now) g.O.Watcher.may_become (is_without_diffusions c.args.solver.now) (c.args.i + 1)
     (get_or (asked_of c.args.batch.now.questions.now).questions c.args.i d) _ _ _ (c.in_ok-solve_next.ensures.reported d) c.report.ensures

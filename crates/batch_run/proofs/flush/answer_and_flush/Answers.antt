@@ -1,9 +1,9 @@
 use Rattle.road_files.specs.Asked.{asked_of}
 use Rattle.batch_run.specs.Batches.{MayStopBatch}
 use Rattle.batch_run.specs.Factored.{MayTell}
-use Rattle.batch_run.specs.Solvers.{graph_of, is_plain}
+use Rattle.batch_run.specs.Solvers.{graph_of, is_without_diffusions}
 use Rattle.batch_run.proofs.AnsweredFirst.{no_fewer_failures}
-use Rattle.batch_run.proofs.Flushing.{text_flushed, sound_flushed, kind_flushed, failed_flushed, whole_flushed, once_flushed, after_all, reported_flushed}
+use Rattle.batch_run.proofs.Flushing.{text_flushed, sound_flushed, kind_flushed, failed_flushed, whole_flushed, some_flushed, once_flushed, after_all, reported_flushed}
 use Rattle.batch_run.proofs.Prefixes.{all_or_prefix, passed_on_since}
 use Rattle.batch_run.proofs.flush.answer_and_flush.Goals as goal
 
@@ -34,6 +34,11 @@ returns-clause-whole g c = whole_flushed (g.A.PathAlgebra.meaning c.args.batch.n
     (MayStopBatch g.A.PathAlgebra.meaning g.T.Gate.may_answer c.args.batch.now c.args.solver.now) _ _ (g.W.RoadWrite.seen c.flush_all.new.out) c.answer_all-answered.result
     c.answer_all-answered.ensures.answered c.flush_all.result c.flush_all.ensures.first c.flush_all.ensures.bytes
 
+pub returns-clause-some : goal.returns-clause-some
+returns-clause-some g c = some_flushed (g.A.PathAlgebra.meaning c.args.batch.now.algebra) (graph_of c.args.solver.now) (asked_of c.args.batch.now.questions.now)
+    (MayStopBatch g.A.PathAlgebra.meaning g.T.Gate.may_answer c.args.batch.now c.args.solver.now) _ _ (g.W.RoadWrite.seen c.flush_all.new.out) c.answer_all-answered.result
+    c.answer_all-answered.ensures.answered c.flush_all.result c.flush_all.ensures.first
+
 pub returns-clause-once : goal.returns-clause-once
 returns-clause-once g c = once_flushed (g.A.PathAlgebra.meaning c.args.batch.now.algebra) (graph_of c.args.solver.now) (asked_of c.args.batch.now.questions.now)
     (MayStopBatch g.A.PathAlgebra.meaning g.T.Gate.may_answer c.args.batch.now c.args.solver.now) _ _ (g.W.RoadWrite.seen c.flush_all.new.out) c.answer_all-answered.result
@@ -48,4 +53,4 @@ pub returns-clause-all : goal.returns-clause-all
 returns-clause-all g c = after_all _ _ c.answer_all-answered.result c.flush_all.result c.answer_all-answered.ensures.all c.flush_all.ensures.passed_on
 
 pub returns-clause-reported : goal.returns-clause-reported
-returns-clause-reported g c = reported_flushed (g.A.PathAlgebra.meaning c.args.batch.now.algebra) c.args.batch.now.run.now.settings.now (graph_of c.args.solver.now) (asked_of c.args.batch.now.questions.now) (is_plain c.args.solver.now) (MayTell c.args.solver.now) g.O.Watcher.may_become _ _ _ _ _ c.flush_all.ensures.bytes c.answer_all-answered.ensures.reported
+returns-clause-reported g c = reported_flushed (g.A.PathAlgebra.meaning c.args.batch.now.algebra) c.args.batch.now.run.now.settings.now (graph_of c.args.solver.now) (asked_of c.args.batch.now.questions.now) (is_without_diffusions c.args.solver.now) (MayTell c.args.solver.now) g.O.Watcher.may_become _ _ _ _ _ c.flush_all.ensures.bytes c.answer_all-answered.ensures.reported

@@ -1,6 +1,7 @@
-use Rattle.std.proofs.Common.{refl, subst, Bool, Err}
+use Rattle.std.proofs.Common.{inl, inr, refl, ap, subst, Bool, Err}
 use Rattle.std.proofs.lemmas.Result.{err_from_is_err_and}
 use Rattle.road_files.specs.Asked.{asked_of}
+use Rattle.batch_run.specs.declared.faults.RunFault.{RunFault}
 use Rattle.batch_run.specs.Causes.{MayStop, fault_of}
 use Rattle.batch_run.specs.Choice.{without_diffusions}
 use Rattle.batch_run.specs.Reports.{IsTold, ReportedWhole, ReportedWritten}
@@ -10,11 +11,22 @@ use Rattle.batch_run.specs.Solvers.{graph_of}
 use Rattle.batch_run.proofs.CauseCases.{no_setting}
 use Rattle.batch_run.proofs.OneShard.{not_stalled}
 use Rattle.batch_run.proofs.OfInputs.{ran_stopped, ran_whole}
-use Rattle.batch_run.proofs.Reporting.{watched_all, watched_first}
 use Rattle.batch_run.proofs.Stopped.{says_of_cause, stopped_for}
+use Rattle.batch_run.proofs.Suiting.{suited_by, suited_whole}
 use Rattle.batch_run.proofs.Telling.{told_by_kind}
+use Rattle.batch_run.proofs.Watching.{watched_all, watched_first, watched_none}
 use Rattle.batch_run.proofs.WrittenReports.{whole_wider, written_wider}
 use Rattle.batch_run.proofs.run.run_batch.Goals as goal
+
+pub returns-then-not-suit-clause-watched : goal.returns-then-not-suit-clause-watched
+returns-then-not-suit-clause-watched g c =
+    watched_none (g.A.PathAlgebra.meaning c.args.algebra) c.args.run.now.settings.now (g.I.BatchInput.is_read c.args.input.now) g.O.Watcher.may_become _ _ _ c.fault_of_run.result
+    (inr (ap (λ (f : RunFault). f.number) c.fault_of_run.ensures))
+
+pub returns-in-Err-clause-watched : goal.returns-in-Err-clause-watched
+returns-in-Err-clause-watched g c =
+    watched_none (g.A.PathAlgebra.meaning c.args.algebra) c.args.run.now.settings.now (g.I.BatchInput.is_read c.args.input.now) g.O.Watcher.may_become _ _ _ c.in-Err.fault
+    (inl c.in-Err.ensures.named)
 
 pub returns-in_err-answer_and_flush : goal.returns-in_err-answer_and_flush
 returns-in_err-answer_and_flush g c =
@@ -32,10 +44,11 @@ returns-in_err-answer_and_flush g c =
     let stopped = stopped_for g.A.PathAlgebra.meaning c.args.algebra roads how gate _ cause may is_read asked c.in-Ok.ensures.read in
     rw (fault.1, fault.2) (record {
       ran = ran_stopped A how gate is_read g.I.BatchInput.is_own (g.W.RoadWrite.seen c.args.out.now)
-          (g.W.RoadWrite.seen c.answer_and_flush.new.out) in_range roads asked c.in-Ok.ensures.read cause
+          (g.W.RoadWrite.seen c.answer_and_flush.new.out) roads asked c.in-Ok.ensures.read cause
           (says_of_cause g.A.PathAlgebra.meaning c.args.algebra roads how gate _ cause may)
-          (record { text = was.text; failed = was.failed; whole = was.whole; once = was.once; flushed = was.flushed })
+          (record { text = was.text; failed = was.failed; whole = was.whole; some = was.some; once = was.once; flushed = was.flushed })
           (λ enough. not_stalled g.A.PathAlgebra.meaning c.args.algebra how gate is_read in_range.budget.0 c.one_shard_never_stalls.ensures.groups enough (Err (fault_of cause)) stopped);
+      suited = suited_by (g.A.PathAlgebra.arc_cost c.args.algebra) how c.suit.result c.if-not-suit.false c.suit.ensures.exactly (fault_of cause) (λ _. no_setting cause);
       read = g.met.I.BatchInput.later c.args.input.now c.read_batch.new.input (fault_of cause) refl (no_setting cause) c.in-Ok.ensures.done;
       stopped = stopped;
       watched = watched_first A how is_read g.O.Watcher.may_become _ _ _ _ roads asked c.in-Ok.ensures.read cause
@@ -55,8 +68,9 @@ returns g c =
     let was = c.in_ok-answer_and_flush.ensures in
     record {
       ran = ran_whole A how gate is_read g.I.BatchInput.is_own (g.W.RoadWrite.seen c.args.out.now)
-          (g.W.RoadWrite.seen c.answer_and_flush.new.out) (c.suit.ensures.in_range c.if-not-suit.false) roads asked c.in-Ok.ensures.read
+          (g.W.RoadWrite.seen c.answer_and_flush.new.out) roads asked c.in-Ok.ensures.read
           was.text was.passed_on was.sound;
+      suited = suited_whole (g.A.PathAlgebra.arc_cost c.args.algebra) how c.suit.result c.if-not-suit.false c.suit.ensures.exactly;
       read = c.in-Ok.ensures.done;
       stopped = record { stalled = tt; gated = tt };
       watched = watched_all A how is_read g.O.Watcher.may_become _ _ _ _ roads asked c.in-Ok.ensures.read

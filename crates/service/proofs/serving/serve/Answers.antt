@@ -7,6 +7,7 @@ use Rattle.service.proofs.Staying.{stays_own}
 use Rattle.service.specs.declared.feeding.Unfed.{Unfed}
 use Rattle.service.proofs.ServeLaws.{served_more, served_all, read_failed, feed_fell, feed_long, end_fell, flush_fell}
 use Rattle.service.specs.Giving.{MayGiveOver}
+use Rattle.service.proofs.ReadLaws.{told_none, told_served}
 use Rattle.service.proofs.serving.serve.Goals as goal
 
 pub returns-in-Ok-finish-clause-served : goal.returns-in-Ok-finish-clause-served
@@ -33,6 +34,8 @@ loop-preserved g c = record {
   held = c.in-Ok-feed.ensures.passed_on (λ e. cc) c.loop.invariant.held;
   vertices = c.feed.ensures.vertices ∙ c.loop.invariant.vertices;
   same = record { graph = c.feed.ensures.same.graph ∙ c.loop.invariant.same.graph; kind = c.feed.ensures.same.kind ∙ c.loop.invariant.same.kind };
+  told = told_served _ _ _ _ _ c.loop.service _ _ _ _ _ (g.W.RoadWrite.seen c.flush.new.self) (g.W.RoadWrite.seen c.loop.out) c.loop.invariant.vertices c.loop.invariant.served
+      c.flush.ensures.bytes c.in-Ok.ensures.sound c.loop.invariant.held c.loop.invariant.told c.read_piece.ensures.told c.read_piece.ensures.counted;
   sound = c.in-Ok-read_piece.ensures.sound ∙ c.loop.invariant.sound;
 }
 
@@ -75,3 +78,31 @@ returns-in-Err-TooLong-clause-long g c = λ is.
     c.feed.new.self (take c.in-Ok-read_piece.n c.read_piece.new.buffer) (c.feed.ensures.vertices ∙ c.loop.invariant.vertices) c.in-Ok-read_piece.ensures.bytes.0
     (stays_own (g.A.PathAlgebra.meaning c.args.answers.now.algebra) c.args.answers.now.run.now.settings.now (g.T.Gate.may_answer c.args.answers.now.run.now.gate.now) c.args.solver.now c.loop.solver c.loop.invariant.same c.requires.kind
     (λ (may : Asked → List ℕ → Type 0). FedLong may c.loop.service c.feed.new.self (take c.in-Ok-read_piece.n c.read_piece.new.buffer) (g.W.RoadWrite.seen c.loop.out) (g.W.RoadWrite.seen c.feed.new.out)) (c.feed.ensures.long (c.in-Err-TooLong.is ∙ ap (λ (e : Unfed). Err e) c.in-Err-TooLong.field-0-is)))
+
+pub returns-in-Err-clause-told : goal.returns-in-Err-clause-told
+returns-in-Err-clause-told g c = told_none _ _ _ _ _ _
+
+pub returns-in-Ok-finish-clause-told : goal.returns-in-Ok-finish-clause-told
+returns-in-Ok-finish-clause-told g c =
+    told_served _ _ _ _ _ c.loop.service _ _ _ _ _ (g.W.RoadWrite.seen c.flush.new.self) (g.W.RoadWrite.seen c.loop.out) c.loop.invariant.vertices c.loop.invariant.served
+    c.flush.ensures.bytes c.in-Ok.ensures.sound c.loop.invariant.held c.loop.invariant.told c.read_piece.ensures.told c.read_piece.ensures.counted
+
+pub returns-in-Err-read_piece-clause-told : goal.returns-in-Err-read_piece-clause-told
+returns-in-Err-read_piece-clause-told g c =
+    told_served _ _ _ _ _ c.loop.service _ _ _ _ _ (g.W.RoadWrite.seen c.flush.new.self) (g.W.RoadWrite.seen c.loop.out) c.loop.invariant.vertices c.loop.invariant.served
+    c.flush.ensures.bytes c.in-Ok.ensures.sound c.loop.invariant.held c.loop.invariant.told c.read_piece.ensures.told c.read_piece.ensures.counted
+
+pub returns-in-Err-finish-clause-told : goal.returns-in-Err-finish-clause-told
+returns-in-Err-finish-clause-told g c =
+    told_served _ _ _ _ _ c.loop.service _ _ _ _ _ (g.W.RoadWrite.seen c.flush.new.self) (g.W.RoadWrite.seen c.loop.out) c.loop.invariant.vertices c.loop.invariant.served
+    c.flush.ensures.bytes c.in-Ok.ensures.sound c.loop.invariant.held c.loop.invariant.told c.read_piece.ensures.told c.read_piece.ensures.counted
+
+pub returns-in-Err-Write-clause-told : goal.returns-in-Err-Write-clause-told
+returns-in-Err-Write-clause-told g c =
+    told_served _ _ _ _ _ c.loop.service _ _ _ _ _ (g.W.RoadWrite.seen c.flush.new.self) (g.W.RoadWrite.seen c.loop.out) c.loop.invariant.vertices c.loop.invariant.served
+    c.flush.ensures.bytes c.in-Ok.ensures.sound c.loop.invariant.held c.loop.invariant.told c.read_piece.ensures.told c.read_piece.ensures.counted
+
+pub returns-in-Err-TooLong-clause-told : goal.returns-in-Err-TooLong-clause-told
+returns-in-Err-TooLong-clause-told g c =
+    told_served _ _ _ _ _ c.loop.service _ _ _ _ _ (g.W.RoadWrite.seen c.flush.new.self) (g.W.RoadWrite.seen c.loop.out) c.loop.invariant.vertices c.loop.invariant.served
+    c.flush.ensures.bytes c.in-Ok.ensures.sound c.loop.invariant.held c.loop.invariant.told c.read_piece.ensures.told c.read_piece.ensures.counted

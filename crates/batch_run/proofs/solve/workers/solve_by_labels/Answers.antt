@@ -1,11 +1,11 @@
 use Rattle.std.proofs.Common.{sym, subst, List, ℕ}
 use Rattle.std.specs.List.{All}
 use Rattle.road_graph.specs.GraphData.{HasVertex}
-use Rattle.road_files.specs.Asked.{FromSource, Question}
+use Rattle.road_files.specs.Asked.{FromSource}
 use Rattle.road_files.proofs.QuestionLaws.{asked_within, pair_at}
 use Rattle.path_algebra.specs.Walks.{AreBest}
 use Rattle.route_tree.specs.Tree.{IsTree}
-use Rattle.question_solvers.proofs.QuestionKinds.{no_pairs, pair_answered}
+use Rattle.question_solvers.proofs.QuestionKinds.{found_answers, no_pairs, pair_asked}
 use Rattle.batch_run.proofs.solve.workers.solve_by_labels.Goals as goal
 
 pub route_between-requires-clause-labels : goal.route_between-requires-clause-labels
@@ -25,8 +25,9 @@ tree_outgoing-requires-clause-labels g c κs within =
 
 pub returns-in_ok-found-in-Pairs : goal.returns-in_ok-found-in-Pairs
 returns-in_ok-found-in-Pairs g c =
-    pair_answered (g.A.PathAlgebra.meaning c.args.batch.now.algebra) c.args.batch.now.graph.now c.args.batch.now.questions.now c.args.i c.in-Pairs.pairs c.index.result.now
-    c.in_ok-found-in-Pairs.found c.in-Pairs.is c.requires.place c.index.ensures c.in_ok-found-in-Pairs.ensures
+    let q = c.args.batch.now.questions.now in
+    λ d. found_answers _ _ _ _ c.in_ok-found-in-Pairs.found _ (pair_asked q c.args.i c.in-Pairs.pairs c.index.result.now c.in-Pairs.is c.requires.place c.index.ensures d)
+    c.in_ok-found-in-Pairs.ensures
 
 pub returns-in_ok-tree-in_default : goal.returns-in_ok-tree-in_default
 returns-in_ok-tree-in_default g c = λ d. record {

@@ -1,0 +1,69 @@
+-- What a run reports to its watcher, from what answering reports.
+use Rattle.std.proofs.Common.{◌≡◌, ◌≢◌, ◌⊎◌, [], Ok, Err, inl, inr, refl}
+use Rattle.text_lines.specs.Streams.{Output}
+use Rattle.road_graph.specs.GraphData.{GraphData}
+use Rattle.road_files.specs.Asked.{Asked}
+use Rattle.path_algebra.specs.Algebra.{Algebra}
+use Rattle.batch_run.specs.declared.faults.Cause.{Cause}
+use Rattle.batch_run.specs.declared.faults.File.TheVariants.{NoFile}
+use Rattle.batch_run.specs.declared.faults.RunFault.{RunFault}
+use Rattle.batch_run.specs.declared.settings.Settings.{Settings}
+use Rattle.batch_run.specs.declared.watcher.Progress.{Progress}
+use Rattle.batch_run.specs.Causes.{fault_of}
+use Rattle.batch_run.specs.Choice.{without_diffusions}
+use Rattle.batch_run.specs.Reports.{IsTold, ReportedWhole, ReportedWritten, Watched}
+use Rattle.batch_run.proofs.CauseCases.{no_setting}
+
+module _ {V S W : Type 0} (A : Algebra V) (how : Settings) (IsRead : GraphData → Asked → Type 0) (may_become : S → Progress → S → Type 0) (old : S) (out out_after : Output W) where
+  -- a run that ends before it answers reports nothing
+  pub watched_none : (f : RunFault) → (f.file ≢ NoFile) ⊎ (f.number ≡ 43) → Watched A how IsRead may_become old old out out_after (Err f)
+  watched_none f early = record {
+    reports = [];
+    are = record {
+      all = tt;
+      first = λ file other. elim early [
+        | inl input ↦ absurd (input file)
+        | inr setting ↦ absurd (other setting)
+      ];
+      nothing = λ _. refl;
+      untouched = λ _. refl;
+    };
+    told = refl;
+  }
+
+  -- what it reports of inputs that were read, from what answering them reports
+  module _ (new : S) (g : GraphData) (asked : Asked) (read : IsRead g asked) where
+    pub watched_all : ReportedWhole A how g (without_diffusions how) (IsTold how.factors) asked.questions may_become old new → Watched A how IsRead may_become old new out out_after (Ok tt)
+    watched_all w = record {
+      reports = w.reported.reports;
+      are = record {
+        all = record { graph = g; asked = asked; read = read; became = w.became; told = w.told; are_due = w.reported.are_due };
+        first = tt;
+        nothing = tt;
+        untouched = tt;
+      };
+      told = w.reported.told;
+    }
+
+    pub watched_first : (cause : Cause) → ReportedWritten A how g asked (without_diffusions how) (IsTold how.factors) may_become old new out out_after → Watched A how IsRead may_become old new out out_after (Err (fault_of cause))
+    watched_first cause w = record {
+      reports = w.reported.reported.reports;
+      are = record {
+        all = tt;
+        first = λ _ _. record {
+          graph = g;
+          asked = asked;
+          read = read;
+          became = w.became;
+          told = w.told;
+          prefix = w.reported.prefix;
+          rest = w.reported.rest;
+          due_is = w.reported.due_is;
+          are_due = w.reported.reported.are_due;
+          written = w.written;
+        };
+        nothing = λ other. absurd (other refl);
+        untouched = λ setting. absurd (no_setting cause setting);
+      };
+      told = w.reported.reported.told;
+    }

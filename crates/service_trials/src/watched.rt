@@ -1,0 +1,59 @@
+//! What a watcher of a service is told at each read.
+use crate::asking::{FIVE, ONE, ONE_REPLY, joined, plain};
+use batch_run::{OpenGate, Run};
+use path_algebra::Shortest;
+use service::{ReadWatcher, run_service_watched};
+use text_lines::Plain;
+use text_trials::{Pieces, Sheet};
+
+/// The length of the request `ONE`.
+const ONE_BYTES: usize = 21;
+
+/// How many reads there were, and how many bytes had been written before each of the first.
+#[derive(Drop)]
+struct Lengths {
+    reads: usize,
+    written: [usize; 4],
+}
+
+impl ReadWatcher<Pieces<'_>, Sheet> for Lengths {
+    ghost may_become = { λ _ _ _ _. Unit {0} };
+
+    fn before_read(&mut self, _requests: &Pieces<'_>, out: &Sheet) {
+        if self.reads < 4 {
+            self.written[self.reads] = out.bytes.len();
+            self.reads += 1;
+        }
+    }
+}
+
+#[test]
+fn a_read_comes_after_the_replies(rt: HostRuntime) {
+    let requests = joined(&rt, &[ONE, ONE]);
+    let replies = joined(&rt, &[ONE_REPLY, ONE_REPLY]);
+    let mut graph = Plain::new(FIVE.as_bytes());
+    let mut input = Pieces::new(requests.as_bytes(), ONE_BYTES, false);
+    let mut out = Sheet::new(rt.alloc(), 1_024, true);
+    let mut lengths = Lengths {
+        reads: 0,
+        written: [0; 4],
+    };
+    let settings = plain();
+    let run = Run {
+        rt: &rt,
+        alloc: rt.alloc(),
+        settings: &settings,
+        gate: &OpenGate,
+    };
+    let ended = run_service_watched(
+        &run,
+        Shortest,
+        &mut graph,
+        &mut input,
+        &mut out,
+        &mut lengths,
+    );
+    assert_eq!(rt; ended, Ok(()));
+    assert_eq!(rt; lengths.reads, 3);
+    assert_eq!(rt; lengths.written, [0, ONE_REPLY.len(), replies.len(), 0]);
+}

@@ -92,7 +92,8 @@ abbrev pub IsNoName : Text → Type 0
 IsNoName name =
     (name ≢ codes "solve") × (name ≢ codes "bundle") × (name ≢ codes "serve") × (name ≢ codes "check") × (name ≢ codes "faults")
 
--- what the subcommand of a parse is, by its name and matches; none if there is none, or none of this name
+-- what the subcommand of a parse is, by its name and matches; none if there is none, or none of
+-- this name
 abbrev pub IsNamed : Option (Text × List Row) → Option Subcommand → Type 0
 IsNamed None asked = asked ≡ None
 IsNamed (Some found) None = IsNoName found.0

@@ -1,4 +1,5 @@
--- What a command line may be: the subcommands, each with its files and its options, in clap's terms.
+-- What a command line may be: the subcommands, each with its files and its options, in clap's
+-- terms.
 use Rattle.std.specs.Prelude.{◌≡◌, ℕ, ◌^◌, List, [], ◌∷◌, ◌++◌, Some, true, false, codes}
 use Rattle.std.specs.Borrow.{Bor}
 use Rattle.clap.specs.Lexer.{usize_max}

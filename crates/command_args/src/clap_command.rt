@@ -1,4 +1,5 @@
-//! The command line of the program: its subcommands, with their files, their options, and what help says of them.
+//! The command line of the program: its subcommands, with their files, their options, and what help
+//! says of them.
 ghost use Rattle.std.specs.Prelude.{◌≡◌, [], IfOk};
 ghost use Rattle.clap.specs.Words.{app_of};
 ghost use Rattle.command_args.specs.CommandLine.{bundle, check, diffuse, faults, serve, settings, solve, watching, with_rules};

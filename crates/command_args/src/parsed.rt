@@ -82,7 +82,8 @@ pub enum Subcommand<'a> {
     Bundle(BundleArgs<'a>),
     /// Reply to the requests of standard input over the graph of a file.
     Serve(ServeArgs<'a>),
-    /// Judge the answers of one input to the questions of another over the graph of a third, by their names.
+    /// Judge the answers of one input to the questions of another over the graph of a third, by
+    /// their names.
     Check(CheckArgs<'a>),
     /// Explain the faults of these numbers, and without a number all.
     Faults { numbers: Vec<u64> },
@@ -278,7 +279,8 @@ fn parse_by_clap<'a>(alloc: Global, words: &'a [String]) -> Result<Subcommand<'a
     }
 }
 
-/// Reads the words of a command line, the program's own first. Errors are usage faults, help, or want of memory.
+/// Reads the words of a command line, the program's own first. Errors are usage faults, help, or
+/// want of memory.
 pub fn parse_args<'a>(alloc: Global, words: &'a [String]) -> Result<Subcommand<'a>, Error>
     ensures asked { IfOk result (AskFor (map (λ word. string_bytes word) words.entry.now)) }
     ensures none { IfErr result (λ e.

@@ -41,7 +41,8 @@ meanings =
     ∷ (43, codes "options that do not go with the algebra: `--limit` or `--factors`")
     ∷ []
 
--- a table with one row for each fault, in the order of their numbers, which says what the fault means
+-- a table with one row for each fault, in the order of their numbers, which says what the fault
+-- means
 abbrev pub IsFaultTable : List FaultRow → Type 0
 IsFaultTable table = map (λ row. (row.number, row.meaning.now)) table ≡ meanings
 
@@ -53,12 +54,14 @@ IsRowOf table number row = (row.number ≡ number) × Contains table row
 abbrev pub HasNoRow : List FaultRow → ℕ → Type 0
 HasNoRow table number = All (λ row. row.number ≢ number) table
 
--- the rows of a table that are asked for: those of these numbers, in this order, and without a number all
+-- the rows of a table that are asked for: those of these numbers, in this order, and without a
+-- number all
 abbrev pub AreAskedFor : List FaultRow → List ℕ → List FaultRow → Type 0
 AreAskedFor table [] rows = rows ≡ table
 AreAskedFor table (number ∷ numbers) rows = (map (λ row. row.number) rows ≡ number ∷ numbers) × All (Contains table) rows
 
--- the rows that were asked for reached the output, with status 0; or they could not be written, which is reported as fault 42
+-- the rows that were asked for reached the output, with status 0; or they could not be written,
+-- which is reported as fault 42
 pub record AreShown {W E : Type 0} (table : List FaultRow) (numbers : List ℕ) (out out_after : Output W) (errors errors_after : Output E) (result : ℕ) : Type 0 where
   pub rows : List FaultRow
   pub asked : AreAskedFor table numbers rows
@@ -66,7 +69,8 @@ pub record AreShown {W E : Type 0} (table : List FaultRow) (numbers : List ℕ) 
   pub reaches : Reaches (flat_map row_text rows) out out_after outcome
   pub ends : EndsAs (λ _. 0) errors errors_after outcome result
 
--- the rows of these numbers were shown; or one of them has no row, which is wrong usage; or memory was refused
+-- the rows of these numbers were shown; or one of them has no row, which is wrong usage; or memory
+-- was refused
 abbrev pub Explains : {W E : Type 0} → List FaultRow → List ℕ → Output W → Output W → Output E → Output E → ℕ → Type 0
 Explains table numbers out out_after errors errors_after result =
     AreShown table numbers out out_after errors errors_after result

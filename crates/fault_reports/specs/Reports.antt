@@ -11,7 +11,8 @@ use Rattle.batch_run.specs.Runs.{Output}
 abbrev pub fault_text : RunFault → List ℕ
 fault_text f = codes "diffuse: fault " ++ decimal f.number ++ file_text f.file ++ line_text f.line ++ 10 ∷ []
 
--- the exit status of a fault: 2 for a setting, 4 for memory, 5 for a write, 6 for a limit or gate, 3 for an input
+-- the exit status of a fault: 2 for a setting, 4 for memory, 5 for a write, 6 for a limit or gate,
+-- 3 for an input
 abbrev pub status_of : ℕ → ℕ
 status_of number =
     if nat_eq number 43 then 2
@@ -30,7 +31,8 @@ IsReported text errors errors_after =
 abbrev pub ReportsFault : {E : Type 0} → RunFault → Output E → Output E → ℕ → Type 0
 ReportsFault f errors errors_after result = (result ≡ status_of f.number) × IsReported (fault_text f) errors errors_after
 
--- the exit status of an outcome: a fault has its own, and its line is written on the error output; else nothing is written there
+-- the exit status of an outcome: a fault has its own, and its line is written on the error output;
+-- else nothing is written there
 abbrev pub EndsAs : {A E : Type 0} → (A → ℕ) → Output E → Output E → Result A RunFault → ℕ → Type 0
 EndsAs status errors errors_after (Ok x) result = (result ≡ status x) × (errors_after.written ≡ errors.written) × (errors_after.failures ≡ errors.failures)
 EndsAs status errors errors_after (Err f) result = ReportsFault f errors errors_after result
@@ -39,7 +41,8 @@ EndsAs status errors errors_after (Err f) result = ReportsFault f errors errors_
 abbrev pub run_fault : ℕ → RunFault
 run_fault number = record { number = number; file = NoFile; line = 0 }
 
--- a text was written on the output, whole, and nothing is held back; or a write failed, and that is fault 42
+-- a text was written on the output, whole, and nothing is held back; or a write failed, and that is
+-- fault 42
 abbrev pub Reaches : {W : Type 0} → List ℕ → Output W → Output W → Result (Unit {0}) RunFault → Type 0
 Reaches text out out_after (Ok _) = Appends out.written out_after.written text × (out_after.held ≡ []) × (out_after.failures ≡ out.failures)
 Reaches text out out_after (Err f) = (f ≡ run_fault 42) × (out.failures < out_after.failures)

@@ -1,4 +1,5 @@
-//! How a command ends: the line that reports a fault, the exit status, and what is known of each fault by its number.
+//! How a command ends: the line that reports a fault, the exit status, and what is known of each
+//! fault by its number.
 #![tactic(auto)]
 
 mod reports;

@@ -37,7 +37,8 @@ fn status_of(number: u8) -> u8
     }
 }
 
-/// Writes the line of a fault, and gives the exit status, which is the same if the line cannot be written.
+/// Writes the line of a fault, and gives the exit status, which is the same if the line cannot be
+/// written.
 pub fn report_fault<E: RoadWrite>(errors: &mut E, fault: RunFault) -> u8
     ensures { ReportsFault fault (E.seen errors.old) (E.seen errors.new) result }
 {

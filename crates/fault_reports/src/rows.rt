@@ -50,8 +50,8 @@ fn row_of(table: &[FaultRow], number: u64) -> Option<FaultRow>
         .copied()
 }
 
-/// The rows that are asked for: those of these numbers, in this order, and without a number all. None if a number has
-/// no row.
+/// The rows that are asked for: those of these numbers, in this order, and without a number all.
+/// None if a number has no row.
 fn rows_for(
     alloc: Global,
     table: &[FaultRow],
@@ -86,8 +86,8 @@ fn text_of_rows(alloc: Global, rows: &[FaultRow]) -> Result<String, AllocError>
     Ok(text)
 }
 
-/// Writes the rows of these numbers in a table, in this order, and without a number all; and gives the exit status. A
-/// number without a row is a usage fault.
+/// Writes the rows of these numbers in a table, in this order, and without a number all; and gives
+/// the exit status. A number without a row is a usage fault.
 pub fn explain<W: RoadWrite, E: RoadWrite>(
     alloc: Global,
     table: &[FaultRow],

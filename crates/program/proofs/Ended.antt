@@ -32,7 +32,7 @@ module _ {W A E : Type 0} (chosen : AlgebraChoice) (settings : Settings) (p q : 
       EndsWatched chosen settings q IsRead inputs HasRead' out out_after accounts accounts_after errors errors_after result
   ends_as e read ends = record {
     outcome = ends.outcome;
-    ran = record { run = ends.ran.run; read = read ends.outcome ends.ran.read; ungated = ends.ran.ungated; unstalled = ends.ran.unstalled };
+    ran = record { run = ends.ran.run; suited = ends.ran.suited; stopped = ends.ran.stopped; read = read ends.outcome ends.ran.read; ungated = ends.ran.ungated; unstalled = ends.ran.unstalled };
     reports = ends.reports;
     reported = ends.reported;
     kept = ends.kept;
@@ -40,4 +40,5 @@ module _ {W A E : Type 0} (chosen : AlgebraChoice) (settings : Settings) (p q : 
     watched = ends.watched;
     shown = subst (λ progress. IsAddedIf {E = Output E} (λ x. x) progress errors ends.watched (progress_text 0 ends.reports)) e ends.shown;
     ends = ends.ends;
+    finishes = ends.finishes;
   }

@@ -2,6 +2,7 @@ mod Said
 mod Among
 mod Ungated
 mod Unstalled
+mod GivesUp
 mod AccountLines
 mod Adding
 mod Noted

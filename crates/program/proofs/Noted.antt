@@ -1,66 +1,33 @@
 -- What a watcher leaves to which all reports of a batch were made.
-use Rattle.std.specs.Prelude.{◌≡◌, ◌≢◌, ℕ, List, [], ◌∷◌, ◌++◌, Bool, true, false, Option, Result, Ok, Err, OnOk}
-use Rattle.std.proofs.Common.{inl, inr, refl, sym, subst, ◌∙◌}
-use Rattle.std.proofs.lemmas.Bool.Decides.{eqb_tells}
+use Rattle.std.specs.Prelude.{◌≡◌, ℕ, List, [], ◌∷◌, ◌++◌, Bool, true, false, Result}
+use Rattle.std.proofs.Common.{refl, sym, subst, ◌∙◌}
 use Rattle.text_lines.specs.Streams.{Output}
 use Rattle.road_graph.specs.GraphData.{GraphData}
 use Rattle.road_files.specs.Asked.{Asked}
-use Rattle.path_algebra.specs.Algebra.{Algebra}
-use Rattle.batch_run.specs.declared.faults.File.{File}
-use Rattle.batch_run.specs.declared.faults.File.TheVariants.{Graph, Questions, Bundle, Answers, NoFile}
 use Rattle.batch_run.specs.declared.faults.RunFault.{RunFault}
 use Rattle.batch_run.specs.declared.settings.Settings.{Settings}
 use Rattle.batch_run.specs.declared.watcher.Progress.{Progress}
-use Rattle.batch_run.specs.Choice.{without_diffusions}
-use Rattle.batch_run.specs.Reports.{FollowsReports, ReportedFirst, Watched}
+use Rattle.batch_run.specs.Reports.{AreReports, FollowsReports, Watched}
 use Rattle.path_algebra.specs.declared.choice.AlgebraChoice.{AlgebraChoice}
 use Rattle.path_algebra.specs.Choices.{Under}
 use Rattle.path_algebra.proofs.Chosen.{under_some}
 use Rattle.program.specs.declared.watch.watcher.CommandWatcher.{CommandWatcher}
 use Rattle.program.specs.Accounts.{accounts_text}
 use Rattle.program.specs.Progress.{all_after, progress_text, shown_at}
-use Rattle.program.specs.Watching.{AreReportsOf, HasAccounts, IsAddedIf, Notes}
+use Rattle.program.specs.Watching.{HasAccounts, IsAddedIf, Notes}
 use Rattle.program.proofs.Adding.{added_none, added_then, has_none, has_then}
 
 -- some reports were made to a watcher
 abbrev pub WasTold : {S : Type 0} → (S → Progress → S → Type 0) → S → S → Type 0
 WasTold may_become old new = (reports : List Progress) × FollowsReports may_become old reports new
 
-module _ {V S W : Type 0} (A : Algebra V) (how : Settings) (plain : Bool) (IsRead : GraphData → Asked → Type 0) (may_become : S → Progress → S → Type 0) (old new : S) (out out_after : Output W) where
-  none_told : new ≡ old → WasTold may_become old new
-  none_told e = ([], e)
-
-  some_told : (number : ℕ) → (number ≢ 43 → ReportedFirst A how plain IsRead may_become old new out out_after) → (number ≡ 43 → new ≡ old) → WasTold may_become old new
-  some_told number first untouched = elim (eqb_tells number 43) [
-    | inl is ↦ none_told (untouched is.1)
-    | inr not ↦ let told = (first not.1).reported.reported.reported in (told.reports, told.told)
-  ]
-
-  fault_told : (file : File) (number : ℕ) → (file ≡ NoFile → number ≢ 43 → ReportedFirst A how plain IsRead may_become old new out out_after) → (file ≢ NoFile → new ≡ old) →
-      (number ≡ 43 → new ≡ old) → WasTold may_become old new
-  fault_told NoFile number first nothing untouched = some_told number (first refl) untouched
-  fault_told Graph number first nothing untouched = none_told (nothing (λ e. cc))
-  fault_told Questions number first nothing untouched = none_told (nothing (λ e. cc))
-  fault_told Bundle number first nothing untouched = none_told (nothing (λ e. cc))
-  fault_told Answers number first nothing untouched = none_told (nothing (λ e. cc))
-
--- a batch makes some reports to its watcher, which on success are its own
-pub watched_told : {V S W : Type 0} (A : Algebra V) (how : Settings) (IsRead : GraphData → Asked → Type 0) (may_become : S → Progress → S → Type 0) (old new : S) (out out_after : Output W) (outcome : Result (Unit {0}) RunFault) →
-    Watched A how IsRead may_become old new out out_after outcome → (told : WasTold may_become old new) × OnOk outcome (AreReportsOf A how (without_diffusions how) IsRead told.0)
-watched_told A how IsRead may_become old new out out_after (Ok u) w =
-    let made = w.all.reported in (
-      (made.reported.reports, made.reported.told),
-      record { graph = w.all.graph; asked = w.all.asked; read = w.all.read; became = made.became; told = made.told; are_due = made.reported.are_due },
-    )
-watched_told A how IsRead may_become old new out out_after (Err f) w = (fault_told A how (without_diffusions how) IsRead may_become old new out out_after f.file f.number w.first w.nothing w.untouched, tt)
-
--- the same under the algebra that was chosen
+-- a batch makes its reports to its watcher, under the algebra that was chosen
 pub under_told : {S W : Type 0} (c : AlgebraChoice) (how : Settings) (IsRead : GraphData → Asked → Type 0) (may_become : S → Progress → S → Type 0) (old new : S) (out out_after : Output W) (outcome : Result (Unit {0}) RunFault) →
     Under c (λ V A. Watched A how IsRead may_become old new out out_after outcome) →
-    (told : WasTold may_become old new) × Under c (λ V A. OnOk outcome (AreReportsOf A how (without_diffusions how) IsRead told.0))
+    (told : WasTold may_become old new) × Under c (λ V A. AreReports A how IsRead out out_after outcome told.0)
 under_told c how IsRead may_become old new out out_after outcome w =
-    under_some c (WasTold may_become old new) (λ V A. Watched A how IsRead may_become old new out out_after outcome) (λ told V A. OnOk outcome (AreReportsOf A how (without_diffusions how) IsRead told.0))
-    (λ V A it. watched_told A how IsRead may_become old new out out_after outcome it) w
+    under_some c (WasTold may_become old new) (λ V A. Watched A how IsRead may_become old new out out_after outcome) (λ told V A. AreReports A how IsRead out out_after outcome told.0)
+    (λ V A it. ((it.reports, it.told), it.are)) w
 
 -- what a watcher of a command leaves to which all these reports were made
 pub record Noted {A E M : Type 0} (seen : A → Output A) (shown : E → Output E) (old : CommandWatcher A E M)

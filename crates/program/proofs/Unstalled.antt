@@ -1,5 +1,5 @@
 -- With one shard, best first, a limit of turns that is enough for every graph stops nothing.
-use Rattle.std.proofs.Common.{◌≡◌, ◌≢◌, ◌≤◌, ℕ, Bool, Result, true, sym, subst, inl, inr, arith}
+use Rattle.std.proofs.Common.{◌≡◌, ◌≢◌, ◌≤◌, ℕ, Bool, Option, Result, true, sym, subst, inl, inr, arith}
 use Rattle.std.specs.Prelude.{IfErr}
 use Rattle.std.proofs.lemmas.Bool.{cases_lt}
 use Rattle.road_graph.specs.GraphData.{GraphData, IsGraph}
@@ -7,19 +7,22 @@ use Rattle.road_files.specs.Asked.{Asked}
 use Rattle.path_algebra.specs.Algebra.{Algebra}
 use Rattle.path_algebra.specs.declared.choice.AlgebraChoice.{AlgebraChoice}
 use Rattle.path_algebra.specs.Choices.{Under}
+use Rattle.path_algebra.specs.declared.counted_sums.Cost.{Cost}
 use Rattle.path_algebra.proofs.Chosen.{under_any}
 use Rattle.batch_run.specs.declared.faults.File.{File}
 use Rattle.batch_run.specs.declared.faults.RunFault.{RunFault}
 use Rattle.batch_run.specs.declared.settings.Settings.{Settings}
 use Rattle.batch_run.specs.Runs.{Output, Ran}
 use Rattle.batch_run.specs.Stopping.{IsEnoughFor}
+use Rattle.batch_run.specs.Unsuited.{IsRefusedUnsuited}
 
 module _ {W : Type 0} (how : Settings) (answers : ℕ → ℕ → Bool → Type 0) (IsRead : GraphData → Asked → Type 0) (inputs : File → Type 0) (out out_after : Output W) (r : Result (Unit {0}) RunFault)
-    (suffices : (g : GraphData) → IsGraph g → how.width ≤ 64 → 17179869376 ≤ how.turns → IsEnoughFor how g) (one : how.shards ≡ 1) (best : how.best_first ≡ true) (turns : 17179869376 ≤ how.turns) where
+    (suffices : (g : GraphData) → IsGraph g → how.width ≤ 64 → 17179869376 ≤ how.turns → IsEnoughFor how g) (one : how.shards ≡ 1) (best : how.best_first ≡ true) (turns : 17179869376 ≤ how.turns)
+    (cost : Option Cost) (suited : IsRefusedUnsuited cost how r) where
   -- a wider batch is refused
   never_stalled : {V : Type 0} (A : Algebra V) → Ran A how answers IsRead inputs out out_after r → IfErr r (λ f. f.number ≢ 40)
   never_stalled A ran = elim (cases_lt 64 how.width) [
-    | inl wide ↦ subst (λ (x : Result (Unit {0}) RunFault). IfErr x (λ f. f.number ≢ 40)) (sym (ran.refused (λ range. let l = range.width.1 in omega (arith, l, wide)))) (λ e. omega (arith, e))
+    | inl wide ↦ subst (λ (x : Result (Unit {0}) RunFault). IfErr x (λ f. f.number ≢ 40)) (sym (suited.1 (inl (λ range. let l = range.width.1 in omega (arith, l, wide))))) (λ e. omega (arith, e))
     | inr few ↦ ran.unstalled (record { one = one; best_first = best; enough = λ g asked read roads. suffices g roads (omega (arith, few)) turns })
   ]
 

@@ -27,7 +27,8 @@ owner_text question source = codes "t" ++ (32 ∷ decimal question) ++ (32 ∷ d
 abbrev pub counts_text : Tally → List ℕ
 counts_text t = (32 ∷ decimal t.sent) ++ (32 ∷ decimal t.delivered) ++ (32 ∷ decimal t.signalled) ++ (32 ∷ decimal t.accepted) ++ (if t.full then codes " full" else []) ++ 10 ∷ []
 
--- what a report adds to the accounts of a batch under an algebra of this name: its beginning the header, a diffusion that was gathered its line
+-- what a report adds to the accounts of a batch under an algebra of this name: its beginning the
+-- header, a diffusion that was gathered its line
 abbrev pub account_of : AlgebraName → Progress → List ℕ
 account_of name (Begun questions diffusions) = heading_text diffusions name
 account_of name (Factored became) = []

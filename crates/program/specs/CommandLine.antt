@@ -22,14 +22,16 @@ DoesSubcommand F I S opens creates tells (Check args) old new result = DoesCheck
 DoesSubcommand F I S opens creates tells (Faults numbers) old new result =
     (new.files ≡ old.files) × ((table : List FaultRow) × IsFaultTable table × Explains table numbers.items old.out new.out old.errors new.errors result)
 
--- some text reached the output, with status 0; or it could not be written, which is reported as fault 42
+-- some text reached the output, with status 0; or it could not be written, which is reported as
+-- fault 42
 pub record IsShown {P W E : Type 0} (old new : Moment P W E) (result : ℕ) : Type 0 where
   pub text : List ℕ
   pub outcome : Result (Unit {0}) RunFault
   pub reaches : Reaches text old.out new.out outcome
   pub ends : EndsAs (λ _. 0) old.errors new.errors outcome result
 
--- what is said of words by what they are: help and the version on the output; of wrong words, a usage fault on the error output
+-- what is said of words by what they are: help and the version on the output; of wrong words, a
+-- usage fault on the error output
 abbrev pub SaysBy : {P W E : Type 0} → ErrorKind → Moment P W E → Moment P W E → ℕ → Type 0
 SaysBy DisplayHelp old new result = IsShown old new result
 SaysBy DisplayVersion old new result = IsShown old new result
@@ -41,7 +43,8 @@ pub record IsSaid {P W E : Type 0} (kind : ErrorKind) (old new : Moment P W E) (
   pub unopened : new.files ≡ old.files
   pub said : SaysBy kind old new result ⊎ ((new.out ≡ old.out) × ReportsFault (run_fault 3) old.errors new.errors result)
 
--- the subcommand that the words ask for was done; or they ask for none, or memory was refused, and that was said
+-- the subcommand that the words ask for was done; or they ask for none, or memory was refused, and
+-- that was said
 abbrev pub DoesCommandLine : (F I S : Type 0) → {P W E : Type 0} → Tries P → Tries P → Tells P → List (List ℕ) → Moment P W E → Moment P W E → ℕ → Type 0
 DoesCommandLine F I S opens creates tells words old new result =
     ((subcommand : Subcommand) × AskFor words subcommand × DoesSubcommand F I S opens creates tells subcommand old new result)

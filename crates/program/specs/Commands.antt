@@ -9,6 +9,7 @@ use Rattle.batch_run.specs.declared.settings.Settings.{Settings}
 use Rattle.batch_run.specs.Inputs.{HasReadBundle, HasReadPair}
 use Rattle.batch_run.specs.Ran.{IsBundleFile, IsBundleOf, IsPairFile, IsPairOf}
 use Rattle.batch_run.specs.Runs.{Input, Output}
+use Rattle.batch_run.specs.Unsuited.{IsRefusedUnsuited}
 use Rattle.service.specs.Served.{RanService}
 use Rattle.command_args.specs.declared.parsed.BundleArgs.{BundleArgs}
 use Rattle.command_args.specs.declared.parsed.CheckArgs.{CheckArgs}
@@ -24,11 +25,12 @@ use Rattle.program.specs.Judgements.{EndsCheck, RanJudge}
 use Rattle.program.specs.Moments.{Moment}
 use Rattle.program.specs.Opening.{CannotChoose, CannotCreate, CannotOpen, CreatesIf, HasOpened, IsChosen, Tells, Tries, accounts_name, inputs_judged, inputs_solved, missing, written_names}
 use Rattle.program.specs.Refusals.{Says}
-use Rattle.program.specs.Runs.{gate_is_open}
+use Rattle.program.specs.Runs.{arc_cost_of, gate_is_open}
 use Rattle.program.specs.Times.{ShowsTimes}
 use Rattle.program.specs.Watching.{EndsWatched}
 
--- a command was refused, for a reason that leaves the files so: its output is as it was, and the reason is said
+-- a command was refused, for a reason that leaves the files so: its output is as it was, and the
+-- reason is said
 pub record IsRefused {P W E : Type 0} (Why : P → Refusal → Type 0) (old new : Moment P W E) (result : ℕ) : Type 0 where
   pub refusal : Refusal
   pub why : Why new.files refusal
@@ -40,7 +42,8 @@ pub record Creates {S P : Type 0} (creates : Tries P) (tells : Tells P) (others 
   pub tried : CreatesIf creates tells others (accounts_name watching) files files_after
   pub wanted : IsSome accounts ↔ IsSome watching.accounts
 
--- the files that `solve` reads, and those that its other output goes to: none of them is that of the accounts
+-- the files that `solve` reads, and those that its other output goes to: none of them is that of
+-- the accounts
 abbrev pub taken_solved : SolveArgs → List (List ℕ)
 taken_solved args = args.graph.now ∷ args.questions.now ∷ written_names
 
@@ -48,7 +51,8 @@ taken_solved args = args.graph.now ∷ args.questions.now ∷ written_names
 abbrev pub taken_bundled : List (List ℕ)
 taken_bundled = stdin_name ∷ written_names
 
--- both inputs were opened, and the file of accounts was created; then the questions were answered, and at last times were shown, if they are wanted
+-- both inputs were opened, and the file of accounts was created; then the questions were answered,
+-- and at last times were shown, if they are wanted
 pub record SolvesOpened (F I S : Type 0) {P W E : Type 0} (creates : Tries P) (tells : Tells P) (chosen : AlgebraChoice) (args : SolveArgs) (first second : Input (OpenedInput F I)) (opened : P) (old new : Moment P W E) (result : ℕ) : Type 0 where
   pub accounts : Option (Output S)
   pub accounts_after : Option (Output S)
@@ -60,7 +64,8 @@ pub record SolvesOpened (F I S : Type 0) {P W E : Type 0} (creates : Tries P) (t
       old.out answered.out accounts accounts_after old.errors answered.errors result
   pub timed : ShowsTimes args.watching.times result answered new
 
--- inputs were opened, or the first that can't be is reported; then the file of accounts was created, or that is reported; then the questions were answered
+-- inputs were opened, or the first that can't be is reported; then the file of accounts was
+-- created, or that is reported; then the questions were answered
 pub record SolvesChosen (F I S : Type 0) {P W E : Type 0} (opens creates : Tries P) (tells : Tells P) (chosen : AlgebraChoice) (args : SolveArgs) (old new : Moment P W E) (result : ℕ) : Type 0 where
   pub opened : P
   pub first : Input (OpenedInput F I)
@@ -69,7 +74,8 @@ pub record SolvesChosen (F I S : Type 0) {P W E : Type 0} (opens creates : Tries
   pub ends : IsRefused (CannotCreate creates tells (taken_solved args) (accounts_name args.watching) opened) old new result
       ⊎ SolvesOpened F I S creates tells chosen args first second opened old new result
 
--- `solve` with these arguments, over files of this type, a standard input of that, and new files of a third
+-- `solve` with these arguments, over files of this type, a standard input of that, and new files of
+-- a third
 abbrev pub DoesSolve : (F I S : Type 0) → {P W E : Type 0} → Tries P → Tries P → Tells P → SolveArgs → Moment P W E → Moment P W E → ℕ → Type 0
 DoesSolve F I S opens creates tells args old new result =
     IsRefused (λ files refusal. (files ≡ old.files) × CannotChoose args.options (is_some args.watching.accounts) refusal) old new result
@@ -77,7 +83,8 @@ DoesSolve F I S opens creates tells args old new result =
     × (IsRefused (CannotOpen opens (inputs_solved args) old.files) old new result
     ⊎ SolvesChosen F I S opens creates tells chosen args old new result))
 
--- the file of accounts was created; then the questions of standard input were answered, which nothing was read of before, and at last times were shown, if they are wanted
+-- the file of accounts was created; then the questions of standard input were answered, which
+-- nothing was read of before, and at last times were shown, if they are wanted
 pub record BundlesStdin (I S : Type 0) {P W E : Type 0} (creates : Tries P) (tells : Tells P) (chosen : AlgebraChoice) (args : BundleArgs) (old new : Moment P W E) (result : ℕ) : Type 0 where
   pub text : Input I
   pub text_after : Input I
@@ -98,7 +105,8 @@ DoesBundle I S creates tells args old new result =
     × (IsRefused (CannotCreate creates tells taken_bundled (accounts_name args.watching) old.files) old new result
     ⊎ BundlesStdin I S creates tells chosen args old new result))
 
--- the graph's file was opened, and then the requests of standard input were replied to; nothing was read of either before
+-- the graph's file was opened, and then the requests of standard input were replied to; nothing was
+-- read of either before
 pub record ServesOpened (F I : Type 0) {P W E : Type 0} (chosen : AlgebraChoice) (settings : Settings) (old new : Moment P W E) (result : ℕ) : Type 0 where
   pub roads : Input F
   pub roads_after : Input F
@@ -107,6 +115,9 @@ pub record ServesOpened (F I : Type 0) {P W E : Type 0} (chosen : AlgebraChoice)
   pub unread : (roads.asked ≡ 0) × (requests.asked ≡ 0)
   pub outcome : Result (Unit {0}) RunFault
   pub ran : Under chosen (λ V A. RanService A settings gate_is_open roads roads_after requests requests_after old.out new.out outcome)
+  -- 43 is reported exactly of settings that are out of range, or choose factors for an algebra
+  -- without a cost
+  pub suited : IsRefusedUnsuited (arc_cost_of chosen) settings outcome
   pub ends : EndsAs (λ _. 0) old.errors new.errors outcome result
 
 -- `serve` with these arguments. Standard input has the requests, so the graph can't be there

@@ -20,7 +20,8 @@ abbrev pub outcome_of_pair : {X : Type 0} → Result X RunFault → Result (Unit
 outcome_of_pair (Ok x) = Ok tt
 outcome_of_pair (Err f) = fault_of_pair f.file f
 
--- the answers of one input to the questions of another over the graph of a third were judged, or this fault stopped it
+-- the answers of one input to the questions of another over the graph of a third were judged, or
+-- this fault stopped it
 pub record RanJudge {G Q S : Type 0} (given : Option ℕ) (first first_after : Input G) (second second_after : Input Q) (third third_after : Input S) (outcome : Result Verdict RunFault) : Type 0 where
   -- the one verdict on what the inputs spell
   pub judged : IfOk outcome (IsJudged first.left second.left third.left given)
@@ -28,7 +29,8 @@ pub record RanJudge {G Q S : Type 0} (given : Option ℕ) (first first_after : I
   pub pair : HasReadPair first first_after second second_after (outcome_of_pair outcome)
   -- without a fault no read of the answers failed
   pub sound : OnOk outcome (third_after.failures ≡ third.failures)
-  -- a fault of the answers is their first one, or they name an algebra of a caller's own; the graph and the questions have none
+  -- a fault of the answers is their first one, or they name an algebra of a caller's own; the graph
+  -- and the questions have none
   pub answers : IfErr outcome (λ f. f.file ≡ Answers → IsAnswersFault first.left second.left third.left f ⊎ IsOwnFault first.left second.left third.left f)
   -- 43 is reported only of a limit that does not go with the algebra that the answers name
   pub limit : IfErr outcome (λ f. f.number ≡ 43 → IsLimitFault first.left second.left third.left given)
@@ -43,7 +45,8 @@ pub record RanJudge {G Q S : Type 0} (given : Option ℕ) (first first_after : I
   -- at most 2 ^ 32 + 1 reads of the answers were asked for
   pub asked : third_after.asked ≤ third.asked + 4294967297
 
--- the verdict reached the output, and gives the exit status; or it could not be written, which is reported
+-- the verdict reached the output, and gives the exit status; or it could not be written, which is
+-- reported
 pub record ShowsVerdict {W E : Type 0} (verdict : Verdict) (out out_after : Output W) (errors errors_after : Output E) (result : ℕ) : Type 0 where
   pub outcome : Result (Unit {0}) RunFault
   pub reaches : Reaches (verdict_text verdict) out out_after outcome

@@ -4,6 +4,7 @@ pub mod Refusals
 pub mod Opening
 pub mod Accounts
 pub mod Progress
+pub mod Chosen
 pub mod Runs
 pub mod Watching
 pub mod Times

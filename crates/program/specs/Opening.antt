@@ -1,4 +1,5 @@
--- What a command tries before it reads: its words, the inputs of their names in order, and the file of accounts.
+-- What a command tries before it reads: its words, the inputs of their names in order, and the file
+-- of accounts.
 use Rattle.std.specs.Prelude.{◌≡◌, ◌≢◌, ℕ, ◌⊎◌, List, [], ◌∷◌, Bool, true, false, Option, Some, None, IsSome, IfSome, All, Any, codes, map}
 use Rattle.std.specs.Option.{option_map}
 use Rattle.path_algebra.specs.Names.{name_of_text}
@@ -34,7 +35,8 @@ pub record IsChosen (options : RunOptions) (accounts : Bool) (chosen : AlgebraCh
   pub named : name_of_text options.algebra.now ≡ Some (name_of chosen)
   pub limited : limit_of chosen ≡ options.limit
 
--- two solvers are asked for; or, if not, accounts are wanted of a solver that counts nothing; or, if not, there is no algebra of that name with that limit, which is fault 43
+-- two solvers are asked for; or, if not, accounts are wanted of a solver that counts nothing; or,
+-- if not, there is no algebra of that name with that limit, which is fault 43
 abbrev pub CannotChoose : RunOptions → Bool → Refusal → Type 0
 CannotChoose options accounts TwoSolvers = AreTwo options.settings
 CannotChoose options accounts Uncounted = (AreTwo options.settings → ⊥) × IsUncounted accounts options.settings
@@ -46,7 +48,8 @@ CannotChoose options accounts _ = ⊥
 abbrev pub Tries : Type 0 → Type 1
 Tries P = P → List ℕ → P → Type 0
 
--- the input of a name was tried: `-` is standard input, for which no file is opened; of another name the file was tried, once
+-- the input of a name was tried: `-` is standard input, for which no file is opened; of another
+-- name the file was tried, once
 abbrev pub OpensInput : {P : Type 0} → Tries P → List ℕ → P → P → Type 0
 OpensInput opens name old new = ((name ≡ stdin_name) × (new ≡ old)) ⊎ ((name ≢ stdin_name) × opens old name new)
 
@@ -77,14 +80,16 @@ HasOpened opens named opened old new = NamesStdinOnce (map (λ n. n.0) named) ×
 abbrev pub missing : File → RunFault
 missing file = record { number = 1; file = file; line = 0 }
 
--- of the inputs of these names one can't be opened: those before it were tried, in this order, and then it, and no other
+-- of the inputs of these names one can't be opened: those before it were tried, in this order, and
+-- then it, and no other
 abbrev pub IsMissing : {P : Type 0} → Tries P → Named → P → P → RunFault → Type 0
 IsMissing opens [] old new f = ⊥
 IsMissing {P} opens ((name, file) ∷ more) old new f =
     ((f ≡ missing file) × (name ≢ stdin_name) × opens old name new)
     ⊎ ((next : P) × OpensInput opens name old next × IsMissing opens more next new f)
 
--- standard input is named more than once, and nothing was tried; or one of the inputs can't be opened
+-- standard input is named more than once, and nothing was tried; or one of the inputs can't be
+-- opened
 abbrev pub CannotOpen : {P : Type 0} → Tries P → Named → P → P → Refusal → Type 0
 CannotOpen opens named old new StdinTwice = (NamesStdinOnce (map (λ n. n.0) named) → ⊥) × (new ≡ old)
 CannotOpen opens named old new (Fault f) = NamesStdinOnce (map (λ n. n.0) named) × IsMissing opens named old new f
@@ -99,7 +104,8 @@ abbrev pub IsAmong : {P : Type 0} → Tells P → P → List ℕ → List (List 
 IsAmong tells files name others true = Any (λ other. tells files name other true) others
 IsAmong tells files name others false = All (λ other. tells files name other false) others
 
--- the file of this name was tried, if one is wanted, and no other; it is no standard input, and none of these others
+-- the file of this name was tried, if one is wanted, and no other; it is no standard input, and
+-- none of these others
 abbrev pub CreatesIf : {P : Type 0} → Tries P → Tells P → List (List ℕ) → Option (List ℕ) → P → P → Type 0
 CreatesIf creates tells others None old new = new ≡ old
 CreatesIf creates tells others (Some name) old new = (name ≢ stdin_name) × IsAmong tells old name others false × creates old name new
@@ -108,7 +114,8 @@ CreatesIf creates tells others (Some name) old new = (name ≢ stdin_name) × Is
 abbrev pub accounts_name : WatchOptions → Option (List ℕ)
 accounts_name watching = option_map (λ name. name.now) watching.accounts
 
--- the file of accounts that is wanted is named as standard input, or is one of these others, and nothing was tried; or it can't be created, which is fault 42
+-- the file of accounts that is wanted is named as standard input, or is one of these others, and
+-- nothing was tried; or it can't be created, which is fault 42
 abbrev pub CannotCreate : {P : Type 0} → Tries P → Tells P → List (List ℕ) → Option (List ℕ) → P → P → Refusal → Type 0
 CannotCreate creates tells others wanted old new NoFile = (wanted ≡ Some stdin_name) × (new ≡ old)
 CannotCreate creates tells others wanted old new FileTaken = IfSome wanted (λ name. IsAmong tells old name others true) × IsSome wanted × (new ≡ old)

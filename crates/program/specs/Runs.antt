@@ -1,26 +1,50 @@
--- What answering leaves under the algebra that was chosen, between two moments of its inputs and its output.
-use Rattle.std.specs.Prelude.{◌≡◌, ◌≢◌, ◌≤◌, ℕ, Bool, true, Result, IfErr}
+-- What answering leaves under the algebra that was chosen, between two moments of its inputs and
+-- its output.
+use Rattle.std.specs.Prelude.{◌≡◌, ◌≢◌, ◌≤◌, ℕ, Bool, true, Option, None, Some, Result, IfErr}
 use Rattle.road_graph.specs.GraphData.{GraphData}
 use Rattle.road_files.specs.Asked.{Asked}
 use Rattle.path_algebra.specs.declared.choice.AlgebraChoice.{AlgebraChoice}
+use Rattle.path_algebra.specs.declared.choice.AlgebraChoice.TheVariants.{Shortest, Widest, Reach, Hops, Reliable, Within}
 use Rattle.path_algebra.specs.Choices.{Under}
+use Rattle.path_algebra.specs.declared.counted_sums.Cost.{Cost}
+use Rattle.path_algebra.specs.declared.counted_sums.Cost.TheVariants.{One, Weight}
 use Rattle.batch_run.specs.declared.faults.File.{File}
 use Rattle.batch_run.specs.declared.faults.RunFault.{RunFault}
 use Rattle.batch_run.specs.declared.settings.Settings.{Settings}
 use Rattle.batch_run.specs.Runs.{Output, Ran}
+use Rattle.batch_run.specs.Stopping.{Stopped}
+use Rattle.batch_run.specs.Unsuited.{IsRefusedUnsuited}
+use Rattle.program.specs.Chosen.{OfChosen}
 
--- the gate of the program is always open: whichever worker asks before whichever turn, its answer is true
+-- the gate of the program is always open: whichever worker asks before whichever turn, its answer
+-- is true
 abbrev pub gate_is_open : ℕ → ℕ → Bool → Type 0
 gate_is_open worker turn answer = answer ≡ true
+
+-- what an arc costs by the algebra that was chosen, if best values are least sums of that
+abbrev pub arc_cost_of : AlgebraChoice → Option Cost
+arc_cost_of Shortest = Some Weight
+arc_cost_of Widest = None
+arc_cost_of Reach = None
+arc_cost_of Hops = Some One
+arc_cost_of Reliable = None
+arc_cost_of (Within w) = Some Weight
 
 -- the questions of an input were answered over its graph, or this fault stopped it
 pub record RanUnder {W : Type 0} (chosen : AlgebraChoice) (settings : Settings) (IsRead : GraphData → Asked → Type 0) (inputs : File → Type 0) (HasRead : Result (Unit {0}) RunFault → Type 0)
     (out out_after : Output W) (outcome : Result (Unit {0}) RunFault) : Type 0 where
   -- all that a batch leaves under the algebra that was chosen
   pub run : Under chosen (λ V A. Ran A settings gate_is_open IsRead inputs out out_after outcome)
+  -- 43 is reported exactly of settings that are out of range, or choose factors for an algebra
+  -- without a cost
+  pub suited : IsRefusedUnsuited (arc_cost_of chosen) settings outcome
+  -- 40 is reported only if workers drove a group of diffusions over what was read, and the first of
+  -- them that stopped was at its limit of turns
+  pub stopped : OfChosen chosen (λ S V meaning algebra. Stopped meaning algebra settings gate_is_open IsRead outcome)
   -- how the input was read
   pub read : HasRead outcome
   -- and no gate stopped it
   pub ungated : IfErr outcome (λ f. f.number ≢ 41)
-  -- with one shard, best first, a limit of turns that is enough for every graph stopped none either; the usual one, 1,000,000,000,000, is
+  -- with one shard, best first, a limit of turns that is enough for every graph stopped none
+  -- either; the usual one, 1,000,000,000,000, is
   pub unstalled : settings.shards ≡ 1 → settings.best_first ≡ true → 17179869376 ≤ settings.turns → IfErr outcome (λ f. f.number ≢ 40)

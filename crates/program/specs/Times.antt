@@ -12,7 +12,8 @@ seconds_text n = decimal (n / 1000) ++ 46 ∷ (48 + n / 100 % 10) ∷ (48 + n / 
 unfoldable pub times_text : Times → List ℕ
 times_text t = codes "times: read " ++ seconds_text t.read ++ codes " solve " ++ seconds_text t.solve ++ codes " write " ++ seconds_text t.write ++ 10 ∷ []
 
--- at the end nothing more was done; or, after a success and if that is wanted, some times were shown on the error output
+-- at the end nothing more was done; or, after a success and if that is wanted, some times were
+-- shown on the error output
 abbrev pub ShowsTimes : {P W E : Type 0} → Bool → ℕ → Moment P W E → Moment P W E → Type 0
 ShowsTimes wanted status old new =
     (new ≡ old)

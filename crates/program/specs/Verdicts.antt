@@ -53,7 +53,8 @@ pub record IsOwnFault (graph questions answers : Option (List ℕ)) (f : RunFaul
   pub own : told.name ≡ Own
   pub fault : f ≡ record { number = 31; file = Answers; line = 0 }
 
--- the answers were read, the algebra that they name is one of the program's, and it does not go with the limit
+-- the answers were read, the algebra that they name is one of the program's, and it does not go
+-- with the limit
 pub record IsLimitFault (graph questions answers : Option (List ℕ)) (limit : Option ℕ) : Type 0 where
   pub roads : GraphData
   pub asked : Asked

@@ -1,17 +1,13 @@
 -- What the watcher of a command writes, and how a command ends that is watched.
-use Rattle.std.specs.Prelude.{◌≡◌, ◌⊎◌, ℕ, ◌<◌, List, [], Bool, true, false, Option, Some, None, Result, Ok, Err, OnOk}
+use Rattle.std.specs.Prelude.{◌≡◌, ◌≢◌, ◌⊎◌, ℕ, ◌<◌, ◌≤◌, List, [], Bool, true, false, Option, Some, None, Result, Ok, Err}
 use Rattle.std.specs.Io.KnownBytes.{Appends, Keeps}
-use Rattle.std.specs.List.{AllZip}
 use Rattle.road_graph.specs.GraphData.{GraphData}
 use Rattle.road_files.specs.Asked.{Asked}
-use Rattle.path_algebra.specs.Algebra.{Algebra}
 use Rattle.batch_run.specs.declared.faults.File.{File}
 use Rattle.batch_run.specs.declared.faults.RunFault.{RunFault}
 use Rattle.batch_run.specs.declared.settings.Settings.{Settings}
 use Rattle.batch_run.specs.declared.watcher.Progress.{Progress}
-use Rattle.batch_run.specs.Choice.{without_diffusions}
-use Rattle.batch_run.specs.Reports.{IsReportOf, IsTold, batch_due}
-use Rattle.question_solvers.specs.declared.factor_solver.Factoring.{Factoring}
+use Rattle.batch_run.specs.Reports.{AreReports}
 use Rattle.text_lines.specs.Streams.{Output}
 use Rattle.path_algebra.specs.declared.choice.AlgebraChoice.{AlgebraChoice}
 use Rattle.path_algebra.specs.Choices.{Under, name_of}
@@ -42,7 +38,8 @@ AreLost seen None new = ⊥
 AreLost seen (Some a) None = ⊥
 AreLost seen (Some a) (Some b) = (seen a).failures < (seen b).failures
 
--- a text was to be added to accounts: they have it, or they are lost, since a write failed; lost accounts stay as they are
+-- a text was to be added to accounts: they have it, or they are lost, since a write failed; lost
+-- accounts stay as they are
 pub record HasAccounts {A : Type 0} (seen : A → Output A) (old new : Option A) (lost lost_after : Bool) (text : List ℕ) : Type 0 where
   pub kept : lost_after ≡ false → (lost ≡ false) × AreKept seen old new text
   pub fell : lost_after ≡ true → (lost ≡ true) ⊎ AreLost seen old new
@@ -62,22 +59,15 @@ pub record Notes {A E M : Type 0} (seen : A → Output A) (shown : E → Output 
   -- and so has the error output, if progress is shown
   pub errors : IsAddedIf shown old.progress old.errors.now new.errors.now (shown_at old.all report)
 
--- these are the reports of a batch over what was read: of factoring, if it is to answer; of each question in order, and each account is of a diffusion that has ended
-pub record AreReportsOf {V : Type 0} (A : Algebra V) (how : Settings) (plain : Bool) (IsRead : GraphData → Asked → Type 0) (reports : List Progress) : Type 0 where
-  pub graph : GraphData
-  pub asked : Asked
-  pub read : IsRead graph asked
-  pub became : Option Factoring
-  pub told : IsTold how.factors became
-  pub are_due : AllZip (IsReportOf A how graph) (batch_due plain became asked.questions) reports
-
--- accounts, if they are wanted, have the text, and nothing is held back; or a write failed, and that is fault 42
+-- accounts, if they are wanted, have the text, and nothing is held back; or a write failed, and
+-- that is fault 42
 abbrev pub Account : {A : Type 0} → List ℕ → Option (Output A) → Option (Output A) → Result (Unit {0}) RunFault → Type 0
 Account text None after kept = (after ≡ None) × (kept ≡ Ok tt)
 Account text (Some a) None kept = ⊥
 Account text (Some a) (Some b) kept = Reaches text a b kept
 
--- accounts, if they are wanted, are passed on, and have what they had; or a write failed, before or then, and that is fault 42
+-- accounts, if they are wanted, are passed on, and have what they had; or a write failed, before or
+-- then, and that is fault 42
 abbrev pub EndsAccounts : {A : Type 0} → (A → Output A) → Option A → Option A → Bool → Result (Unit {0}) RunFault → Type 0
 EndsAccounts seen None new lost result = (new ≡ None) × (result ≡ Ok tt)
 EndsAccounts seen (Some a) None lost result = ⊥
@@ -89,16 +79,20 @@ abbrev pub outcome_of : Result (Unit {0}) RunFault → Result (Unit {0}) RunFaul
 outcome_of (Ok _) kept = kept
 outcome_of (Err f) kept = Err f
 
--- How a command ends that answers what an input spells: what answering leaves, what was reported of it, that the accounts are those of the reports, what
--- was shown on the error output, and the exit status; a fault is reported last.
+-- How a command ends that answers what an input spells: what answering leaves, what was reported of
+-- it, that the accounts are those of the reports, what was shown on the error output, and the exit
+-- status; a fault is reported last.
 pub record EndsWatched {W A E : Type 0} (chosen : AlgebraChoice) (settings : Settings) (progress : Bool) (IsRead : GraphData → Asked → Type 0) (inputs : File → Type 0)
     (HasRead : Result (Unit {0}) RunFault → Type 0) (out out_after : Output W) (accounts accounts_after : Option (Output A)) (errors errors_after : Output E) (result : ℕ) : Type 0 where
   pub outcome : Result (Unit {0}) RunFault
   pub ran : RanUnder chosen settings IsRead inputs HasRead out out_after outcome
   pub reports : List Progress
-  pub reported : Under chosen (λ V A. OnOk outcome (AreReportsOf A settings (without_diffusions settings) IsRead reports))
+  pub reported : Under chosen (λ V A. AreReports A settings IsRead out out_after outcome reports)
   pub kept : Result (Unit {0}) RunFault
   pub accounted : Account (accounts_text (name_of chosen) reports) accounts accounts_after kept
   pub watched : Output E
   pub shown : IsAddedIf (λ e. e) progress errors watched (progress_text 0 reports)
   pub ends : EndsAs (λ _. 0) watched errors_after (outcome_of outcome kept) result
+  -- with one shard, best first, and a limit of turns that is enough for every graph, as the usual
+  -- one is, the exit status is not that of a limit
+  pub finishes : settings.shards ≡ 1 → settings.best_first ≡ true → 17179869376 ≤ settings.turns → result ≢ 6

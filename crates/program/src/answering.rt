@@ -6,8 +6,11 @@ ghost use Rattle.batch_run.specs.Inputs.{HasReadPair};
 ghost use Rattle.batch_run.specs.Ran.{IsPairFile, IsPairOf};
 ghost use Rattle.batch_run.specs.Reports.{Watched};
 ghost use Rattle.batch_run.specs.Runs.{Ran};
+ghost use Rattle.batch_run.specs.Stopping.{Stopped};
+ghost use Rattle.batch_run.specs.Unsuited.{IsRefusedUnsuited};
+ghost use Rattle.program.specs.Chosen.{OfChosen};
 ghost use Rattle.service.specs.Served.{RanService};
-ghost use Rattle.program.specs.Runs.{gate_is_open};
+ghost use Rattle.program.specs.Runs.{arc_cost_of, gate_is_open};
 ghost use Rattle.program.specs.Watching.{EndsAccounts, EndsWatched, outcome_of};
 
 use crate::files::FileSystem;
@@ -35,6 +38,9 @@ fn run_chosen<R: Threads + Wait + Sync, I: BatchInput, W: RoadWrite, O: Watcher>
 ) -> Result<(), RunFault>
     ensures run { Under task.now.chosen (λ V A. Ran A task.now.settings.now gate_is_open
         (I.is_read input.old) I.is_own (W.seen out.old) (W.seen out.new) result) }
+    ensures suited { IsRefusedUnsuited (arc_cost_of task.now.chosen) task.now.settings.now result }
+    ensures stopped { OfChosen task.now.chosen (λ S V meaning algebra. Stopped meaning algebra
+        task.now.settings.now gate_is_open (I.is_read input.old) result) }
     ensures read { I.has_read input.old input.new result }
     ensures watched { Under task.now.chosen (λ V A. Watched A task.now.settings.now
         (I.is_read input.old) O.may_become watcher.old watcher.new (W.seen out.old)
@@ -53,16 +59,18 @@ fn run_chosen<R: Threads + Wait + Sync, I: BatchInput, W: RoadWrite, O: Watcher>
     )
 }
 
-/// Replies to the requests of one input over the graph of another, to each as soon as it is whole, under the chosen algebra.
+/// Replies to the requests of one input over the graph of another, to each as soon as it is whole,
+/// under the chosen algebra.
 pub(crate) fn serve_chosen<R: Threads + Wait + Sync, G: RoadRead, Q: RoadRead, W: RoadWrite>(
     task: &Task<'_, R>,
     graph: &mut G,
     requests: &mut Q,
     out: &mut W,
 ) -> Result<(), RunFault>
-    ensures { Under task.now.chosen (λ V A. RanService A task.now.settings.now gate_is_open
+    ensures run { Under task.now.chosen (λ V A. RanService A task.now.settings.now gate_is_open
         (G.seen graph.old) (G.seen graph.new) (Q.seen requests.old) (Q.seen requests.new)
         (W.seen out.old) (W.seen out.new) result) }
+    ensures suited { IsRefusedUnsuited (arc_cost_of task.now.chosen) task.now.settings.now result }
 {
     let gate = OpenGate;
     let run = Run {
@@ -100,8 +108,9 @@ fn outcome_of(batch: Result<(), RunFault>, kept: Result<(), RunFault>) -> Result
     }
 }
 
-/// Answers the questions of an input over its graph, writes accounts and shows progress, each if it is wanted, takes note of its
-/// phases, and gives the exit status. A fault is reported last, in one line on the error output.
+/// Answers the questions of an input over its graph, writes accounts and shows progress, each if it
+/// is wanted, takes note of its phases, and gives the exit status. A fault is reported last, in one
+/// line on the error output.
 pub(crate) fn answer_in_phases<
     R: Threads + Wait + Sync,
     M: Phases,
@@ -159,7 +168,8 @@ pub fn answer<R: Threads + Wait + Sync, I: BatchInput, W: RoadWrite, A: RoadWrit
     answer_in_phases(&measured, input, out, watching, errors)
 }
 
-/// Answers the questions of an input over its graph, as `answer_in_phases` does. The files take note of the phases.
+/// Answers the questions of an input over its graph, as `answer_in_phases` does. The files take
+/// note of the phases.
 pub(crate) fn answer_measured<
     R: Threads + Wait + Sync,
     I: BatchInput,

@@ -24,7 +24,8 @@ use std::time::Clock;
 use std::{env, io};
 use text_lines::{Buffered, MEMORY, Plain, RoadWrite};
 
-/// Writes what the command line's parser says: help on the output, a usage fault on the error output.
+/// Writes what the command line's parser says: help on the output, a usage fault on the error
+/// output.
 fn say<P, W: RoadWrite, E: RoadWrite>(alloc: Global, host: &mut Host<P, W, E>, error: &Error) -> u8
     ensures { IsSaid (kind_of error.now) (moment W.seen E.seen host.old) (moment W.seen E.seen
         host.new) result }
@@ -43,7 +44,8 @@ fn say<P, W: RoadWrite, E: RoadWrite>(alloc: Global, host: &mut Host<P, W, E>, e
     end_with(&mut host.errors, outcome)
 }
 
-/// Does what the words of a command line ask for, the program's own first, and gives the exit status.
+/// Does what the words of a command line ask for, the program's own first, and gives the exit
+/// status.
 pub fn run_command_line<
     R: AllocGlobal + Threads + Wait + Sync,
     P: FileSystem,
@@ -107,7 +109,8 @@ where
     }
 }
 
-/// Runs the program over the system's files and streams, with this error output, and gives the exit status.
+/// Runs the program over the system's files and streams, with this error output, and gives the exit
+/// status.
 pub fn run<R, E: Write + Drop>(rt: &R, errors: E) -> u8
 where
     R: Env + Files + Input + Print + Clock + AllocGlobal + Threads + Wait + Sync,

@@ -1,4 +1,5 @@
-//! The commands, each as its arguments ask: it gives the exit status, and reports a fault in one line on the error output.
+//! The commands, each as its arguments ask: it gives the exit status, and reports a fault in one
+//! line on the error output.
 ghost use Rattle.program.specs.Commands.{DoesBundle, DoesCheck, DoesServe, DoesSolve};
 ghost use Rattle.program.specs.Moments.{moment};
 
@@ -20,8 +21,9 @@ use std::sync::Wait;
 use std::thread::Threads;
 use text_lines::RoadWrite;
 
-/// Answers the questions of one input over the graph of another. The inputs are opened in the order of their names, and the file of
-/// accounts, which may be none of them, is created, before one is read.
+/// Answers the questions of one input over the graph of another. The inputs are opened in the order
+/// of their names, and the file of accounts, which may be none of them, is created, before one is
+/// read.
 pub fn solve<'t, R: AllocGlobal + Threads + Wait + Sync, P: FileSystem, W: RoadWrite, E: RoadWrite>(
     rt: &'t R,
     host: &mut Host<P, W, E>,
@@ -120,8 +122,8 @@ pub fn serve<'t, R: AllocGlobal + Threads + Wait + Sync, P: FileSystem, W: RoadW
     end_with(&mut host.errors, outcome)
 }
 
-/// Judges the answers of one input to the questions of another over the graph of a third. The inputs are opened in the order of
-/// their names before one is read.
+/// Judges the answers of one input to the questions of another over the graph of a third. The
+/// inputs are opened in the order of their names before one is read.
 pub fn check<R: AllocGlobal + Threads + Sync, P: FileSystem, W: RoadWrite, E: RoadWrite>(
     rt: &R,
     host: &mut Host<P, W, E>,

@@ -10,7 +10,8 @@ use std::rt::Files;
 use std::time::Clock;
 use text_lines::{Plain, ReadFailed, RoadRead, RoadWrite, WriteFault};
 
-/// Files by their names, read or written, standard input, and a stopwatch, if there is one. A test may bring its own.
+/// Files by their names, read or written, standard input, and a stopwatch, if there is one. A test
+/// may bring its own.
 pub trait FileSystem {
     /// A file that was opened.
     type File: RoadRead + Drop;
@@ -21,13 +22,16 @@ pub trait FileSystem {
     /// A file that was created.
     type NewFile: RoadWrite;
 
-    // Trying to open the file of this name, once, leads from the first state to the second, if the type says so.
+    // Trying to open the file of this name, once, leads from the first state to the second, if the
+    // type says so.
     ghost opens: { Self → List ℕ → Self → Type 0 } = { λ _ _ _. Unit {0} };
 
-    // Trying to create the file of this name, once, leads from the first state to the second, if the type says so.
+    // Trying to create the file of this name, once, leads from the first state to the second, if
+    // the type says so.
     ghost creates: { Self → List ℕ → Self → Type 0 } = { λ _ _ _. Unit {0} };
 
-    // Asking whether two names are those of one file on a disk is answered like this, if the type says so. `-` is standard input.
+    // Asking whether two names are those of one file on a disk is answered like this, if the type
+    // says so. `-` is standard input.
     ghost tells_same: { Self → List ℕ → List ℕ → Bool → Type 0 } = { λ _ _ _ _. Unit {0} };
 
     /// Opens the file of a name. Nothing has been read of it.

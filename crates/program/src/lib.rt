@@ -1,4 +1,5 @@
-//! The program's commands, over files, an output and an error output: each as its arguments ask, and as the words of a command line do.
+//! The program's commands, over files, an output and an error output: each as its arguments ask,
+//! and as the words of a command line do.
 #![tactic(auto)]
 
 mod answering;

@@ -1,4 +1,5 @@
-//! What a command tries before it reads: its words, the inputs of their names in order, and the file of accounts.
+//! What a command tries before it reads: its words, the inputs of their names in order, and the
+//! file of accounts.
 ghost use Rattle.std.specs.Prelude.{◌≡◌, ◌≢◌, ◌↔◌, [], ◌∷◌, IfOk, IfErr, IsSome, IsTrue, map};
 ghost use Rattle.program.specs.Inputs.{NamesStdinOnce, IsNamed, opened_input, stdin_name};
 ghost use Rattle.program.specs.Opening.{CannotChoose, CannotCreate, CannotOpen, CreatesIf, HasOpened, IsAmong, IsChosen, IsMissing, OpensInput, accounts_name, inputs_judged, inputs_solved, missing};
@@ -21,8 +22,8 @@ pub(crate) const OUTPUT_NAME: &str = "/dev/fd/1";
 /// Standard error, by the name that the system gives it.
 pub(crate) const ERRORS_NAME: &str = "/dev/fd/2";
 
-/// The algebra that options ask for. They are refused if they ask for two solvers, if accounts are wanted of a solver that counts
-/// nothing, and if the limit is missing or does not belong.
+/// The algebra that options ask for. They are refused if they ask for two solvers, if accounts are
+/// wanted of a solver that counts nothing, and if the limit is missing or does not belong.
 pub fn choose(options: &RunOptions<'_>, accounts: bool) -> Result<AlgebraChoice, Refusal>
     ensures chosen { IfOk result (IsChosen options.now accounts) }
     ensures refused { IfErr result (CannotChoose options.now accounts) }

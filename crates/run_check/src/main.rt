@@ -1,4 +1,5 @@
-//! The program again, for a stored run: wrong answers are judged, with the questions from standard input.
+//! The program again, for a stored run: wrong answers are judged, with the questions from standard
+//! input.
 #![tactic(auto)]
 
 use program::run;

@@ -112,9 +112,10 @@ fn read_inputs<G: RoadRead, Q: RoadRead, S: RoadRead>(
     }
 }
 
-/// Judges the answers of one input to the questions of another over the graph of a third, under the algebra that the
-/// answers name. The inputs are read first, in this order; then an algebra of a caller's own is fault 31 of the
-/// answers, and a limit that does not go with the algebra is fault 43.
+/// Judges the answers of one input to the questions of another over the graph of a third, under the
+/// algebra that the answers name. The inputs are read first, in this order; then an algebra of a
+/// caller's own is fault 31 of the answers, and a limit that does not go with the algebra is fault
+/// 43.
 pub fn judge<R: AllocGlobal + Threads + Sync, G: RoadRead, Q: RoadRead, S: RoadRead>(
     rt: &R,
     graph_in: &mut G,

@@ -51,7 +51,8 @@ fn status_of_verdict(verdict: Verdict) -> u8
     }
 }
 
-/// Ends a check: the verdict is written, and gives the exit status; a fault is reported, and gives its own.
+/// Ends a check: the verdict is written, and gives the exit status; a fault is reported, and gives
+/// its own.
 pub(crate) fn end_check<W: RoadWrite, E: RoadWrite>(
     out: &mut W,
     errors: &mut E,

@@ -62,8 +62,8 @@ fn write_times<E: RoadWrite>(errors: &mut E, times: Times)
     let _ = write_bytes(errors, line_of_times(times).as_str().as_bytes());
 }
 
-/// Shows on the error output how long a command took that has ended with this status, if that is wanted, it was measured, and
-/// there was no fault.
+/// Shows on the error output how long a command took that has ended with this status, if that is
+/// wanted, it was measured, and there was no fault.
 pub(crate) fn show_times<P: FileSystem, W: RoadWrite, E: RoadWrite>(
     host: &mut Host<P, W, E>,
     wanted: bool,

@@ -66,7 +66,8 @@ impl<'c, C: Clock> Stopwatch<'c, C> {
         })
     }
 
-    /// Adds the time since the last phase began to that phase, and begins the next. A clock that can't be read stands still.
+    /// Adds the time since the last phase began to that phase, and begins the next. A clock that
+    /// can't be read stands still.
     fn go_on(&self, next: Option<Phase>) {
         let since = self.since.get();
         let now = self.clock.monotonic().unwrap_or(since);

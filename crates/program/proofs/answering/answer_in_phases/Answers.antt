@@ -1,4 +1,4 @@
-use Rattle.std.proofs.Common.{◌≡◌, false, rules, subst, sym}
+use Rattle.std.proofs.Common.{◌≡◌, ◌≤◌, false, true, rules, subst, sym}
 use Rattle.std.proofs.Math.Path.{subst⁻¹}
 use Rattle.path_algebra.specs.Choices.{name_of}
 use Rattle.program.specs.Accounts.{accounts_text}
@@ -7,6 +7,7 @@ use Rattle.program.specs.Runs.{gate_is_open}
 use Rattle.program.specs.Watching.{HasAccounts, Notes, outcome_of}
 use Rattle.program.proofs.Adding.{account}
 use Rattle.program.proofs.Ended.{shown_as}
+use Rattle.program.proofs.GivesUp.{finishes}
 use Rattle.program.proofs.Noted.{noted_all, under_told}
 use Rattle.program.proofs.Ungated.{never_gated_under}
 use Rattle.program.proofs.Unstalled.{never_stalled_under}
@@ -22,37 +23,44 @@ shape_of-watching g c =
 
 pub returns : goal.returns
 returns g c =
-    let told = under_told c.args.measured.now.task.now.chosen c.args.measured.now.task.now.settings.now (g.I.BatchInput.is_read c.args.input.now)
+    let chosen = c.args.measured.now.task.now.chosen in
+    let how = c.args.measured.now.task.now.settings.now in
+    let told = under_told chosen how (g.I.BatchInput.is_read c.args.input.now)
     (Notes g.A.RoadWrite.seen g.E.RoadWrite.seen) _ _ _ _ c.run_chosen-batch.result
     c.run_chosen-batch.ensures.watched in
     let noted = noted_all g.A.RoadWrite.seen g.E.RoadWrite.seen told.0.0 _ _ told.0.1 in
-    let accounts_same = noted.same.0 in
-    let errors_same = noted.same.1 in
-    let how = c.args.measured.now.task.now.settings.now in
     let errors_are : c.run_chosen-batch.new.watcher.errors.now ≡ c.errors-1.given.0 = search rules in
+    let ungated = never_gated_under chosen how (g.I.BatchInput.is_read c.args.input.now) g.I.BatchInput.is_own _ _
+    c.run_chosen-batch.result c.run_chosen-batch.ensures.run in
+    let unstalled = λ (one : how.shards ≡ 1) (best : how.best_first ≡ true) (turns : 17179869376 ≤ how.turns).
+    never_stalled_under how gate_is_open (g.I.BatchInput.is_read c.args.input.now) g.I.BatchInput.is_own _ _ c.run_chosen-batch.result
+    (λ roads graph few enough. c.usual_turns_are_enough.ensures how roads graph few enough) one best turns _ c.run_chosen-batch.ensures.suited chosen c.run_chosen-batch.ensures.run in
+    let accounted = account g.A.RoadWrite.seen c.args.watching.now.accounts c.run_chosen-batch.new.watcher.accounts.now
+    c.end_accounts-kept.new.accounts c.run_chosen-batch.new.watcher.lost (accounts_text (name_of chosen) told.0.0) c.end_accounts-kept.result
+    (subst (λ name. HasAccounts g.A.RoadWrite.seen c.args.watching.now.accounts c.run_chosen-batch.new.watcher.accounts.now false
+    c.run_chosen-batch.new.watcher.lost (accounts_text name told.0.0)) c.name.ensures noted.accounts)
+    c.end_accounts-kept.ensures in
+    let ends = subst⁻¹ (λ errors. EndsAs (λ _. 0) (g.E.RoadWrite.seen errors)
+    (g.E.RoadWrite.seen c.end_with.new.errors)
+    (outcome_of c.run_chosen-batch.result c.end_accounts-kept.result) c.end_with.result) errors_are
+    (subst (λ outcome. EndsAs (λ _. 0) (g.E.RoadWrite.seen c.errors-1.given.0)
+    (g.E.RoadWrite.seen c.end_with.new.errors) outcome c.end_with.result) c.outcome_of.ensures c.end_with.ensures) in
     record {
       outcome = c.run_chosen-batch.result;
       ran = record {
         run = c.run_chosen-batch.ensures.run;
+        suited = c.run_chosen-batch.ensures.suited;
+        stopped = c.run_chosen-batch.ensures.stopped;
         read = c.run_chosen-batch.ensures.read;
-        ungated = never_gated_under c.args.measured.now.task.now.chosen c.args.measured.now.task.now.settings.now (g.I.BatchInput.is_read c.args.input.now) g.I.BatchInput.is_own _ _
-            c.run_chosen-batch.result c.run_chosen-batch.ensures.run;
-        unstalled = λ one best turns. never_stalled_under how gate_is_open (g.I.BatchInput.is_read c.args.input.now) g.I.BatchInput.is_own _ _ c.run_chosen-batch.result
-            (λ roads graph few enough. c.usual_turns_are_enough.ensures how roads graph few enough) one best turns c.args.measured.now.task.now.chosen c.run_chosen-batch.ensures.run;
+        ungated = ungated;
+        unstalled = unstalled;
       };
       reports = told.0.0;
       reported = told.1;
       kept = c.end_accounts-kept.result;
-      accounted = account g.A.RoadWrite.seen c.args.watching.now.accounts c.run_chosen-batch.new.watcher.accounts.now
-          c.end_accounts-kept.new.accounts c.run_chosen-batch.new.watcher.lost (accounts_text (name_of c.args.measured.now.task.now.chosen) told.0.0) c.end_accounts-kept.result
-          (subst (λ name. HasAccounts g.A.RoadWrite.seen c.args.watching.now.accounts c.run_chosen-batch.new.watcher.accounts.now false
-          c.run_chosen-batch.new.watcher.lost (accounts_text name told.0.0)) c.name.ensures noted.accounts)
-          c.end_accounts-kept.ensures;
+      accounted = accounted;
       watched = g.E.RoadWrite.seen c.run_chosen-batch.new.watcher.errors.now;
       shown = shown_as g.E.RoadWrite.seen _ _ _ _ noted.errors;
-      ends = subst⁻¹ (λ errors. EndsAs (λ _. 0) (g.E.RoadWrite.seen errors)
-          (g.E.RoadWrite.seen c.end_with.new.errors)
-          (outcome_of c.run_chosen-batch.result c.end_accounts-kept.result) c.end_with.result) errors_are
-          (subst (λ outcome. EndsAs (λ _. 0) (g.E.RoadWrite.seen c.errors-1.given.0)
-          (g.E.RoadWrite.seen c.end_with.new.errors) outcome c.end_with.result) c.outcome_of.ensures c.end_with.ensures);
+      ends = ends;
+      finishes = λ one best turns. finishes (accounts_text (name_of chosen) told.0.0) _ _ _ _ _ c.run_chosen-batch.result c.end_accounts-kept.result (unstalled one best turns) ungated accounted ends;
     }

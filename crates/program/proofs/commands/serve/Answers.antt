@@ -18,7 +18,8 @@ returns g c =
           requests_after = _;
           unread = (c.in-Ok-open_file.ensures.unread, c.stdin-requests.ensures.unread);
           outcome = c.serve_chosen-outcome.result;
-          ran = c.serve_chosen-outcome.ensures;
+          ran = c.serve_chosen-outcome.ensures.run;
+          suited = c.serve_chosen-outcome.ensures.suited;
           ends = c.end_with.ensures;
         }),
       ),

@@ -7,7 +7,7 @@
      call point to does not overlap. NULL will do for a list of no elements, and for a single number that is not wanted: a line,
      a count, code, hops, vertex or reason. Callers that look a function up by its symbol, or call it by its address, must pass a
      valid pointer for each single number.
-   - A handle starts as DIFFUSE_CLOSED or diffuse_graph_closed(), which is all zero, and is changed only by these calls. It may
+   - A handle, of a graph or a stop, starts as DIFFUSE_CLOSED, which is all zero, and is changed only by these calls. It may
      be moved in memory by assignment, if its old place is no longer used. Two copies of an open handle must not both be used.
    - One call at a time uses a handle, be it only to ask for a route: a call takes the graph out of its handle, may make what its
      answer needs, and puts all back, so no handle is const. A handle may be handed to another thread by whatever orders the
@@ -50,6 +50,12 @@ struct diffuse_graph {
 };
 #define DIFFUSE_CLOSED { NULL, false }
 
+/* A stop: closed, or open with a flag of the library's by which another thread ends a search. */
+struct diffuse_stop {
+    void *at;
+    bool is_open;
+};
+
 /* What makes an enumeration hold any number of 32 bits, where a language can say so. */
 #if defined(__cplusplus) && __cplusplus >= 201103L
 #define DIFFUSE_32_BITS : uint32_t
@@ -88,7 +94,8 @@ enum diffuse_status {
     DIFFUSE_STATUS_TOO_MANY = 18,       /* read: more arc lines than announced */
     DIFFUSE_STATUS_TOO_FEW = 19,        /* read: fewer arc lines than announced */
     DIFFUSE_STATUS_NO_ALGEBRA = 43,     /* there is no such algebra, or its limit is above 2^63 */
-    DIFFUSE_STATUS_NO_LINK = 44         /* reweigh: an arc between vertices between which the factors have no link */
+    DIFFUSE_STATUS_NO_LINK = 44,        /* reweigh: an arc between vertices between which the factors have no link */
+    DIFFUSE_STATUS_STOPPED = 45         /* route, tree, near and table: the handle's stop was set before there was an answer */
 };
 
 /* What is best, and what a code is. Only DIFFUSE_ALGEBRA_WITHIN reads the limit of a call. Any number of 32 bits may be given;
@@ -175,14 +182,15 @@ enum diffuse_status diffuse_graph_arcs_from(struct diffuse_graph *graph, uint32_
    a vertex, which the handle keeps for later routes by the same algebra, until it searches by another one or is closed; a later
    search puts back only what the one before touched, and goes on with it if the source is the same. With factors a near route
    is found by a search, and a far one by the factors.
-   CLOSED, NO_VERTEX, NO_ALGEBRA, MEMORY, NO_ROUTE, NO_ROOM or DONE. */
+   CLOSED, NO_VERTEX, NO_ALGEBRA, MEMORY, STOPPED, NO_ROUTE, NO_ROOM or DONE. */
 DIFFUSE_CHECKED((1))
 enum diffuse_status diffuse_graph_route(struct diffuse_graph *graph, enum diffuse_algebra algebra, uint64_t limit,
     uint32_t source, uint32_t target, uint64_t *code, uint32_t *hops, uint32_t *room, size_t n_room);
 
 /* For each vertex v, in place v - 1: the best value from the nearest of the sources, as a code, its least hops and its least
-   parent. An unreached vertex has DIFFUSE_UNREACHED, 0 and 0; a source has parent 0. A list of no places is not wanted.
-   CLOSED, NO_VERTEX, NO_ROOM, NO_ALGEBRA, MEMORY or DONE. */
+   parent. An unreached vertex has DIFFUSE_UNREACHED, 0 and 0; a source has parent 0. A list of no places is not wanted. With factors,
+   or a stop, the tree is searched for in the lists of diffuse_graph_near, which are made and kept as they are there.
+   CLOSED, NO_VERTEX, NO_ROOM, NO_ALGEBRA, MEMORY, STOPPED or DONE. */
 DIFFUSE_CHECKED((1))
 enum diffuse_status diffuse_graph_tree(struct diffuse_graph *graph, enum diffuse_algebra algebra, uint64_t limit,
     const uint32_t *sources, size_t n_sources, uint64_t *codes, size_t n_codes, uint32_t *hops, size_t n_hops,
@@ -193,7 +201,7 @@ enum diffuse_status diffuse_graph_tree(struct diffuse_graph *graph, enum diffuse
    them are left as they are. A list of no places is not wanted. If a list has fewer places, *count is written all the same, and
    the lists are left as they are. The time is that of what is reached; lists of all vertices are made by the first such call,
    and kept in the handle until one is by another algebra, or it is closed. Factors are not used.
-   CLOSED, NO_VERTEX, NO_ALGEBRA, MEMORY, NO_ROOM or DONE. */
+   CLOSED, NO_VERTEX, NO_ALGEBRA, MEMORY, STOPPED, NO_ROOM or DONE. */
 DIFFUSE_CHECKED((1))
 enum diffuse_status diffuse_graph_near(struct diffuse_graph *graph, enum diffuse_algebra algebra, uint64_t limit,
     const uint32_t *sources, size_t n_sources, uint32_t *vertices, size_t n_vertices, uint64_t *codes, size_t n_codes,
@@ -211,17 +219,18 @@ enum diffuse_status diffuse_graph_check(struct diffuse_graph *graph, enum diffus
 /* The best value from each of the sources to each of the targets, as a code: from source i to target j, both counted from 0, in
    place i * n_targets + j; DIFFUSE_UNREACHED if no walk has a value. With factors each code is found by itself; without them
    there is a search from each source, as far as the targets, which goes on for the next row if its source is the same.
-   CLOSED, NO_VERTEX, NO_ROOM, NO_ALGEBRA, MEMORY or DONE. */
+   CLOSED, NO_VERTEX, NO_ROOM, NO_ALGEBRA, MEMORY, STOPPED or DONE. */
 DIFFUSE_CHECKED((1))
 enum diffuse_status diffuse_graph_table(struct diffuse_graph *graph, enum diffuse_algebra algebra, uint64_t limit,
     const uint32_t *sources, size_t n_sources, const uint32_t *targets, size_t n_targets, uint64_t *codes, size_t n_codes);
 
 /* Factors the graph for an algebra. Afterwards far routes, trees and tables of this handle, and of those opened from it by
    diffuse_graph_share later, use the factors, and answer the same in a fraction of the time. A route is searched for first, among
-   some hundred vertices, and asked of the factors if that does not decide it; so each handle also keeps the lists of a search,
-   26 bytes a vertex, beside its own lists for the factors, 21 bytes a vertex. SHORTEST and WITHIN at every limit have one
-   factoring, HOPS has its own, and the other algebras have none. It takes the time of some tens of routes. Once it is done, a
-   second call for the same factoring does nothing. After a refusal calls search, as before, and a second call tries again.
+   some hundred vertices, and a tree among 500 and a 64th of the vertices; the factors are asked if that does not decide it. So
+   each handle also keeps the lists of these searches, 26 and 25 bytes a vertex, beside its own lists for the factors, 21 bytes a
+   vertex. SHORTEST and WITHIN at every limit have one factoring, HOPS has its own, and the other algebras have none. It takes the
+   time of some tens of routes. Once it is done, a second call for the same factoring does nothing. After a refusal calls search,
+   as before, and a second call tries again.
    CLOSED, NO_ALGEBRA, NO_FACTORS, MEMORY, HEAVY, DENSE or DONE. */
 DIFFUSE_CHECKED((1))
 enum diffuse_status diffuse_graph_factor(struct diffuse_graph *graph, enum diffuse_algebra algebra);
@@ -235,6 +244,24 @@ enum diffuse_status diffuse_graph_factor(struct diffuse_graph *graph, enum diffu
 DIFFUSE_CHECKED((1, 4))
 enum diffuse_status diffuse_graph_reweigh(struct diffuse_graph *graph, const struct diffuse_arc *arcs, size_t n_arcs,
     struct diffuse_graph *second);
+
+/* Opens a closed stop, which is not set. OPEN, MEMORY or DONE. */
+DIFFUSE_CHECKED((1)) enum diffuse_status diffuse_stop_new(struct diffuse_stop *stop);
+
+/* Gives a handle a stop, in place of the one that it had: once the stop is set, routes, trees, tables and near answers of the
+   handle end with STOPPED, at the latest after some thousand more steps of a search or one pass over the factors or the arcs, and
+   nothing is written. A call that has its answer sooner gives it. The stop stays with the handle, whether it is freed or not, until
+   another takes its place; with a closed one the handle has none. diffuse_graph_share and diffuse_graph_reweigh give the second
+   handle none. Many handles may have one stop. CLOSED, MEMORY or DONE. */
+DIFFUSE_CHECKED((1, 2)) enum diffuse_status diffuse_graph_stop_by(struct diffuse_graph *graph, struct diffuse_stop *stop);
+
+/* Sets or clears a stop. It may be set while another thread is in a call of a handle that has it; like a handle, the stop itself
+   is used by one thread at a time. CLOSED or DONE. */
+DIFFUSE_NONNULL((1)) enum diffuse_status diffuse_stop_set(struct diffuse_stop *stop);
+DIFFUSE_NONNULL((1)) enum diffuse_status diffuse_stop_clear(struct diffuse_stop *stop);
+
+/* Closes a stop. Handles that have it keep it as it is; a closed stop stays closed. */
+DIFFUSE_NONNULL((1)) void diffuse_stop_free(struct diffuse_stop *stop);
 
 /* The library's version, as DIFFUSE_VERSION is made: 1.1.0 is 10100. */
 uint32_t diffuse_version(void);
@@ -361,6 +388,7 @@ static inline const char *diffuse_status_text(int32_t status) {
     case DIFFUSE_STATUS_TOO_FEW: return "fewer lines than the problem line announces";
     case DIFFUSE_STATUS_NO_ALGEBRA: return "no such algebra, or a limit above 9223372036854775808";
     case DIFFUSE_STATUS_NO_LINK: return "an arc between vertices between which the factors have no link";
+    case DIFFUSE_STATUS_STOPPED: return "stopped before there was an answer";
     default: return "no status";
     }
 }

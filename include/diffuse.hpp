@@ -67,6 +67,25 @@ struct verdict {
     const char* text() const noexcept { return right() ? "right" : diffuse_reason_text(reason); }
 };
 
+// A stop by which another thread ends calls of the graphs that have it: they throw DIFFUSE_STATUS_STOPPED. It is set, cleared and
+// given by one thread at a time.
+class stop {
+    ::diffuse_stop at = DIFFUSE_CLOSED;
+    friend class graph;
+
+public:
+    stop() {
+        auto status = diffuse_stop_new(&at);
+        if (status != DIFFUSE_STATUS_DONE) throw error(status);
+    }
+    stop(const stop&) = delete;
+    stop& operator=(const stop&) = delete;
+    ~stop() { diffuse_stop_free(&at); }
+
+    void set() { diffuse_stop_set(&at); }
+    void clear() { diffuse_stop_clear(&at); }
+};
+
 // A graph in memory, or none: one that was moved away. It can be moved, and shared by share(), but not copied.
 class graph {
     ::diffuse_graph at = DIFFUSE_CLOSED;
@@ -105,6 +124,13 @@ public:
         graph second;
         expect(diffuse_graph_share(&at, &second.at));
         return second;
+    }
+
+    // Its calls end with DIFFUSE_STATUS_STOPPED once this stop is set; by none, if that is called for.
+    void stop_by(stop& by) { expect(diffuse_graph_stop_by(&at, &by.at)); }
+    void stop_by_none() {
+        ::diffuse_stop none = DIFFUSE_CLOSED;
+        expect(diffuse_graph_stop_by(&at, &none));
     }
 
     std::uint32_t vertices() { return diffuse_graph_vertices(&at); }

@@ -23,7 +23,8 @@ module _ {V : Type 0} (A : Algebra V) (g : GraphData) (sources vertices : List �
 module _ {V : Type 0} (A : Algebra V) (lawful : IsLawful A) (low : HasLowCodes A) (g : GraphData) (roads : IsGraph g) (sources : List ℕ)
     (labels : List (Option V)) (tree : Branches)
     (agree : (v : ℕ) → HasVertex g v → IsToldOf A g sources v (label_of labels v) (hops_of tree v) (parent_of tree v)) where
-  line_at : (v : ℕ) → HasVertex g v → IsVertexLine A g sources v (line_of (code_at A labels v) (hops_at tree v) (parent_at tree v))
+  -- the line of each vertex
+  pub line_at : (v : ℕ) → HasVertex g v → IsVertexLine A g sources v (line_of (code_at A labels v) (hops_at tree v) (parent_at tree v))
   line_at v in_v = told_at A lawful low g roads sources v (label_of labels v) (hops_of tree v) (parent_of tree v) (agree v in_v) _ _ _ refl refl refl
 
   lines_at : (vs : List ℕ) → All (HasVertex g) vs →

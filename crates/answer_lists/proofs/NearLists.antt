@@ -9,7 +9,7 @@ use Rattle.path_algebra.proofs.Chosen.{under_some}
 use Rattle.answer_lists.specs.Answers.{IsFound}
 use Rattle.answer_lists.specs.Near.{AreNearLines, AreNearLists, BeginsOrNone}
 
-under_weaker : (chosen : AlgebraChoice) (P Q : (V : Type 0) → Algebra V → Type 0) → ((V : Type 0) (A : Algebra V) → P V A → Q V A) →
+pub under_weaker : (chosen : AlgebraChoice) (P Q : (V : Type 0) → Algebra V → Type 0) → ((V : Type 0) (A : Algebra V) → P V A → Q V A) →
     Under chosen P → Under chosen Q
 under_weaker chosen P Q follows h = (under_some chosen (Unit {0}) P (λ _. Q) (λ V A p. (tt, follows V A p)) h).1
 

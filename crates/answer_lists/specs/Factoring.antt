@@ -12,13 +12,15 @@ use Rattle.path_factors.specs.State.{FactorState}
 abbrev pub IsFactorOf : GraphData → Cost → FactorState CountedSums ℕ → Type 0
 IsFactorOf g cost f = (f.roads ≡ g) × (f.algebra.cost ≡ cost)
 
--- the values of A are sums of costs, and no number of low bits for the hops leaves room for the sums of this graph
+-- the values of A are sums of costs, and no number of low bits for the hops leaves room for the
+-- sums of this graph
 pub record IsTooHeavy {V : Type 0} (A : Algebra V) (g : GraphData) : Type 0 where
   pub cost : Cost
   pub carried : IsCarried A (cost_of cost)
   pub heavy : (k : ℕ) → CountsFit g (cost_of cost) k → ⊥
 
--- the values of A are sums of costs, and some number of low bits for the hops leaves room for the sums of this graph
+-- the values of A are sums of costs, and some number of low bits for the hops leaves room for the
+-- sums of this graph
 pub record HasRoom {V : Type 0} (A : Algebra V) (g : GraphData) : Type 0 where
   pub cost : Cost
   pub carried : IsCarried A (cost_of cost)

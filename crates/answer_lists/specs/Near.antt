@@ -9,10 +9,10 @@ use Rattle.route_tree.specs.Tree.{Branches, hops_of, parent_of}
 use Rattle.tree_search.specs.Nearest.{AreNearest}
 use Rattle.answer_text.specs.IsAnswer.{IsVertexLine}
 use Rattle.answer_lists.specs.Answers.{HavePlaces}
-use Rattle.answer_lists.specs.Tree.{code_for, lines_of, number_for}
+use Rattle.answer_lists.specs.Tree.{code_for, line_of, lines_of, number_for}
 
--- the vertices are those that are reached, each once, the best first, and the other lists have the code, the hops and the
--- parent of each, in the same order
+-- the vertices are those that are reached, each once, the best first, and the other lists have the
+-- code, the hops and the parent of each, in the same order
 pub record AreNearLines {V : Type 0} (A : Algebra V) (g : GraphData) (sources vertices codes hops parents : List ℕ) : Type 0 where
   pub nearest : AreNearest A g sources vertices
   pub places : HavePlaces (length vertices) codes hops parents
@@ -22,7 +22,8 @@ pub record AreNearLines {V : Type 0} (A : Algebra V) (g : GraphData) (sources ve
 abbrev pub BeginsOrNone : ℕ → List ℕ → List ℕ → Type 0
 BeginsOrNone n list numbers = (take n list ≡ numbers) ⊎ (list ≡ [])
 
--- so many vertices are reached, and the lists begin with them and their lines, but for the lists that are not wanted
+-- so many vertices are reached, and the lists begin with them and their lines, but for the lists
+-- that are not wanted
 pub record AreNearLists {V : Type 0} (A : Algebra V) (g : GraphData) (sources : List ℕ) (count : ℕ) (vertices codes hops parents : List ℕ) : Type 0 where
   pub all_vertices : List ℕ
   pub all_codes : List ℕ
@@ -52,7 +53,8 @@ AreLongOrNone n vertices codes hops parents =
 abbrev pub IsSameAfter : ℕ → List ℕ → List ℕ → Type 0
 IsSameAfter n old new = drop n new ≡ drop n old
 
--- which questions about what is near are refused, in this order: a source is no vertex, there is no such algebra
+-- which questions about what is near are refused, in this order: a source is no vertex, there is no
+-- such algebra
 pub record ReportsNearRefusals (g : GraphData) (number limit : ℕ) (sources : List ℕ) (status : ℤ) : Type 0 where
   pub vertex : (status ≡ pos 17) ↔ (All (HasVertex g) sources → ⊥)
   pub algebra : (status ≡ pos 43) ↔ (All (HasVertex g) sources × (IsAlgebra number limit → ⊥))
@@ -66,3 +68,7 @@ hops_at tree v = number_for (hops_of tree v)
 
 abbrev pub parent_at : Branches → ℕ → ℕ
 parent_at tree v = number_for (parent_of tree v)
+
+-- each vertex has the line of this code, these hops and this parent
+abbrev pub HaveLines : {V : Type 0} → Algebra V → GraphData → List ℕ → (ℕ → ℕ) → Branches → Type 0
+HaveLines A g sources code tree = (v : ℕ) → HasVertex g v → IsVertexLine A g sources v (line_of (code v) (hops_at tree v) (parent_at tree v))

@@ -10,8 +10,8 @@ use Rattle.answer_lists.specs.Answers.{IsOneOf}
 abbrev pub IsHeavy : GraphData → Type 0
 IsHeavy g = (cost : Cost) × ((k : ℕ) → CountsFit g (cost_of cost) k → ⊥)
 
--- the status says why g is not factored over the links of h: out of memory, sums that do not fit, or an arc with no link; there
--- is none only if g joins vertices that no arc of h joins
+-- the status says why g is not factored over the links of h: out of memory, sums that do not fit,
+-- or an arc with no link; there is none only if g joins vertices that no arc of h joins
 pub record IsRefusal (g h : GraphData) (status : ℤ) : Type 0 where
   pub one_of : IsOneOf (3 ∷ 8 ∷ 44 ∷ []) status
   pub heavy : status ≡ pos 8 → IsHeavy g

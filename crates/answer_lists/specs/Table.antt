@@ -6,7 +6,8 @@ use Rattle.path_algebra.specs.Algebra.{Algebra}
 use Rattle.path_algebra.specs.Choices.{IsAlgebra}
 use Rattle.path_algebra.specs.Walks.{IsBestCode, IsUnreached}
 
--- the code of the best value from a source to a target; 2^64 - 1 means that no walk to it has a value
+-- the code of the best value from a source to a target; 2^64 - 1 means that no walk to it has a
+-- value
 pub record IsTableCode {V : Type 0} (A : Algebra V) (g : GraphData) (source target code : ℕ) : Type 0 where
   pub best : (code ≡ 18446744073709551615 → ⊥) → IsBestCode A g (source ∷ []) target code
   pub none : code ≡ 18446744073709551615 → IsUnreached A g (source ∷ []) target
@@ -20,8 +21,8 @@ abbrev pub AreTableCodes : {V : Type 0} → Algebra V → GraphData → List ℕ
 AreTableCodes A g sources targets codes =
     (rows : List (List ℕ)) × (codes ≡ concat rows) × AllZip (AreRowCodes A g targets) sources rows
 
--- which questions about a table are refused, in this order: a source or a target is no vertex, there is not just one place for
--- each pair of them, there is no such algebra
+-- which questions about a table are refused, in this order: a source or a target is no vertex,
+-- there is not just one place for each pair of them, there is no such algebra
 pub record ReportsTableRefusals (g : GraphData) (number limit : ℕ) (sources targets codes : List ℕ) (status : ℤ) : Type 0 where
   pub vertex : (status ≡ pos 17) ↔ (All (HasVertex g) sources × All (HasVertex g) targets → ⊥)
   pub places : (status ≡ pos 2) ↔ (All (HasVertex g) sources × All (HasVertex g) targets

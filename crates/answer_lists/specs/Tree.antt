@@ -1,4 +1,5 @@
--- A tree in three lists, each with a number for each vertex, and the first vertex at which such lists are wrong.
+-- A tree in three lists, each with a number for each vertex, and the first vertex at which such
+-- lists are wrong.
 use Rattle.std.specs.Prelude.{◌≡◌, ◌⊎◌, ◌↔◌, ℕ, ◌==◌, ◌&&◌, if◌then◌else◌, ℤ, pos, true, List, [], ◌∷◌, All, Option, Some, None, MatchOption, length}
 use Rattle.road_graph.specs.GraphData.{GraphData, HasVertex}
 use Rattle.path_algebra.specs.Algebra.{Algebra}
@@ -11,7 +12,8 @@ use Rattle.answer_check.specs.Reasons.{IsLineRefused, reason_number}
 use Rattle.answer_check.specs.Verdicts.{IsEarlier}
 use Rattle.answer_lists.specs.Answers.{HavePlaces}
 
--- the line of a vertex with this code, hops and parent; 2^64 - 1, 0 and 0 mean that no walk to it has a value
+-- the line of a vertex with this code, hops and parent; 2^64 - 1, 0 and 0 mean that no walk to it
+-- has a value
 abbrev pub line_of : ℕ → ℕ → ℕ → Option Reached
 line_of code hops parent =
     if (code == 18446744073709551615) && ((hops == 0) && (parent == 0)) then None
@@ -51,7 +53,8 @@ IsAllOrNone n count = (count ≡ n) ⊎ (count ≡ 0)
 abbrev pub HaveAllOrNone : ℕ → List ℕ → List ℕ → List ℕ → Type 0
 HaveAllOrNone n codes hops parents = IsAllOrNone n (length codes) × IsAllOrNone n (length hops) × IsAllOrNone n (length parents)
 
--- the lists are not the tree, and v is the first vertex whose line its neighbours' lines refute; the first reason has this number
+-- the lists are not the tree, and v is the first vertex whose line its neighbours' lines refute;
+-- the first reason has this number
 pub record IsFirstRefuted {V : Type 0} (A : Algebra V) (g : GraphData) (sources codes hops parents : List ℕ) (v number : ℕ) : Type 0 where
   pub wrong : AreTreeLists A g sources codes hops parents → ⊥
   pub vertex : HasVertex g v
@@ -65,7 +68,8 @@ abbrev pub AreJudged : {V : Type 0} → Algebra V → GraphData → List ℕ →
 AreJudged A g sources codes hops parents found = MatchOption found (AreTreeLists A g sources codes hops parents)
     (λ p. IsFirstRefuted A g sources codes hops parents p.vertex (reason_number p.reason))
 
--- which checks of a tree are refused, in this order: a source is no vertex, a list does not have n places, there is no such algebra
+-- which checks of a tree are refused, in this order: a source is no vertex, a list does not have n
+-- places, there is no such algebra
 pub record ReportsRefusals (g : GraphData) (number limit : ℕ) (sources codes hops parents : List ℕ) (status : ℤ) : Type 0 where
   pub vertex : (status ≡ pos 17) ↔ (All (HasVertex g) sources → ⊥)
   pub places : (status ≡ pos 2) ↔ (All (HasVertex g) sources × (HavePlaces g.vertices codes hops parents → ⊥))

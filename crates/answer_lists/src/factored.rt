@@ -1,6 +1,6 @@
 //! A factored graph, and what asks it.
 
-ghost use Rattle.std.specs.Prelude.{◌≡◌, ◌∷◌, [], IfOk, IfErr};
+ghost use Rattle.std.specs.Prelude.{◌≡◌, ◌∷◌, [], IfOk, IfErr, IfSome, IsSome, None};
 ghost use Rattle.std.specs.List.{All};
 ghost use Rattle.road_graph.specs.GraphData.{HasVertex};
 ghost use Rattle.path_algebra.specs.Carried.{IsCarried};
@@ -13,8 +13,10 @@ ghost use Rattle.answer_lists.specs.Table.{AreRowCodes};
 ghost use Rattle.answer_lists.specs.Tree.{HasLowCodes};
 
 use crate::codes::{code_for, push_code};
+use crate::stopping::is_stopped;
 use factor_routes::{RoadFactors, RouteAsker, Unweighed};
 use path_algebra::{Cost, Labels, PathAlgebra, laws_hold};
+use path_plain::Stop;
 use road_graph::{InGraph, Memory, OutGraph, Vertex};
 use route_tree::{Found, Tree};
 use std::alloc::{AllocError, Global};
@@ -101,53 +103,60 @@ impl Factored {
         }
     }
 
-    /// Asks for the code of the best value of each target.
+    /// Asks for the code of the best value of each target; none if the stop is set before.
     fn ask_row<A: PathAlgebra>(
         &self,
         alloc: Global,
         algebra: A,
+        stop: &Option<Stop>,
         asker: &mut RouteAsker,
         source: Vertex,
         targets: &[u32],
-    ) -> Result<Vec<u64>, Memory>
+    ) -> Result<Option<Vec<u64>>, Memory>
         requires carried { IsCarried (A.meaning algebra) (cost_of self.now.algebra.cost) }
         requires same { asker.old.factors ≡ self.now }
         requires low { HasLowCodes (A.meaning algebra) }
         requires source { HasVertex self.now.roads source }
         requires targets { All (HasVertex self.now.roads) targets.now }
         ensures same { asker.new.factors ≡ self.now }
-        ensures row { IfOk result (λ row. AreRowCodes (A.meaning algebra) self.now.roads targets.now
-            source row.items) }
+        ensures row { IfOk result (λ row. IfSome row (λ row. AreRowCodes (A.meaning algebra)
+            self.now.roads targets.now source row.items)) }
+        ensures stopped { IfOk result (λ row. row ≡ None → IsSome stop.now) }
     {
         laws_hold(algebra);
         self.factors.holds();
         self.factors.begin(asker, source);
         let mut row = Vec::with_capacity(alloc, targets.len())?;
         for target in targets {
+            if is_stopped(stop) {
+                return Ok(None);
+            }
             let value = self.factors.best_value(algebra, asker, Vertex(*target))?;
             push_code(&mut row, code_for(algebra, value))?;
         }
-        Ok(row)
+        Ok(Some(row))
     }
 
-    /// The codes of a row of a table.
+    /// The codes of a row of a table; none if the stop is set before.
     pub(crate) fn row<A: PathAlgebra>(
         &mut self,
         alloc: Global,
         algebra: A,
+        stop: &Option<Stop>,
         source: Vertex,
         targets: &[u32],
-    ) -> Result<Vec<u64>, Memory>
+    ) -> Result<Option<Vec<u64>>, Memory>
         requires carried { IsCarried (A.meaning algebra) (cost_of self.old.algebra.cost) }
         requires low { HasLowCodes (A.meaning algebra) }
         requires source { HasVertex self.old.roads source }
         requires targets { All (HasVertex self.old.roads) targets.now }
         ensures kept { self.new ≡ self.old }
-        ensures row { IfOk result (λ row. AreRowCodes (A.meaning algebra) self.old.roads targets.now
-            source row.items) }
+        ensures row { IfOk result (λ row. IfSome row (λ row. AreRowCodes (A.meaning algebra)
+            self.old.roads targets.now source row.items)) }
+        ensures stopped { IfOk result (λ row. row ≡ None → IsSome stop.now) }
     {
         let mut asker = self.take_asker(alloc)?;
-        let row = self.ask_row(alloc, algebra, &mut asker, source, targets);
+        let row = self.ask_row(alloc, algebra, stop, &mut asker, source, targets);
         self.asker = Some(asker);
         row
     }

@@ -55,8 +55,8 @@ fn judge_chosen(
     )
 }
 
-/// Judges a tree by the algebra of a number and reports the first wrong vertex, if each source is a vertex, each list has
-/// a place for each vertex and there is such an algebra.
+/// Judges a tree by the algebra of a number and reports the first wrong vertex, if each source is a
+/// vertex, each list has a place for each vertex and there is such an algebra.
 #[tactic(auto, using(path_algebra::proofs::Chosen::of_numbered))]
 pub fn check_tree(
     alloc: Global,

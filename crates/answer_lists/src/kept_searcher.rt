@@ -3,13 +3,16 @@
 ghost use Rattle.std.specs.Prelude.{◌≡◌, IfOk, IsTrue};
 ghost use Rattle.road_graph.specs.GraphData.{HasVertex};
 ghost use Rattle.path_algebra.specs.Choices.{Under};
+ghost use Rattle.path_plain.specs.Halting.{CanHalt};
 ghost use Rattle.path_plain.specs.Searcher.{IsOfSameGraph};
-ghost use Rattle.route_tree.specs.Found.{IsFoundIfNear, IsPairFound};
+ghost use Rattle.route_tree.specs.Found.{IsFoundIfNear};
+ghost use Rattle.route_tree.specs.declared.found.Nearby.TheVariants.{Undecided};
 ghost use Rattle.answer_lists.specs.Kept.{IsKeptFor, algebra_of, graph_of};
 
 use path_algebra::{AlgebraChoice, Hops, PathAlgebra, Reach, Reliable, Shortest, Widest, Within};
+use path_plain::Halt;
 use road_graph::{InGraph, Memory, OutGraph, Vertex};
-use route_tree::{Found, Nearby, PairSearcher};
+use route_tree::{Nearby, PairSearcher};
 use std::alloc::Global;
 
 /// A searcher for the pairs of a graph, by one of the given algebras.
@@ -62,7 +65,8 @@ impl KeptSearcher {
         }
     }
 
-    /// Whether it can search by this algebra from now on. If it has searched within another limit, it begins anew.
+    /// Whether it can search by this algebra from now on. If it has searched within another limit,
+    /// it begins anew.
     pub(crate) fn turn_to(&mut self, chosen: AlgebraChoice) -> bool
         ensures algebra { IsTrue result → algebra_of self.new ≡ chosen }
         ensures graph { graph_of self.new ≡ graph_of self.old }
@@ -81,37 +85,14 @@ impl KeptSearcher {
         }
     }
 
-    /// The best code and the route; none if no walk to the target has a value.
+    /// The best code and the route, none if no walk to the target has a value; or undecided, if the
+    /// search was to give up.
     pub(crate) fn route(
         &mut self,
         graph: &OutGraph,
         rows: &InGraph,
         ends: (Vertex, Vertex),
-    ) -> Result<Option<Found>, Memory>
-        requires graph { graph.now ≡ graph_of self.old }
-        requires rows { rows.now ≡ graph.now }
-        requires source { HasVertex graph.now ends.0 }
-        requires target { HasVertex graph.now ends.1 }
-        ensures found { Under (algebra_of self.old) (λ V A. IfOk result
-            (IsPairFound A graph.now ends.0 ends.1)) }
-        ensures graph { graph_of self.new ≡ graph_of self.old }
-    {
-        match self {
-            KeptSearcher::Shortest(searcher) => searcher.solve(graph, rows, ends),
-            KeptSearcher::Widest(searcher) => searcher.solve(graph, rows, ends),
-            KeptSearcher::Reach(searcher) => searcher.solve(graph, rows, ends),
-            KeptSearcher::Hops(searcher) => searcher.solve(graph, rows, ends),
-            KeptSearcher::Reliable(searcher) => searcher.solve(graph, rows, ends),
-            KeptSearcher::Within(searcher) => searcher.solve(graph, rows, ends),
-        }
-    }
-    /// The same by a search that takes no more than `most` entries from its queue: it may leave the pair undecided.
-    pub(crate) fn route_near(
-        &mut self,
-        graph: &OutGraph,
-        rows: &InGraph,
-        ends: (Vertex, Vertex),
-        most: u32,
+        halt: &mut Halt<'_>,
     ) -> Result<Nearby, Memory>
         requires graph { graph.now ≡ graph_of self.old }
         requires rows { rows.now ≡ graph.now }
@@ -119,15 +100,16 @@ impl KeptSearcher {
         requires target { HasVertex graph.now ends.1 }
         ensures found { Under (algebra_of self.old) (λ V A. IfOk result
             (IsFoundIfNear A graph.now ends.0 ends.1)) }
+        ensures halts { IfOk result (λ near. near ≡ Undecided → CanHalt halt.old) }
         ensures graph { graph_of self.new ≡ graph_of self.old }
     {
         match self {
-            KeptSearcher::Shortest(searcher) => searcher.solve_near(graph, rows, ends, most),
-            KeptSearcher::Widest(searcher) => searcher.solve_near(graph, rows, ends, most),
-            KeptSearcher::Reach(searcher) => searcher.solve_near(graph, rows, ends, most),
-            KeptSearcher::Hops(searcher) => searcher.solve_near(graph, rows, ends, most),
-            KeptSearcher::Reliable(searcher) => searcher.solve_near(graph, rows, ends, most),
-            KeptSearcher::Within(searcher) => searcher.solve_near(graph, rows, ends, most),
+            KeptSearcher::Shortest(searcher) => searcher.solve_unless(graph, rows, ends, halt),
+            KeptSearcher::Widest(searcher) => searcher.solve_unless(graph, rows, ends, halt),
+            KeptSearcher::Reach(searcher) => searcher.solve_unless(graph, rows, ends, halt),
+            KeptSearcher::Hops(searcher) => searcher.solve_unless(graph, rows, ends, halt),
+            KeptSearcher::Reliable(searcher) => searcher.solve_unless(graph, rows, ends, halt),
+            KeptSearcher::Within(searcher) => searcher.solve_unless(graph, rows, ends, halt),
         }
     }
 }

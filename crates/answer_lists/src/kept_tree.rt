@@ -1,17 +1,19 @@
 //! A searcher for trees that is kept from one question to the next.
 
-ghost use Rattle.std.specs.Prelude.{◌≡◌, All, IfOk, IsTrue, map};
+ghost use Rattle.std.specs.Prelude.{◌≡◌, All, IfOk, IsTrue, false, map};
 ghost use Rattle.road_graph.specs.GraphData.{HasVertex};
 ghost use Rattle.path_algebra.specs.Choices.{Under};
 ghost use Rattle.answer_lists.specs.KeptTree.{IsTreeKeptFor, algebra_in, code_in, graph_in, tree_in, vertices_in};
-ghost use Rattle.answer_lists.specs.Near.{AreNearLines, code_at, hops_at, parent_at};
+ghost use Rattle.path_plain.specs.Halting.{CanHalt};
+ghost use Rattle.answer_lists.specs.Near.{AreNearLines, HaveLines, code_at, hops_at, parent_at};
 ghost use Rattle.answer_lists.specs.Tree.{HasLowCodes};
 
 use crate::codes::code_for;
-use crate::tree::{hops_for, parent_for};
+use crate::tree_lists::{hops_for, parent_for};
 use path_algebra::{
     AlgebraChoice, Hops, PathAlgebra, Reach, Reliable, Shortest, Widest, Within, laws_hold,
 };
+use path_plain::Halt;
 use road_graph::{Memory, OutGraph, Vertex};
 use route_tree::labels_and_trees_agree;
 use std::alloc::Global;
@@ -28,26 +30,31 @@ pub(crate) enum KeptTree {
     Within(TreeSearcher<Within>, Within),
 }
 
-/// Finds what is reached from some sources.
+/// Finds what is reached from some sources, unless the search is to give up; with the searcher
+/// comes whether it is found.
 fn solve<A: PathAlgebra>(
     algebra: A,
     searcher: TreeSearcher<A>,
     graph: &OutGraph,
     sources: &[Vertex],
-) -> Result<TreeSearcher<A>, Memory>
+    halt: &mut Halt<'_>,
+) -> Result<(TreeSearcher<A>, bool), Memory>
     requires low { HasLowCodes (A.meaning algebra) }
     requires graph { graph.now ≡ searcher.roads }
     requires sources { All (HasVertex graph.now) sources.now }
-    ensures graph { IfOk result (λ s. s.roads ≡ graph.now) }
-    ensures vertices { IfOk result (λ s. All (HasVertex graph.now) s.reached) }
-    ensures lines { IfOk result (λ s. AreNearLines (A.meaning algebra) graph.now sources.now s.reached
-        (map (code_at (A.meaning algebra) s.labels) s.reached) (map (hops_at s.tree) s.reached)
-        (map (parent_at s.tree) s.reached)) }
+    ensures graph { IfOk result (λ s. s.0.roads ≡ graph.now) }
+    ensures vertices { IfOk result (λ s. IsTrue s.1 → All (HasVertex graph.now) s.0.reached) }
+    ensures near { IfOk result (λ s. IsTrue s.1 → AreNearLines (A.meaning algebra) graph.now
+        sources.now s.0.reached (map (code_at (A.meaning algebra) s.0.labels) s.0.reached)
+        (map (hops_at s.0.tree) s.0.reached) (map (parent_at s.0.tree) s.0.reached)) }
+    ensures all { IfOk result (λ s. IsTrue s.1 → HaveLines (A.meaning algebra) graph.now sources.now
+        (code_at (A.meaning algebra) s.0.labels) s.0.tree) }
+    ensures halts { IfOk result (λ s. s.1 ≡ false → CanHalt halt.old) }
 {
     graph.holds();
     laws_hold(algebra);
     labels_and_trees_agree(algebra);
-    searcher.solve(algebra, graph, sources)
+    searcher.solve_unless(algebra, graph, sources, halt)
 }
 
 impl KeptTree {
@@ -97,27 +104,52 @@ impl KeptTree {
         }
     }
 
-    /// Finds what is reached from some sources. The searcher is lost if memory runs out.
-    pub(crate) fn solve(self, graph: &OutGraph, sources: &[Vertex]) -> Result<KeptTree, Memory>
+    /// Finds what is reached from some sources, unless the search is to give up; with the searcher
+    /// comes whether it is found. The searcher is lost if memory runs out.
+    pub(crate) fn solve(
+        self,
+        graph: &OutGraph,
+        sources: &[Vertex],
+        halt: &mut Halt<'_>,
+    ) -> Result<(KeptTree, bool), Memory>
         requires graph { graph.now ≡ graph_in self }
         requires sources { All (HasVertex graph.now) sources.now }
-        ensures graph { IfOk result (λ k. graph_in k ≡ graph.now) }
-        ensures vertices { IfOk result (λ k. All (HasVertex graph.now) (vertices_in k)) }
-        ensures lines { Under (algebra_in self) (λ V A. IfOk result (λ k. AreNearLines A graph.now
-            sources.now (vertices_in k) (map (code_in k) (vertices_in k))
-            (map (hops_at (tree_in k)) (vertices_in k))
-            (map (parent_at (tree_in k)) (vertices_in k)))) }
+        ensures graph { IfOk result (λ k. graph_in k.0 ≡ graph.now) }
+        ensures vertices { IfOk result (λ k. IsTrue k.1 → All (HasVertex graph.now)
+            (vertices_in k.0)) }
+        ensures near { Under (algebra_in self) (λ V A. IfOk result (λ k. IsTrue k.1 →
+            AreNearLines A graph.now sources.now (vertices_in k.0)
+            (map (code_in k.0) (vertices_in k.0)) (map (hops_at (tree_in k.0)) (vertices_in k.0))
+            (map (parent_at (tree_in k.0)) (vertices_in k.0)))) }
+        ensures all { Under (algebra_in self) (λ V A. IfOk result (λ k. IsTrue k.1 →
+            HaveLines A graph.now sources.now (code_in k.0) (tree_in k.0))) }
+        ensures halts { IfOk result (λ k. k.1 ≡ false → CanHalt halt.old) }
     {
         match self {
-            KeptTree::Shortest(s) => Ok(KeptTree::Shortest(solve(Shortest, s, graph, sources)?)),
-            KeptTree::Widest(s) => Ok(KeptTree::Widest(solve(Widest, s, graph, sources)?)),
-            KeptTree::Reach(s) => Ok(KeptTree::Reach(solve(Reach, s, graph, sources)?)),
-            KeptTree::Hops(s) => Ok(KeptTree::Hops(solve(Hops, s, graph, sources)?)),
-            KeptTree::Reliable(s) => Ok(KeptTree::Reliable(solve(Reliable, s, graph, sources)?)),
-            KeptTree::Within(s, within) => Ok(KeptTree::Within(
-                solve(within, s, graph, sources)?,
-                within,
-            )),
+            KeptTree::Shortest(s) => {
+                let (s, is_found) = solve(Shortest, s, graph, sources, halt)?;
+                Ok((KeptTree::Shortest(s), is_found))
+            }
+            KeptTree::Widest(s) => {
+                let (s, is_found) = solve(Widest, s, graph, sources, halt)?;
+                Ok((KeptTree::Widest(s), is_found))
+            }
+            KeptTree::Reach(s) => {
+                let (s, is_found) = solve(Reach, s, graph, sources, halt)?;
+                Ok((KeptTree::Reach(s), is_found))
+            }
+            KeptTree::Hops(s) => {
+                let (s, is_found) = solve(Hops, s, graph, sources, halt)?;
+                Ok((KeptTree::Hops(s), is_found))
+            }
+            KeptTree::Reliable(s) => {
+                let (s, is_found) = solve(Reliable, s, graph, sources, halt)?;
+                Ok((KeptTree::Reliable(s), is_found))
+            }
+            KeptTree::Within(s, within) => {
+                let (s, is_found) = solve(within, s, graph, sources, halt)?;
+                Ok((KeptTree::Within(s, within), is_found))
+            }
         }
     }
 

@@ -1,4 +1,5 @@
-//! Routes, trees, tables, what is near and the check of a tree, in lists of numbers that a caller lends.
+//! Routes, trees, tables, what is near and the check of a tree, in lists of numbers that a caller
+//! lends.
 #![tactic(auto)]
 
 mod codes;
@@ -15,18 +16,21 @@ mod route;
 mod shared_graph;
 mod sources;
 mod status;
+mod stopping;
 mod table;
 mod tree;
+mod tree_lists;
 
 pub use factoring::factor_graph;
 pub use judging::check_tree;
 pub use near::answer_near;
+pub use path_plain::Stop;
 pub use reweigh::reweigh_graph;
 pub use route::answer_route;
 pub use shared_graph::SharedGraph;
 pub use status::{
     DENSE, DONE, HEAVY, MEMORY, NO_ALGEBRA, NO_FACTORS, NO_LINK, NO_ROOM, NO_ROUTE, NO_VERTEX,
-    WRONG,
+    STOPPED, WRONG,
 };
 pub use table::answer_table;
 pub use tree::answer_tree;

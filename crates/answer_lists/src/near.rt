@@ -1,40 +1,48 @@
-//! What is reached from the nearest of some sources, the best first, written to four lists of the caller.
+//! What is reached from the nearest of some sources, the best first, written to four lists of the
+//! caller.
 
-ghost use Rattle.std.specs.Prelude.{◌≡◌, ◌∷◌, [], IfOk, map, pos};
+ghost use Rattle.std.specs.Prelude.{◌≡◌, ◌∷◌, [], IfOk, IsSome, IsTrue, false, map, pos};
 ghost use Rattle.std.specs.List.{All};
 ghost use Rattle.road_graph.specs.GraphData.{HasVertex};
 ghost use Rattle.path_algebra.specs.Choices.{OfAlgebra, Under};
+ghost use Rattle.path_plain.specs.Halting.{CanHalt};
 ghost use Rattle.answer_lists.specs.Answers.{IsFound, IsOneOf};
 ghost use Rattle.answer_lists.specs.KeptTree.{code_in, graph_in, tree_in, vertices_in};
-ghost use Rattle.answer_lists.specs.Near.{AreLongOrNone, AreNearLines, AreNearLists, IsReachedCount, IsSameAfter, ReportsNearRefusals, hops_at, parent_at};
+ghost use Rattle.answer_lists.specs.Near.{AreLongOrNone, AreNearLines, AreNearLists, HaveLines, IsReachedCount, IsSameAfter, ReportsNearRefusals, hops_at, parent_at};
 
 use crate::kept_tree::KeptTree;
 use crate::near_lists::write_lists;
 use crate::shared_graph::SharedGraph;
 use crate::sources::{are_vertices, vertices_of};
-use crate::status::{MEMORY, NO_ALGEBRA, NO_VERTEX};
+use crate::status::{MEMORY, NO_ALGEBRA, NO_VERTEX, STOPPED};
 use path_algebra::AlgebraChoice;
+use path_plain::{Halt, Stop};
 use road_graph::{Memory, Vertex};
 use std::alloc::Global;
 
-/// Searches by the chosen algebra. The searcher is taken out of the graph.
-fn search(
+/// Searches by the chosen algebra, unless the search is to give up; with the searcher, which is
+/// taken out of the graph, comes whether there is an answer.
+pub(crate) fn search(
     alloc: Global,
     chosen: AlgebraChoice,
     shared: &mut SharedGraph,
     sources: &[Vertex],
-) -> Result<KeptTree, Memory>
+    halt: &mut Halt<'_>,
+) -> Result<(KeptTree, bool), Memory>
     requires { All (HasVertex shared.old) sources.now }
     ensures graph { shared.new ≡ shared.old }
-    ensures roads { IfOk result (λ k. graph_in k ≡ shared.old) }
-    ensures vertices { IfOk result (λ k. All (HasVertex shared.old) (vertices_in k)) }
-    ensures lines { Under chosen (λ V A. IfOk result (λ k. AreNearLines A shared.old sources.now
-        (vertices_in k) (map (code_in k) (vertices_in k))
-        (map (hops_at (tree_in k)) (vertices_in k))
-        (map (parent_at (tree_in k)) (vertices_in k)))) }
+    ensures roads { IfOk result (λ k. graph_in k.0 ≡ shared.old) }
+    ensures vertices { IfOk result (λ k. IsTrue k.1 → All (HasVertex shared.old) (vertices_in k.0)) }
+    ensures near { Under chosen (λ V A. IfOk result (λ k. IsTrue k.1 → AreNearLines A shared.old
+        sources.now (vertices_in k.0) (map (code_in k.0) (vertices_in k.0))
+        (map (hops_at (tree_in k.0)) (vertices_in k.0))
+        (map (parent_at (tree_in k.0)) (vertices_in k.0)))) }
+    ensures all { Under chosen (λ V A. IfOk result (λ k. IsTrue k.1 → HaveLines A shared.old
+        sources.now (code_in k.0) (tree_in k.0))) }
+    ensures halts { IfOk result (λ k. k.1 ≡ false → CanHalt halt.old) }
 {
     let kept = shared.take_tree(alloc, chosen)?;
-    kept.solve(shared.graph(), sources)
+    kept.solve(shared.graph(), sources, halt)
 }
 
 /// Searches by the chosen algebra, counts what is reached, and writes it if there is room.
@@ -42,6 +50,7 @@ fn answer(
     alloc: Global,
     chosen: AlgebraChoice,
     shared: &mut SharedGraph,
+    stop: &Option<Stop>,
     sources: &[u32],
     vertices: &mut [u32],
     codes: &mut [u64],
@@ -65,30 +74,38 @@ fn answer(
     ensures kept { (result ≡ pos 0 → ⊥) → (vertices.new ≡ vertices.old) × (codes.new ≡ codes.old) ×
         (hops.new ≡ hops.old) × (parents.new ≡ parents.old) }
     ensures place { (IsFound result → ⊥) → count.new ≡ count.old }
-    ensures status { IsOneOf (0 ∷ 2 ∷ 3 ∷ []) result }
+    ensures stopped { result ≡ pos 45 → IsSome stop.now }
+    ensures status { IsOneOf (0 ∷ 2 ∷ 3 ∷ 45 ∷ []) result }
 {
     let Ok(list) = vertices_of(alloc, sources) else {
         return MEMORY;
     };
-    let Ok(kept) = search(alloc, chosen, shared, &list) else {
+    let Ok((kept, is_found)) = search(alloc, chosen, shared, &list, &mut Halt::by(stop)) else {
         return MEMORY;
     };
+    if !is_found {
+        shared.put_tree(kept);
+        return STOPPED;
+    }
     *count = kept.reached().len();
     let status = write_lists(&kept, vertices, codes, hops, parents);
     shared.put_tree(kept);
     status
 }
 
-/// Finds by the algebra of a number what is reached from the nearest of some sources, and writes it, the best first, if each
-/// source is a vertex, there is such an algebra, and each list has a place for each vertex that is reached.
+/// Finds by the algebra of a number what is reached from the nearest of some sources, and writes
+/// it, the best first, if each source is a vertex, there is such an algebra, and each list has a
+/// place for each vertex that is reached.
 ///
-/// A list without places is not wanted. If a list is too short, the count is still written.
+/// A list without places is not wanted. If a list is too short, the count is still written. The
+/// search ends without an answer soon after the stop is set, if there is one.
 #[tactic(auto, using(path_algebra::proofs::Chosen::of_numbered))]
 pub fn answer_near(
     alloc: Global,
     number: u32,
     limit: u64,
     shared: &mut SharedGraph,
+    stop: &Option<Stop>,
     sources: &[u32],
     vertices: &mut [u32],
     codes: &mut [u64],
@@ -112,7 +129,8 @@ pub fn answer_near(
         (hops.new ≡ hops.old) × (parents.new ≡ parents.old) }
     ensures place { (IsFound result → ⊥) → count.new ≡ count.old }
     ensures refusals { ReportsNearRefusals shared.old number limit sources.now result }
-    ensures status { IsOneOf (0 ∷ 2 ∷ 3 ∷ 17 ∷ 43 ∷ []) result }
+    ensures stopped { result ≡ pos 45 → IsSome stop.now }
+    ensures status { IsOneOf (0 ∷ 2 ∷ 3 ∷ 17 ∷ 43 ∷ 45 ∷ []) result }
 {
     if !are_vertices(shared.graph(), sources) {
         return NO_VERTEX;
@@ -121,6 +139,6 @@ pub fn answer_near(
         return NO_ALGEBRA;
     };
     answer(
-        alloc, chosen, shared, sources, vertices, codes, hops, parents, count,
+        alloc, chosen, shared, stop, sources, vertices, codes, hops, parents, count,
     )
 }

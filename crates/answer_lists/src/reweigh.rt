@@ -10,7 +10,8 @@ use path_algebra::Cost;
 use road_graph::OutGraph;
 use std::alloc::Global;
 
-/// Factors a second graph for arcs that cost this, over the links of the first, if that is factored for them.
+/// Factors a second graph for arcs that cost this, over the links of the first, if that is factored
+/// for them.
 fn reweigh_for(
     alloc: Global,
     cost: Cost,
@@ -37,11 +38,11 @@ fn reweigh_for(
     }
 }
 
-/// The first owner of a graph, which is factored for each cost for which another one is, over the links of that: in a
-/// fraction of the time in which it would be factored by itself.
+/// The first owner of a graph, which is factored for each cost for which another one is, over the
+/// links of that: in a fraction of the time in which it would be factored by itself.
 ///
-/// What is asked of it has the same answers, whether there are factors or not. Else the status says why: it is `MEMORY`,
-/// `HEAVY`, or `NO_LINK` for an arc between vertices with no link.
+/// What is asked of it has the same answers, whether there are factors or not. Else the status says
+/// why: it is `MEMORY`, `HEAVY`, or `NO_LINK` for an arc between vertices with no link.
 pub fn reweigh_graph(
     alloc: Global,
     first: &SharedGraph,

@@ -1,23 +1,25 @@
 //! A route, written to memory that the caller lends.
 
-ghost use Rattle.std.specs.Prelude.{◌≡◌, ◌≤◌, ◌<◌, ◌+◌, ◌↔◌, ◌∷◌, [], length, take, drop, pos, IfOk, IfSome};
+ghost use Rattle.std.specs.Prelude.{◌≡◌, ◌≤◌, ◌<◌, ◌+◌, ◌↔◌, ◌∷◌, [], length, take, drop, pos, IfOk, IfSome, IsSome};
 ghost use Rattle.road_graph.specs.GraphData.{HasVertex};
 ghost use Rattle.path_algebra.specs.Carried.{IsCarried};
 ghost use Rattle.path_algebra.specs.Choices.{IsAlgebra, OfAlgebra, Under};
 ghost use Rattle.path_algebra.specs.Counted.{cost_of};
-ghost use Rattle.route_tree.specs.Found.{IsPairFound};
+ghost use Rattle.route_tree.specs.Found.{IsFoundIfNear, IsPairFound};
+ghost use Rattle.route_tree.specs.declared.found.Nearby.TheVariants.{Undecided};
 ghost use Rattle.answer_lists.specs.Answers.{IsAnswered, IsFound, IsOneOf, ReportsRoute, HasBoth};
 
 use crate::factored::Factored;
 use crate::shared_graph::SharedGraph;
-use crate::status::{DONE, MEMORY, NO_ALGEBRA, NO_ROOM, NO_ROUTE, NO_VERTEX};
+use crate::status::{DONE, MEMORY, NO_ALGEBRA, NO_ROOM, NO_ROUTE, NO_VERTEX, STOPPED};
 use path_algebra::{AlgebraChoice, with_algebra};
+use path_plain::{Halt, Stop};
 use road_graph::{InGraph, Memory, Vertex};
 use route_tree::{Found, Nearby};
 use std::alloc::Global;
 
-/// How many entries a search on a factored graph takes from its queue, at most, before the factors are asked: most near routes
-/// need fewer, and a far one loses some hundredths of its time.
+/// How many entries a search on a factored graph takes from its queue, at most, before the factors
+/// are asked: most near routes need fewer, and a far one loses some hundredths of its time.
 const NEAR: u32 = 500;
 
 /// Takes the factors out for an algebra, if there are any.
@@ -48,7 +50,8 @@ fn query(
     with_algebra!(chosen, |algebra| factored.route(alloc, algebra, rows, ends))
 }
 
-/// The best code and the route on a factored graph: by a search if it decides the pair soon, and else by the factors.
+/// The best code and the route on a factored graph: by a search if it decides the pair soon, and
+/// else by the factors.
 fn find_factored(
     alloc: Global,
     chosen: AlgebraChoice,
@@ -67,7 +70,13 @@ fn find_factored(
     ensures kept { factored.new ≡ factored.old }
     ensures found { Under chosen (λ V A. IfOk result (IsPairFound A shared.old source target)) }
 {
-    match shared.search_near(alloc, chosen, rows, (source, target), NEAR) {
+    match shared.search(
+        alloc,
+        chosen,
+        rows,
+        (source, target),
+        &mut Halt::After(NEAR),
+    ) {
         Ok(Nearby::Decided(found)) => Ok(found),
         Ok(Nearby::Undecided) | Err(Memory) => {
             query(alloc, chosen, factored, rows, (source, target))
@@ -75,26 +84,29 @@ fn find_factored(
     }
 }
 
-/// The best code and the route; none if no walk to the target has a value.
+/// The best code and the route, none if no walk to the target has a value; or undecided, if a stop
+/// was set.
 fn find(
     alloc: Global,
     chosen: AlgebraChoice,
     shared: &mut SharedGraph,
+    stop: &Option<Stop>,
     source: Vertex,
     target: Vertex,
-) -> Result<Option<Found>, Memory>
+) -> Result<Nearby, Memory>
     requires source { HasVertex shared.old source }
     requires target { HasVertex shared.old target }
     ensures graph { shared.new ≡ shared.old }
-    ensures found { Under chosen (λ V A. IfOk result (IsPairFound A shared.old source target)) }
+    ensures found { Under chosen (λ V A. IfOk result (IsFoundIfNear A shared.old source target)) }
+    ensures stopped { IfOk result (λ near. near ≡ Undecided → IsSome stop.now) }
 {
     let rows = shared.rows(alloc)?;
     let Some(mut factored) = take_factored(chosen, shared) else {
-        return shared.search(alloc, chosen, &rows, (source, target));
+        return shared.search(alloc, chosen, &rows, (source, target), &mut Halt::by(stop));
     };
     let found = find_factored(alloc, chosen, shared, &mut factored, &rows, source, target);
     shared.put_factored(factored);
-    found
+    Ok(Nearby::Decided(found?))
 }
 
 /// Copies the vertices of a route into the room.
@@ -132,6 +144,7 @@ fn answer(
     alloc: Global,
     chosen: AlgebraChoice,
     shared: &mut SharedGraph,
+    stop: &Option<Stop>,
     source: Vertex,
     target: Vertex,
     code: &mut u64,
@@ -147,10 +160,14 @@ fn answer(
     ensures room { (result ≡ pos 0 → ⊥) → room.new ≡ room.old }
     ensures rest { result ≡ pos 0 → drop (hops.new + 1) room.new ≡ drop (hops.new + 1) room.old }
     ensures places { (IsFound result → ⊥) → (code.new ≡ code.old) × (hops.new ≡ hops.old) }
-    ensures status { IsOneOf (0 ∷ 1 ∷ 2 ∷ 3 ∷ []) result }
+    ensures stopped { result ≡ pos 45 → IsSome stop.now }
+    ensures status { IsOneOf (0 ∷ 1 ∷ 2 ∷ 3 ∷ 45 ∷ []) result }
 {
-    let Ok(found) = find(alloc, chosen, shared, source, target) else {
+    let Ok(near) = find(alloc, chosen, shared, stop, source, target) else {
         return MEMORY;
+    };
+    let Nearby::Decided(found) = near else {
+        return STOPPED;
     };
     let Some(found) = found else {
         return NO_ROUTE;
@@ -160,13 +177,15 @@ fn answer(
     write_route(&found, room)
 }
 
-/// Finds a route by the algebra of a number and writes it, if there is such an algebra and both are vertices.
+/// Finds a route by the algebra of a number and writes it, if there is such an algebra and both are
+/// vertices. A search ends without an answer soon after the stop is set, if there is one.
 #[tactic(auto, using(path_algebra::proofs::Chosen::of_numbered))]
 pub fn answer_route(
     alloc: Global,
     number: u32,
     limit: u64,
     shared: &mut SharedGraph,
+    stop: &Option<Stop>,
     source: Vertex,
     target: Vertex,
     code: &mut u64,
@@ -184,7 +203,8 @@ pub fn answer_route(
     ensures vertex { (result ≡ pos 17) ↔ (HasBoth shared.old source target → ⊥) }
     ensures algebra { (result ≡ pos 43) ↔ (HasBoth shared.old source target ×
         (IsAlgebra number limit → ⊥)) }
-    ensures status { IsOneOf (0 ∷ 1 ∷ 2 ∷ 3 ∷ 17 ∷ 43 ∷ []) result }
+    ensures stopped { result ≡ pos 45 → IsSome stop.now }
+    ensures status { IsOneOf (0 ∷ 1 ∷ 2 ∷ 3 ∷ 17 ∷ 43 ∷ 45 ∷ []) result }
 {
     let graph = shared.graph();
     if !graph.has(source) || !graph.has(target) {
@@ -193,5 +213,7 @@ pub fn answer_route(
     let Some(chosen) = AlgebraChoice::numbered(number, limit) else {
         return NO_ALGEBRA;
     };
-    answer(alloc, chosen, shared, source, target, code, hops, room)
+    answer(
+        alloc, chosen, shared, stop, source, target, code, hops, room,
+    )
 }

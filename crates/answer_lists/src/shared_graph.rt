@@ -6,7 +6,9 @@ ghost use Rattle.path_algebra.specs.Carried.{IsCarried};
 ghost use Rattle.path_algebra.specs.Choices.{Under};
 ghost use Rattle.path_algebra.specs.Counted.{cost_of, CountsFit};
 ghost use Rattle.road_graph.specs.GraphData.{HasVertex};
-ghost use Rattle.route_tree.specs.Found.{IsFoundIfNear, IsPairFound};
+ghost use Rattle.path_plain.specs.Halting.{CanHalt};
+ghost use Rattle.route_tree.specs.Found.{IsFoundIfNear};
+ghost use Rattle.route_tree.specs.declared.found.Nearby.TheVariants.{Undecided};
 ghost use Rattle.answer_lists.specs.Kept.{IsKeptFor};
 ghost use Rattle.answer_lists.specs.KeptTree.{IsTreeKeptFor, graph_in};
 ghost use Rattle.factor_routes.specs.declared.road_factors.Unfactored.TheVariants.{Dense, Heavy};
@@ -16,14 +18,16 @@ use crate::kept_searcher::KeptSearcher;
 use crate::kept_tree::KeptTree;
 use factor_routes::{RoadFactors, Unfactored};
 use path_algebra::{AlgebraChoice, Cost, PathAlgebra};
+use path_plain::Halt;
 use road_graph::{InGraph, Memory, OutGraph, Vertex};
-use route_tree::{Found, Nearby};
+use route_tree::Nearby;
 use std::alloc::{AllocError, Global};
 use std::marker::Model;
 use std::sync::Arc;
 
-/// An owner of a graph, of its rows by head if they were made, and of its factors by weights and by arcs if it was factored;
-/// and the searchers of its last route and its last near answer, which no other owner has.
+/// An owner of a graph, of its rows by head if they were made, and of its factors by weights and by
+/// arcs if it was factored; and the searchers of its last route and its last near answer, which no
+/// other owner has.
 #[derive(Drop)]
 pub struct SharedGraph {
     graph: Arc<OutGraph>,
@@ -141,6 +145,14 @@ impl SharedGraph {
         }
     }
 
+    /// Whether it is factored for an algebra.
+    pub(crate) fn is_factored_for<A: PathAlgebra>(&self, algebra: A) -> bool {
+        match algebra.cost() {
+            Some(cost) => self.is_factored(cost),
+            None => false,
+        }
+    }
+
     /// Takes the factors out for arcs that cost this, if there are any.
     fn take(&mut self, cost: Cost) -> Option<Factored>
         ensures kept { self.new ≡ self.old }
@@ -194,49 +206,32 @@ impl SharedGraph {
         Ok(Box::new(alloc, searcher).map_err(AllocError::from)?)
     }
 
-    /// Searches for the best code and the route; none if no walk to the target has a value. The searcher is kept.
+    /// Searches for the best code and the route, none if no walk to the target has a value; or
+    /// undecided, if the search was to give up. The searcher is kept: where it stopped the next
+    /// search from the same source goes on.
     pub(crate) fn search(
         &mut self,
         alloc: Global,
         chosen: AlgebraChoice,
         rows: &InGraph,
         ends: (Vertex, Vertex),
-    ) -> Result<Option<Found>, Memory>
-        requires rows { rows.now ≡ self.old }
-        requires source { HasVertex self.old ends.0 }
-        requires target { HasVertex self.old ends.1 }
-        ensures kept { self.new ≡ self.old }
-        ensures found { Under chosen (λ V A. IfOk result (IsPairFound A self.old ends.0 ends.1)) }
-    {
-        let mut searcher = self.take_searcher(alloc, chosen)?;
-        let found = searcher.route(&self.graph, rows, ends);
-        self.searcher = Some(searcher);
-        found
-    }
-
-    /// The same by a search that takes no more than `most` entries from its queue: it may leave the pair undecided. Where that
-    /// search stopped the next one from the same source goes on.
-    pub(crate) fn search_near(
-        &mut self,
-        alloc: Global,
-        chosen: AlgebraChoice,
-        rows: &InGraph,
-        ends: (Vertex, Vertex),
-        most: u32,
+        halt: &mut Halt<'_>,
     ) -> Result<Nearby, Memory>
         requires rows { rows.now ≡ self.old }
         requires source { HasVertex self.old ends.0 }
         requires target { HasVertex self.old ends.1 }
         ensures kept { self.new ≡ self.old }
         ensures found { Under chosen (λ V A. IfOk result (IsFoundIfNear A self.old ends.0 ends.1)) }
+        ensures halts { IfOk result (λ near. near ≡ Undecided → CanHalt halt.old) }
     {
         let mut searcher = self.take_searcher(alloc, chosen)?;
-        let found = searcher.route_near(&self.graph, rows, ends, most);
+        let found = searcher.route(&self.graph, rows, ends, halt);
         self.searcher = Some(searcher);
         found
     }
 
-    /// Takes the searcher for trees out if it serves this algebra. Else it is freed, and another is made.
+    /// Takes the searcher for trees out if it serves this algebra. Else it is freed, and another is
+    /// made.
     pub(crate) fn take_tree(
         &mut self,
         alloc: Global,

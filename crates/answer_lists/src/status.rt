@@ -22,3 +22,5 @@ pub const NO_VERTEX: i32 = 17;
 pub const NO_ALGEBRA: i32 = 43;
 /// An arc joins vertices between which factors have no link.
 pub const NO_LINK: i32 = 44;
+/// The stop was set before there was an answer.
+pub const STOPPED: i32 = 45;

@@ -1,105 +1,29 @@
 //! A tree, written to three lists of the caller.
 
-ghost use Rattle.std.specs.Prelude.{◌≡◌, ◌↔◌, ◌∷◌, [], pos, set, IfOk, IsTrue};
+ghost use Rattle.std.specs.Prelude.{◌≡◌, ◌↔◌, ◌∷◌, [], pos, true, false, IfOk, IsSome, IsTrue, Ok};
 ghost use Rattle.std.specs.List.{All};
 ghost use Rattle.road_graph.specs.GraphData.{HasVertex};
 ghost use Rattle.path_algebra.specs.Choices.{OfAlgebra, Under};
 ghost use Rattle.path_algebra.specs.Walks.{AreBest};
 ghost use Rattle.route_tree.specs.Tree.{IsTree};
-ghost use Rattle.answer_text.specs.IsAnswer.{IsVertexLine};
+ghost use Rattle.path_plain.specs.Halting.{CanHalt};
 ghost use Rattle.answer_lists.specs.Answers.{IsOneOf};
-ghost use Rattle.answer_lists.specs.Tree.{AreWantedLists, IsAllOrNone, HaveAllOrNone, ReportsTreeRefusals, HasLowCodes, line_of, number_for};
+ghost use Rattle.answer_lists.specs.KeptTree.{code_in, graph_in, tree_in};
+ghost use Rattle.answer_lists.specs.Near.{HaveLines};
+ghost use Rattle.answer_lists.specs.Tree.{AreWantedLists, IsAllOrNone, HaveAllOrNone, ReportsTreeRefusals, HasLowCodes};
 
-use crate::codes::code_for;
+use crate::near::search;
 use crate::shared_graph::SharedGraph;
 use crate::sources::{are_vertices, vertices_of};
-use crate::status::{DONE, MEMORY, NO_ALGEBRA, NO_ROOM, NO_VERTEX};
-use path_algebra::{AlgebraChoice, Labels, PathAlgebra, laws_hold, with_algebra};
+use crate::status::{DONE, MEMORY, NO_ALGEBRA, NO_ROOM, NO_VERTEX, STOPPED};
+use crate::stopping::is_stopped;
+use crate::tree_lists::{write_found, write_lists};
+use path_algebra::{AlgebraChoice, Labels, PathAlgebra, with_algebra};
+use path_plain::{Halt, Stop};
 use road_graph::{Memory, OutGraph, Vertex};
-use route_tree::{Tree, labels_and_trees_agree};
+use route_tree::Tree;
 use std::alloc::Global;
 use tree_search::solve_with_tree;
-
-pub(crate) fn hops_for(hops: Option<u32>) -> u32
-    ensures { result ≡ number_for hops }
-{
-    match hops {
-        Some(hops) => hops,
-        None => 0,
-    }
-}
-
-pub(crate) fn parent_for(parent: Option<Vertex>) -> u32
-    ensures { result ≡ number_for parent }
-{
-    match parent {
-        Some(parent) => parent.0,
-        None => 0,
-    }
-}
-
-/// The three numbers of a vertex.
-fn numbers_of<A: PathAlgebra>(
-    algebra: A,
-    graph: &OutGraph,
-    sources: &[Vertex],
-    labels: &Labels<A::Value>,
-    tree: &Tree,
-    v: Vertex,
-) -> (u64, u32, u32)
-    requires low { HasLowCodes (A.meaning algebra) }
-    requires vertex { HasVertex graph.now v }
-    requires best { AreBest (A.meaning algebra) graph.now sources.now labels.now }
-    requires tree { IsTree (A.meaning algebra) graph.now sources.now tree.now }
-    ensures { IsVertexLine (A.meaning algebra) graph.now sources.now v
-        (line_of result.0 result.1 result.2) }
-{
-    graph.holds();
-    laws_hold(algebra);
-    labels_and_trees_agree(algebra);
-    (
-        code_for(algebra, labels.of(v)),
-        hops_for(tree.hops(v)),
-        parent_for(tree.parent(v)),
-    )
-}
-
-/// Writes to a place of a list, if the list has it.
-fn put<T: Copy>(list: &mut [T], i: usize, x: T)
-    ensures { list.new ≡ set list.old i x }
-{
-    if i < list.len() {
-        list[i] = x;
-    }
-}
-
-/// Writes a tree to three lists, of which those without places are not wanted.
-fn write_lists<A: PathAlgebra>(
-    algebra: A,
-    graph: &OutGraph,
-    sources: &[Vertex],
-    labels: &Labels<A::Value>,
-    tree: &Tree,
-    codes: &mut [u64],
-    hops: &mut [u32],
-    parents: &mut [u32],
-)
-    requires low { HasLowCodes (A.meaning algebra) }
-    requires places { HaveAllOrNone graph.now.vertices codes.old hops.old parents.old }
-    requires best { AreBest (A.meaning algebra) graph.now sources.now labels.now }
-    requires tree { IsTree (A.meaning algebra) graph.now sources.now tree.now }
-    ensures { AreWantedLists (A.meaning algebra) graph.now sources.now codes.new hops.new
-        parents.new }
-{
-    graph.holds();
-    for i in 0..graph.vertices() as usize {
-        let v = Vertex(i as u32 + 1);
-        let (code, near, parent) = numbers_of(algebra, graph, sources, labels, tree, v);
-        put(codes, i, code);
-        put(hops, i, near);
-        put(parents, i, parent);
-    }
-}
 
 /// The labels from some sources, and their tree.
 fn solve<A: PathAlgebra>(
@@ -124,12 +48,13 @@ fn solve<A: PathAlgebra>(
     found
 }
 
-/// Finds a tree and writes it.
+/// Finds a tree and writes it: by the factors, if there are any, or by a search that does not give
+/// up.
 fn answer<A: PathAlgebra>(
     alloc: Global,
     algebra: A,
     shared: &mut SharedGraph,
-    sources: &[u32],
+    sources: &[Vertex],
     codes: &mut [u64],
     hops: &mut [u32],
     parents: &mut [u32],
@@ -144,20 +69,11 @@ fn answer<A: PathAlgebra>(
         (parents.new ≡ parents.old) }
     ensures status { IsOneOf (0 ∷ 3 ∷ []) result }
 {
-    let Ok(list) = vertices_of(alloc, sources) else {
-        return MEMORY;
-    };
-    match solve(alloc, algebra, shared, &list) {
+    match solve(alloc, algebra, shared, sources) {
         Ok((labels, tree)) => {
+            let graph = shared.graph();
             write_lists(
-                algebra,
-                shared.graph(),
-                &list,
-                &labels,
-                &tree,
-                codes,
-                hops,
-                parents,
+                algebra, graph, sources, &labels, &tree, codes, hops, parents,
             );
             DONE
         }
@@ -165,11 +81,58 @@ fn answer<A: PathAlgebra>(
     }
 }
 
-/// Finds a tree by the chosen algebra and writes it.
+/// Finds a tree by a search with the kept searcher and writes it, unless the search is to give up
+/// before. Whether it is written.
+fn answer_searched(
+    alloc: Global,
+    chosen: AlgebraChoice,
+    shared: &mut SharedGraph,
+    sources: &[Vertex],
+    halt: &mut Halt<'_>,
+    codes: &mut [u64],
+    hops: &mut [u32],
+    parents: &mut [u32],
+) -> Result<bool, Memory>
+    requires sources { All (HasVertex shared.old) sources.now }
+    requires places { HaveAllOrNone shared.old.vertices codes.old hops.old parents.old }
+    ensures graph { shared.new ≡ shared.old }
+    ensures tree { result ≡ Ok true → Under chosen (λ V A. AreWantedLists A shared.old sources.now
+        codes.new hops.new parents.new) }
+    ensures kept { (result ≡ Ok true → ⊥) → (codes.new ≡ codes.old) × (hops.new ≡ hops.old) ×
+        (parents.new ≡ parents.old) }
+    ensures halts { result ≡ Ok false → CanHalt halt.old }
+{
+    let (kept, is_found) = search(alloc, chosen, shared, sources, halt)?;
+    if is_found {
+        let graph = shared.graph();
+        with_algebra!(
+            chosen,
+            |algebra| write_found(algebra, graph, sources, &kept, codes, hops, parents)
+        );
+    }
+    shared.put_tree(kept);
+    Ok(is_found)
+}
+
+/// How many entries a search for a tree on a factored graph takes from its queue, at most, before
+/// the factors are swept. A sweep costs what the whole graph does, so a tree of a small part is had
+/// for less, and another loses some hundredths of its time.
+fn few_entries(graph: &OutGraph) -> u32 {
+    500 + graph.vertices() / 64
+}
+
+/// Whether the graph is factored for the chosen algebra.
+fn is_factored(chosen: AlgebraChoice, shared: &SharedGraph) -> bool {
+    with_algebra!(chosen, |algebra| shared.is_factored_for(algebra))
+}
+
+/// Finds a tree by the chosen algebra and writes it: on a factored graph by a search if that ends
+/// soon, and with a stop by one that looks at it.
 fn answer_chosen(
     alloc: Global,
     chosen: AlgebraChoice,
     shared: &mut SharedGraph,
+    stop: &Option<Stop>,
     sources: &[u32],
     codes: &mut [u64],
     hops: &mut [u32],
@@ -182,11 +145,34 @@ fn answer_chosen(
         codes.new hops.new parents.new) }
     ensures kept { (result ≡ pos 0 → ⊥) → (codes.new ≡ codes.old) × (hops.new ≡ hops.old) ×
         (parents.new ≡ parents.old) }
-    ensures status { IsOneOf (0 ∷ 3 ∷ []) result }
+    ensures stopped { result ≡ pos 45 → IsSome stop.now }
+    ensures status { IsOneOf (0 ∷ 3 ∷ 45 ∷ []) result }
 {
+    let Ok(list) = vertices_of(alloc, sources) else {
+        return MEMORY;
+    };
+    if is_factored(chosen, shared) {
+        let mut few = Halt::After(few_entries(shared.graph()));
+        let written = answer_searched(alloc, chosen, shared, &list, &mut few, codes, hops, parents);
+        if let Ok(true) = written {
+            return DONE;
+        }
+        if is_stopped(stop) {
+            return STOPPED;
+        }
+    } else if stop.is_some() {
+        let mut halt = Halt::by(stop);
+        return match answer_searched(
+            alloc, chosen, shared, &list, &mut halt, codes, hops, parents,
+        ) {
+            Ok(true) => DONE,
+            Ok(false) => STOPPED,
+            Err(Memory) => MEMORY,
+        };
+    }
     with_algebra!(
         chosen,
-        |algebra| answer(alloc, algebra, shared, sources, codes, hops, parents)
+        |algebra| answer(alloc, algebra, shared, &list, codes, hops, parents)
     )
 }
 
@@ -197,14 +183,16 @@ fn is_all_or_none(n: usize, count: usize) -> bool
     count == n || count == 0
 }
 
-/// Finds a tree by the algebra of a number and writes it, if each source is a vertex, each list has a place for each
-/// vertex or none, and there is such an algebra. A list without places is not wanted.
+/// Finds a tree by the algebra of a number and writes it, if each source is a vertex, each list has
+/// a place for each vertex or none, and there is such an algebra. A list without places is not
+/// wanted. A search ends without an answer soon after the stop is set, if there is one.
 #[tactic(auto, using(path_algebra::proofs::Chosen::of_numbered))]
 pub fn answer_tree(
     alloc: Global,
     number: u32,
     limit: u64,
     shared: &mut SharedGraph,
+    stop: &Option<Stop>,
     sources: &[u32],
     codes: &mut [u64],
     hops: &mut [u32],
@@ -217,7 +205,8 @@ pub fn answer_tree(
         (parents.new ≡ parents.old) }
     ensures refusals { ReportsTreeRefusals shared.old number limit sources.now codes.old hops.old
         parents.old result }
-    ensures status { IsOneOf (0 ∷ 2 ∷ 3 ∷ 17 ∷ 43 ∷ []) result }
+    ensures stopped { result ≡ pos 45 → IsSome stop.now }
+    ensures status { IsOneOf (0 ∷ 2 ∷ 3 ∷ 17 ∷ 43 ∷ 45 ∷ []) result }
 {
     let graph = shared.graph();
     if !are_vertices(graph, sources) {
@@ -234,5 +223,5 @@ pub fn answer_tree(
     let Some(chosen) = AlgebraChoice::numbered(number, limit) else {
         return NO_ALGEBRA;
     };
-    answer_chosen(alloc, chosen, shared, sources, codes, hops, parents)
+    answer_chosen(alloc, chosen, shared, stop, sources, codes, hops, parents)
 }

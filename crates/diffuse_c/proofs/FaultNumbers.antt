@@ -1,4 +1,5 @@
--- A reader that never fails reports the fault of its text, or that there was no memory, if the text is not too long.
+-- A reader that never fails reports the fault of its text, or that there was no memory, if the text
+-- is not too long.
 use Rattle.std.proofs.Common.{◌≡◌, ◌≢◌, ℕ, ◌≤◌, ◌⊎◌, inl, inr, List, length, refl, arith, Result, Ok, Err, Option, Some}
 use Rattle.std.specs.Prelude.{IfErr}
 use Rattle.road_graph.specs.GraphData.{GraphData}

@@ -1,4 +1,5 @@
--- Why no handle is opened over the factors of another one: the graph of the arcs is not factored over the links.
+-- Why no handle is opened over the factors of another one: the graph of the arcs is not factored
+-- over the links.
 use Rattle.std.proofs.Common.{◌≡◌, ℕ, inl, inr, List, [], ◌∷◌, Option, Some, arith, subst, sym}
 use Rattle.std.specs.Prelude.{ℤ, pos}
 use Rattle.road_graph.specs.GraphData.{GraphData}

@@ -26,7 +26,8 @@ pub record Fits (vertices : ℕ) (arcs : List DiffuseArc) : Type 0 where
   pub small : IsTooLarge vertices arcs → ⊥
   pub roads : IsGraph (lent vertices arcs)
 
--- why no graph was built: there are too many vertices or arcs, an arc has an end that is no vertex, or memory ran out for a graph
+-- why no graph was built: there are too many vertices or arcs, an arc has an end that is no vertex,
+-- or memory ran out for a graph
 pub record IsFault (vertices : ℕ) (arcs : List DiffuseArc) (status : ℤ) : Type 0 where
   pub one_of : IsOneOf (3 ∷ 16 ∷ 17 ∷ []) status
   pub limit : (status ≡ pos 16) ↔ IsTooLarge vertices arcs

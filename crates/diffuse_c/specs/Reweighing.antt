@@ -7,8 +7,8 @@ use Rattle.answer_lists.specs.Reweighing.{IsHeavy}
 use Rattle.diffuse_c.specs.declared.arcs.DiffuseArc.{DiffuseArc}
 use Rattle.diffuse_c.specs.Lent.{IsBadlyJoined, IsTooLarge, lent}
 
--- there are too many arcs, an arc has an end that is no vertex, memory ran out, sums do not fit, or an arc has no link; there
--- is none only if the arcs join vertices that no arc of g joins
+-- there are too many arcs, an arc has an end that is no vertex, memory ran out, sums do not fit, or
+-- an arc has no link; there is none only if the arcs join vertices that no arc of g joins
 pub record IsReweighFault (g : GraphData) (arcs : List DiffuseArc) (status : ℤ) : Type 0 where
   pub one_of : IsOneOf (3 ∷ 8 ∷ 16 ∷ 17 ∷ 44 ∷ []) status
   pub limit : (status ≡ pos 16) ↔ IsTooLarge g.vertices arcs

@@ -23,12 +23,14 @@ IsFaultNumber n = (10 ≤ n) × (n ≤ 19)
 abbrev pub IsReadFaultOf : List ℕ → ReadFault → Type 0
 IsReadFaultOf bytes f = (f.number ≡ 3) ⊎ (IsFaultNumber f.number × (text_read gr_rules bytes ≡ Err f))
 
--- memory ran out while the text was read: of the bytes that were taken no line breaks a rule, but for those of the last read
+-- memory ran out while the text was read: of the bytes that were taken no line breaks a rule, but
+-- for those of the last read
 pub record RunsOutWithin (bytes : List ℕ) : Type 0 where
   pub rest : Option (List ℕ)
   pub after : RunsOutAfter (BreaksNone gr_rules) (Some bytes) rest
 
--- why there is no memory: it ran out while the text was read, or it did not suffice for the graph that the text spells
+-- why there is no memory: it ran out while the text was read, or it did not suffice for the graph
+-- that the text spells
 abbrev pub IsShortOfMemory : List ℕ → Type 0
 IsShortOfMemory bytes = RunsOutWithin bytes ⊎ ((g : GraphData) × (text_read gr_rules bytes ≡ Ok g))
 

@@ -11,8 +11,9 @@ use crate::status::CLOSED;
 use answer_lists::factor_graph;
 use std::alloc::Global;
 
-/// Factors the graph for the algebra of a number, at every limit. Routes, trees and tables that are asked for afterwards, by this
-/// handle and those opened from it later, use the factors. They are answered the same.
+/// Factors the graph for the algebra of a number, at every limit. Routes, trees and tables that are
+/// asked for afterwards, by this handle and those opened from it later, use the factors. They are
+/// answered the same.
 #[unsafe(no_mangle)]
 pub extern "C" fn diffuse_graph_factor(
     alloc: Global,
@@ -20,6 +21,7 @@ pub extern "C" fn diffuse_graph_factor(
     algebra: u32,
 ) -> i32
     ensures kept { handle.new.held.roads ≡ handle.old.held.roads }
+    ensures stop { handle.new.held.stop ≡ handle.old.held.stop }
     ensures heavy { OfGraph handle.old.held.roads (λ g. result ≡ pos 8 → OfAlgebra algebra 0
         (λ V A. IsTooHeavy A g)) }
     ensures algebra { OfGraph handle.old.held.roads
@@ -30,7 +32,7 @@ pub extern "C" fn diffuse_graph_factor(
     let Some(mut owner) = take(alloc, handle) else {
         return CLOSED;
     };
-    let status = factor_graph(alloc, algebra, &mut owner);
+    let status = factor_graph(alloc, algebra, &mut owner.shared);
     put(handle, owner);
     status
 }

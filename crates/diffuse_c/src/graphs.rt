@@ -25,6 +25,7 @@ pub extern "C" fn diffuse_graph_open(
 ) -> i32
     ensures graph { result ≡ pos 0 → handle.new.held.roads ≡ Some (lent vertices arcs.now) }
     ensures kept { result ≢ pos 0 → handle.new.held.roads ≡ handle.old.held.roads }
+    ensures stop { handle.new.held.stop ≡ handle.old.held.stop }
     ensures status { IsOneOf (0 ∷ 3 ∷ 5 ∷ 16 ∷ 17 ∷ []) result }
     ensures open { (result ≡ pos 5) ↔ (has_graph handle.old.held.roads ≡ true) }
     ensures limit { (result ≡ pos 16) ↔ ((handle.old.held.roads ≡ None) × IsTooLarge vertices
@@ -45,7 +46,8 @@ pub extern "C" fn diffuse_graph_open(
     }
 }
 
-/// Opens a closed handle with the graph of an open one. Each may then be used on a thread of its own.
+/// Opens a closed handle with the graph of an open one. Each may then be used on a thread of its
+/// own.
 #[unsafe(no_mangle)]
 pub extern "C" fn diffuse_graph_share(
     alloc: Global,
@@ -53,8 +55,11 @@ pub extern "C" fn diffuse_graph_share(
     second: &mut DiffuseGraph,
 ) -> i32
     ensures kept { handle.new.held.roads ≡ handle.old.held.roads }
+    ensures stop { handle.new.held.stop ≡ handle.old.held.stop }
     ensures graph { result ≡ pos 0 → second.new.held.roads ≡ handle.old.held.roads }
     ensures unchanged { result ≢ pos 0 → second.new.held.roads ≡ second.old.held.roads }
+    ensures unstopped { result ≡ pos 0 → second.new.held.stop ≡ None }
+    ensures stop_kept { result ≢ pos 0 → second.new.held.stop ≡ second.old.held.stop }
     ensures status { IsOneOf (0 ∷ 3 ∷ 4 ∷ 5 ∷ []) result }
     ensures open { (result ≡ pos 5) ↔ (has_graph second.old.held.roads ≡ true) }
     ensures closed { (result ≡ pos 4) ↔ ((second.old.held.roads ≡ None) ×
@@ -66,7 +71,7 @@ pub extern "C" fn diffuse_graph_share(
     let Some(mut owner) = take(alloc, handle) else {
         return CLOSED;
     };
-    let status = match try_clone(alloc, &mut owner) {
+    let status = match try_clone(alloc, &mut owner.shared) {
         Ok(other) => {
             put(second, other);
             DONE
@@ -77,10 +82,12 @@ pub extern "C" fn diffuse_graph_share(
     status
 }
 
-/// Closes a handle. The graph is freed with the last handle that has it; a closed handle stays closed.
+/// Closes a handle. The graph is freed with the last handle that has it; a closed handle stays
+/// closed.
 #[unsafe(no_mangle)]
 pub extern "C" fn diffuse_graph_close(alloc: Global, handle: &mut DiffuseGraph)
-    ensures { handle.new.held.roads ≡ None }
+    ensures roads { handle.new.held.roads ≡ None }
+    ensures stop { handle.new.held.stop ≡ None }
 {
     let _owner = take(alloc, handle);
 }
@@ -89,12 +96,13 @@ pub extern "C" fn diffuse_graph_close(alloc: Global, handle: &mut DiffuseGraph)
 #[unsafe(no_mangle)]
 pub extern "C" fn diffuse_graph_vertices(alloc: Global, handle: &mut DiffuseGraph) -> u32
     ensures kept { handle.new.held.roads ≡ handle.old.held.roads }
+    ensures stop { handle.new.held.stop ≡ handle.old.held.stop }
     ensures count { MatchOption handle.old.held.roads (result ≡ 0) (λ g. result ≡ g.vertices) }
 {
     let Some(owner) = take(alloc, handle) else {
         return 0;
     };
-    let count = owner.graph().vertices();
+    let count = owner.shared.graph().vertices();
     put(handle, owner);
     count
 }
@@ -103,12 +111,13 @@ pub extern "C" fn diffuse_graph_vertices(alloc: Global, handle: &mut DiffuseGrap
 #[unsafe(no_mangle)]
 pub extern "C" fn diffuse_graph_arcs(alloc: Global, handle: &mut DiffuseGraph) -> usize
     ensures kept { handle.new.held.roads ≡ handle.old.held.roads }
+    ensures stop { handle.new.held.stop ≡ handle.old.held.stop }
     ensures count { MatchOption handle.old.held.roads (result ≡ 0) (λ g. result ≡ length g.arcs) }
 {
     let Some(owner) = take(alloc, handle) else {
         return 0;
     };
-    let count = owner.graph().arcs();
+    let count = owner.shared.graph().arcs();
     put(handle, owner);
     count
 }

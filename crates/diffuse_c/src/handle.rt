@@ -5,21 +5,24 @@ ghost use Rattle.diffuse_c.specs.Holding.{has_graph};
 
 use crate::held::{Held, discard, hold, nothing, release};
 use crate::loose::Loose;
-use answer_lists::SharedGraph;
+use crate::owners::Owner;
 use std::alloc::Global;
 use std::mem;
 
-/// A handle: closed, or open with a graph. C begins with one that is all zero, and changes nothing in it.
+/// A handle: closed, or open with a graph. C begins with one that is all zero, and changes nothing
+/// in it.
 #[repr(C)]
 pub struct DiffuseGraph {
     pub(crate) held: Held,
     pub(crate) is_open: bool,
     ghost agrees: { has_graph held.roads ≡ is_open },
+    ghost unstopped: { held.roads ≡ None → held.stop ≡ None },
 }
 
 /// A closed handle.
 pub(crate) fn closed() -> DiffuseGraph
-    ensures { result.held.roads ≡ None }
+    ensures roads { result.held.roads ≡ None }
+    ensures stop { result.held.stop ≡ None }
 {
     DiffuseGraph {
         held: nothing(),
@@ -28,8 +31,9 @@ pub(crate) fn closed() -> DiffuseGraph
 }
 
 /// An open handle with this owner.
-fn opened(owner: Box<SharedGraph>) -> DiffuseGraph
-    ensures { result.held.roads ≡ Some owner.value }
+fn opened(owner: Box<Owner>) -> DiffuseGraph
+    ensures roads { result.held.roads ≡ Some owner.value.shared }
+    ensures stop { result.held.stop ≡ owner.value.stop }
 {
     DiffuseGraph {
         held: hold(Loose::of(owner)),
@@ -38,10 +42,13 @@ fn opened(owner: Box<SharedGraph>) -> DiffuseGraph
 }
 
 /// Takes the owner out, if there is one. The handle is closed afterwards.
-pub(crate) fn take(alloc: Global, handle: &mut DiffuseGraph) -> Option<Box<SharedGraph>>
+pub(crate) fn take(alloc: Global, handle: &mut DiffuseGraph) -> Option<Box<Owner>>
     ensures graph { MatchOption result (handle.old.held.roads ≡ None) (λ b. handle.old.held.roads ≡
-        Some b.value) }
+        Some b.value.shared) }
+    ensures stop { MatchOption result (handle.old.held.stop ≡ None) (λ b. handle.old.held.stop ≡
+        b.value.stop) }
     ensures closed { handle.new.held.roads ≡ None }
+    ensures unstopped { handle.new.held.stop ≡ None }
 {
     let DiffuseGraph { held, is_open } = mem::replace(handle, closed());
     if is_open {
@@ -53,9 +60,10 @@ pub(crate) fn take(alloc: Global, handle: &mut DiffuseGraph) -> Option<Box<Share
 }
 
 /// Puts an owner into a closed handle.
-pub(crate) fn put(handle: &mut DiffuseGraph, owner: Box<SharedGraph>)
+pub(crate) fn put(handle: &mut DiffuseGraph, owner: Box<Owner>)
     requires { handle.old.held.roads ≡ None }
-    ensures { handle.new.held.roads ≡ Some owner.value }
+    ensures roads { handle.new.held.roads ≡ Some owner.value.shared }
+    ensures stop { handle.new.held.stop ≡ owner.value.stop }
 {
     let DiffuseGraph { held, is_open: _ } = mem::replace(handle, opened(owner));
     discard(held);

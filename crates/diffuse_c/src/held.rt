@@ -2,25 +2,28 @@
 
 ghost use Rattle.std.specs.Prelude.{◌≡◌, Option, Some, None, true};
 ghost use Rattle.road_graph.specs.GraphData.{GraphData};
+ghost use Rattle.path_plain.specs.declared.halt.Stop.{Stop};
 ghost use Rattle.diffuse_c.specs.Holding.{has_graph};
 
 use crate::loose::Loose;
-use answer_lists::SharedGraph;
+use crate::owners::Owner;
 use std::alloc::Global;
 use std::marker::{Model, Send};
 use std::ptr::null_mut;
 
-/// Nothing, or an owner of a graph in a block of the heap. It cannot be dropped, so the owner is not lost.
+/// Nothing, or an owner in a block of the heap: of this graph, with this stop. It cannot be
+/// dropped, so the owner is not lost.
 #[repr(C)]
 pub struct Held {
     at: *mut u8,
     pub ghost roads: { Option GraphData },
+    pub ghost stop: { Option Stop },
 }
 
 impl Model for Held {
     ghost use Rattle.diffuse_c.specs.Holding.{held_at};
 
-    ghost also_owns = { λ h. held_at h.at h.roads };
+    ghost also_owns = { λ h. held_at h.at h.roads h.stop };
 }
 
 // What it owns may move to another thread, so it may too.
@@ -28,27 +31,27 @@ unsafe impl Send for Held {}
 
 /// Holds nothing.
 pub(crate) fn nothing() -> Held
-    ensures { result.roads ≡ None }
+    ensures { (result.roads ≡ None) × (result.stop ≡ None) }
 {
     Held { at: null_mut() }
 }
 
 /// Holds an owner of a graph.
-pub(crate) fn hold(owner: Loose<SharedGraph, Global>) -> Held
-    ensures { result.roads ≡ Some owner.value }
+pub(crate) fn hold(owner: Loose<Owner, Global>) -> Held
+    ensures { (result.roads ≡ Some owner.value.shared) × (result.stop ≡ owner.value.stop) }
 {
     let Loose { at, alloc: _ } = owner;
     Held { at: at as *mut u8 }
 }
 
 /// Gives the owner back.
-pub(crate) fn release(alloc: Global, held: Held) -> Loose<SharedGraph, Global>
+pub(crate) fn release(alloc: Global, held: Held) -> Loose<Owner, Global>
     requires { has_graph held.roads ≡ true }
-    ensures { held.roads ≡ Some result.value }
+    ensures { (held.roads ≡ Some result.value.shared) × (held.stop ≡ result.value.stop) }
 {
     let Held { at } = held;
     Loose {
-        at: at as *mut SharedGraph,
+        at: at as *mut Owner,
         alloc,
     }
 }

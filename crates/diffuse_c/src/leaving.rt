@@ -61,6 +61,7 @@ pub extern "C" fn diffuse_graph_arcs_from(
     count: &mut usize,
 ) -> i32
     ensures kept { handle.new.held.roads ≡ handle.old.held.roads }
+    ensures stop { handle.new.held.stop ≡ handle.old.held.stop }
     ensures count { OfGraph handle.old.held.roads (λ g. IsFound result →
         IsCountFrom g vertex count.new) }
     ensures arcs { OfGraph handle.old.held.roads (λ g. result ≡ pos 0 →
@@ -78,7 +79,7 @@ pub extern "C" fn diffuse_graph_arcs_from(
     let Some(owner) = take(alloc, handle) else {
         return CLOSED;
     };
-    let graph = owner.graph();
+    let graph = owner.shared.graph();
     let status = if graph.has(Vertex(vertex)) {
         answer(graph, Vertex(vertex), arcs, count)
     } else {

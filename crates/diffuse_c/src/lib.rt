@@ -1,4 +1,5 @@
-//! The engine for callers in C: a graph behind a handle, routes, trees, tables and what is near by six algebras, and whether a tree is right.
+//! The engine for callers in C: a graph behind a handle, routes, trees, tables and what is near by
+//! six algebras, and whether a tree is right.
 #![tactic(auto)]
 
 ghost use Rattle.std.specs.Prelude.{◌≡◌};
@@ -18,6 +19,7 @@ mod questions;
 mod reading;
 mod reweigh;
 mod status;
+mod stops;
 mod tables;
 
 pub use arcs::DiffuseArc;
@@ -32,6 +34,10 @@ pub use near::diffuse_graph_near;
 pub use questions::{diffuse_graph_check, diffuse_graph_route, diffuse_graph_tree};
 pub use reading::diffuse_graph_read;
 pub use reweigh::diffuse_graph_reweigh;
+pub use stops::{
+    DiffuseStop, diffuse_graph_stop_by, diffuse_stop_clear, diffuse_stop_free, diffuse_stop_new,
+    diffuse_stop_set,
+};
 pub use tables::diffuse_graph_table;
 
 /// The library's version: 10,000 times the first number, 100 times the second, and the third.

@@ -1,18 +1,20 @@
 //! The call that answers what is reached from the nearest of some sources.
 
-ghost use Rattle.std.specs.Prelude.{◌≡◌, ◌↔◌, ◌∷◌, [], pos, None};
+ghost use Rattle.std.specs.Prelude.{◌≡◌, ◌↔◌, ◌∷◌, [], pos, IsSome, None};
 ghost use Rattle.path_algebra.specs.Choices.{OfAlgebra};
 ghost use Rattle.answer_lists.specs.Answers.{IsFound, IsOneOf};
 ghost use Rattle.answer_lists.specs.Near.{AreLongOrNone, AreNearLists, IsReachedCount, IsSameAfter, ReportsNearRefusals};
 ghost use Rattle.diffuse_c.specs.Holding.{OfGraph};
 
 use crate::handle::{DiffuseGraph, put, take};
+use crate::owners::Owner;
 use crate::status::CLOSED;
 use answer_lists::answer_near;
 use std::alloc::Global;
 
-/// The vertices that are reached from the nearest of some sources, the best first, by the algebra of a number: how many there
-/// are, and of each the best value, as a code, the least hops and the least parent.
+/// The vertices that are reached from the nearest of some sources, the best first, by the algebra
+/// of a number: how many there are, and of each the best value, as a code, the least hops and the
+/// least parent.
 ///
 /// A list without places is not wanted. If a list is too short, the count is still written.
 #[unsafe(no_mangle)]
@@ -29,6 +31,7 @@ pub extern "C" fn diffuse_graph_near(
     count: &mut usize,
 ) -> i32
     ensures kept { handle.new.held.roads ≡ handle.old.held.roads }
+    ensures stop { handle.new.held.stop ≡ handle.old.held.stop }
     ensures count { OfGraph handle.old.held.roads (λ g. IsFound result → OfAlgebra algebra limit
         (λ V A. IsReachedCount A g sources.now count.new)) }
     ensures near { OfGraph handle.old.held.roads (λ g. result ≡ pos 0 → OfAlgebra algebra limit
@@ -47,13 +50,15 @@ pub extern "C" fn diffuse_graph_near(
     ensures refusals { OfGraph handle.old.held.roads
         (λ g. ReportsNearRefusals g algebra limit sources.now result) }
     ensures closed { (result ≡ pos 4) ↔ (handle.old.held.roads ≡ None) }
-    ensures status { IsOneOf (0 ∷ 2 ∷ 3 ∷ 4 ∷ 17 ∷ 43 ∷ []) result }
+    ensures stopped { result ≡ pos 45 → IsSome handle.old.held.stop }
+    ensures status { IsOneOf (0 ∷ 2 ∷ 3 ∷ 4 ∷ 17 ∷ 43 ∷ 45 ∷ []) result }
 {
     let Some(mut owner) = take(alloc, handle) else {
         return CLOSED;
     };
+    let Owner { shared, stop } = &mut *owner;
     let status = answer_near(
-        alloc, algebra, limit, &mut owner, sources, vertices, codes, hops, parents, count,
+        alloc, algebra, limit, shared, stop, sources, vertices, codes, hops, parents, count,
     );
     put(handle, owner);
     status

@@ -1,13 +1,13 @@
 //! A graph that is built from lent arcs.
 
-ghost use Rattle.std.specs.Prelude.{◌≡◌, IfOk, IfErr};
+ghost use Rattle.std.specs.Prelude.{◌≡◌, IfOk, IfErr, None};
 ghost use Rattle.diffuse_c.specs.Lent.{Fits, IsFault, lent};
 
 use crate::arcs::{DiffuseArc, roads_of};
 use crate::joining::join_vertices;
-use crate::owners::owned;
+use crate::owners::{Owner, owned};
 use crate::status::LIMIT;
-use answer_lists::{MEMORY, NO_VERTEX, SharedGraph};
+use answer_lists::{MEMORY, NO_VERTEX};
 use road_graph::{Memory, OutGraph};
 use std::alloc::{AllocError, Global};
 
@@ -33,12 +33,9 @@ pub(crate) fn graph_of(alloc: Global, vertices: u32, arcs: &[DiffuseArc]) -> Res
 }
 
 /// An owner of the graph of these arcs, or the status that says why there is none.
-pub(crate) fn owner_of(
-    alloc: Global,
-    vertices: u32,
-    arcs: &[DiffuseArc],
-) -> Result<Box<SharedGraph>, i32>
-    ensures graph { IfOk result (λ b. b.value ≡ lent vertices arcs.now) }
+pub(crate) fn owner_of(alloc: Global, vertices: u32, arcs: &[DiffuseArc]) -> Result<Box<Owner>, i32>
+    ensures graph { IfOk result (λ b. b.value.shared ≡ lent vertices arcs.now) }
+    ensures stop { IfOk result (λ b. b.value.stop ≡ None) }
     ensures fits { IfOk result (λ b. Fits vertices arcs.now) }
     ensures fault { IfErr result (λ n. IsFault vertices arcs.now n) }
 {

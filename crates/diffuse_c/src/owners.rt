@@ -1,25 +1,54 @@
-//! Owners of a graph: each open handle has one, and the graph is freed with the last.
+//! What open handles own: a part of a graph, which is freed with its last owner, and a stop.
 
-ghost use Rattle.std.specs.Prelude.{◌≡◌, IfOk};
+ghost use Rattle.std.specs.Prelude.{◌≡◌, ◌↔◌, IfOk, IsSome, None};
 
-use answer_lists::SharedGraph;
+use answer_lists::{SharedGraph, Stop};
 use road_graph::{Memory, OutGraph};
 use std::alloc::{AllocError, Global};
 
-/// The first owner of a graph.
-pub(crate) fn owned(alloc: Global, graph: OutGraph) -> Result<Box<SharedGraph>, AllocError>
-    ensures { IfOk result (λ b. b.value ≡ graph) }
+/// What a handle owns: its part of a graph, and the stop that its calls look at, if it has one.
+#[derive(Drop)]
+pub(crate) struct Owner {
+    pub(crate) shared: SharedGraph,
+    pub(crate) stop: Option<Stop>,
+}
+
+/// An owner in a block of the heap. It has no stop.
+pub(crate) fn boxed(alloc: Global, shared: SharedGraph) -> Result<Box<Owner>, AllocError>
+    ensures graph { IfOk result (λ b. b.value.shared ≡ shared) }
+    ensures stop { IfOk result (λ b. b.value.stop ≡ None) }
 {
-    let owner = SharedGraph::of(alloc, graph)?;
+    let owner = Owner { shared, stop: None };
     Ok(Box::new(alloc, owner).map_err(AllocError::from)?)
 }
 
-/// One more owner of the same graph. The rows by head are made first, so that both have one copy of them.
-pub(crate) fn try_clone(alloc: Global, owner: &mut SharedGraph) -> Result<Box<SharedGraph>, Memory>
-    ensures kept { owner.new ≡ owner.old }
-    ensures same { IfOk result (λ b. b.value ≡ owner.old) }
+/// The first owner of a graph.
+pub(crate) fn owned(alloc: Global, graph: OutGraph) -> Result<Box<Owner>, AllocError>
+    ensures graph { IfOk result (λ b. b.value.shared ≡ graph) }
+    ensures stop { IfOk result (λ b. b.value.stop ≡ None) }
 {
-    let _rows = owner.rows(alloc)?;
-    let second = owner.try_clone()?;
-    Ok(Box::new(alloc, second).map_err(AllocError::from)?)
+    let shared = SharedGraph::of(alloc, graph)?;
+    boxed(alloc, shared)
+}
+
+/// One more owner of the same graph. The rows by head are made first, so that both have one copy of
+/// them.
+pub(crate) fn try_clone(alloc: Global, shared: &mut SharedGraph) -> Result<Box<Owner>, Memory>
+    ensures kept { shared.new ≡ shared.old }
+    ensures same { IfOk result (λ b. b.value.shared ≡ shared.old) }
+    ensures stop { IfOk result (λ b. b.value.stop ≡ None) }
+{
+    let _rows = shared.rows(alloc)?;
+    let second = shared.try_clone()?;
+    Ok(boxed(alloc, second)?)
+}
+
+/// One more owner of the same stop, if there is one.
+pub(crate) fn stop_again(stop: &Option<Stop>) -> Result<Option<Stop>, AllocError>
+    ensures { IfOk result (λ again. IsSome again ↔ IsSome stop.now) }
+{
+    match stop {
+        Some(stop) => Ok(Some(stop.try_clone()?)),
+        None => Ok(None),
+    }
 }

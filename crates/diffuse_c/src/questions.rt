@@ -1,19 +1,20 @@
 //! The calls that answer questions: a route, a tree, and whether a tree is right.
 
-ghost use Rattle.std.specs.Prelude.{◌≡◌, ◌↔◌, ◌<◌, ◌≤◌, ◌+◌, ◌∷◌, [], drop, length, pos, None};
+ghost use Rattle.std.specs.Prelude.{◌≡◌, ◌↔◌, ◌<◌, ◌≤◌, ◌+◌, ◌∷◌, [], drop, length, pos, IsSome, None};
 ghost use Rattle.path_algebra.specs.Choices.{IsAlgebra, OfAlgebra};
 ghost use Rattle.answer_lists.specs.Answers.{IsAnswered, IsFound, ReportsRoute, IsOneOf, HasBoth};
 ghost use Rattle.answer_lists.specs.Tree.{AreTreeLists, AreWantedLists, IsFirstRefuted, ReportsRefusals, ReportsTreeRefusals};
 ghost use Rattle.diffuse_c.specs.Holding.{OfGraph};
 
 use crate::handle::{DiffuseGraph, put, take};
+use crate::owners::Owner;
 use crate::status::CLOSED;
 use answer_lists::{answer_route, answer_tree, check_tree};
 use road_graph::Vertex;
 use std::alloc::Global;
 
-/// The best value from a source to a target, as a code, the least hops, and the route by least parents, by the algebra
-/// of a number.
+/// The best value from a source to a target, as a code, the least hops, and the route by least
+/// parents, by the algebra of a number.
 ///
 /// If the room is too short, code and hops are still written: hops + 1 places are needed.
 #[unsafe(no_mangle)]
@@ -29,6 +30,7 @@ pub extern "C" fn diffuse_graph_route(
     room: &mut [u32],
 ) -> i32
     ensures kept { handle.new.held.roads ≡ handle.old.held.roads }
+    ensures stop { handle.new.held.stop ≡ handle.old.held.stop }
     ensures tells { OfGraph handle.old.held.roads (λ g. IsAnswered result → OfAlgebra algebra limit
         (λ V A. ReportsRoute A g source target result code.new hops.new room.new)) }
     ensures short { result ≡ pos 2 → length room.old < hops.new + 1 }
@@ -41,22 +43,24 @@ pub extern "C" fn diffuse_graph_route(
     ensures algebra { OfGraph handle.old.held.roads
         (λ g. (result ≡ pos 43) ↔ (HasBoth g source target × (IsAlgebra algebra limit → ⊥))) }
     ensures closed { (result ≡ pos 4) ↔ (handle.old.held.roads ≡ None) }
-    ensures status { IsOneOf (0 ∷ 1 ∷ 2 ∷ 3 ∷ 4 ∷ 17 ∷ 43 ∷ []) result }
+    ensures stopped { result ≡ pos 45 → IsSome handle.old.held.stop }
+    ensures status { IsOneOf (0 ∷ 1 ∷ 2 ∷ 3 ∷ 4 ∷ 17 ∷ 43 ∷ 45 ∷ []) result }
 {
     let Some(mut owner) = take(alloc, handle) else {
         return CLOSED;
     };
     let (s, t) = (Vertex(source), Vertex(target));
-    let status = answer_route(alloc, algebra, limit, &mut owner, s, t, code, hops, room);
+    let Owner { shared, stop } = &mut *owner;
+    let status = answer_route(alloc, algebra, limit, shared, stop, s, t, code, hops, room);
     put(handle, owner);
     status
 }
 
-/// For each vertex the best value from the nearest of some sources, as a code, its least hops and its least parent, by
-/// the algebra of a number.
+/// For each vertex the best value from the nearest of some sources, as a code, its least hops and
+/// its least parent, by the algebra of a number.
 ///
-/// A vertex that no walk with a value leads to has the code 2^64 - 1; it and each source have parent 0. A list without
-/// places is not wanted.
+/// A vertex that no walk with a value leads to has the code 2^64 - 1; it and each source have
+/// parent 0. A list without places is not wanted.
 #[unsafe(no_mangle)]
 pub extern "C" fn diffuse_graph_tree(
     alloc: Global,
@@ -69,6 +73,7 @@ pub extern "C" fn diffuse_graph_tree(
     parents: &mut [u32],
 ) -> i32
     ensures kept { handle.new.held.roads ≡ handle.old.held.roads }
+    ensures stop { handle.new.held.stop ≡ handle.old.held.stop }
     ensures tree { OfGraph handle.old.held.roads (λ g. result ≡ pos 0 → OfAlgebra algebra limit
         (λ V A. AreWantedLists A g sources.now codes.new hops.new parents.new)) }
     ensures lists { (result ≡ pos 0 → ⊥) → (codes.new ≡ codes.old) × (hops.new ≡ hops.old) ×
@@ -76,13 +81,15 @@ pub extern "C" fn diffuse_graph_tree(
     ensures refusals { OfGraph handle.old.held.roads (λ g. ReportsTreeRefusals g algebra limit
         sources.now codes.old hops.old parents.old result) }
     ensures closed { (result ≡ pos 4) ↔ (handle.old.held.roads ≡ None) }
-    ensures status { IsOneOf (0 ∷ 2 ∷ 3 ∷ 4 ∷ 17 ∷ 43 ∷ []) result }
+    ensures stopped { result ≡ pos 45 → IsSome handle.old.held.stop }
+    ensures status { IsOneOf (0 ∷ 2 ∷ 3 ∷ 4 ∷ 17 ∷ 43 ∷ 45 ∷ []) result }
 {
     let Some(mut owner) = take(alloc, handle) else {
         return CLOSED;
     };
+    let Owner { shared, stop } = &mut *owner;
     let status = answer_tree(
-        alloc, algebra, limit, &mut owner, sources, codes, hops, parents,
+        alloc, algebra, limit, shared, stop, sources, codes, hops, parents,
     );
     put(handle, owner);
     status
@@ -90,7 +97,8 @@ pub extern "C" fn diffuse_graph_tree(
 
 /// Whether these lists are what `diffuse_graph_tree` writes, without solving.
 ///
-/// If they are not, the first vertex whose line its neighbours refute is reported, with the number of the first reason.
+/// If they are not, the first vertex whose line its neighbours refute is reported, with the number
+/// of the first reason.
 #[unsafe(no_mangle)]
 pub extern "C" fn diffuse_graph_check(
     alloc: Global,
@@ -105,6 +113,7 @@ pub extern "C" fn diffuse_graph_check(
     reason: &mut u32,
 ) -> i32
     ensures kept { handle.new.held.roads ≡ handle.old.held.roads }
+    ensures stop { handle.new.held.stop ≡ handle.old.held.stop }
     ensures right { OfGraph handle.old.held.roads (λ g. result ≡ pos 0 → OfAlgebra algebra limit
         (λ V A. AreTreeLists A g sources.now codes.now hops.now parents.now)) }
     ensures wrong { OfGraph handle.old.held.roads (λ g. result ≡ pos 6 → OfAlgebra algebra limit
@@ -120,7 +129,16 @@ pub extern "C" fn diffuse_graph_check(
         return CLOSED;
     };
     let status = check_tree(
-        alloc, algebra, limit, &mut owner, sources, codes, hops, parents, vertex, reason,
+        alloc,
+        algebra,
+        limit,
+        &mut owner.shared,
+        sources,
+        codes,
+        hops,
+        parents,
+        vertex,
+        reason,
     );
     put(handle, owner);
     status

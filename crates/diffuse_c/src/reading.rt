@@ -8,9 +8,9 @@ ghost use Rattle.diffuse_c.specs.Holding.{has_graph};
 ghost use Rattle.diffuse_c.specs.Texts.{IsGraphOf, IsReadFaultOf, IsFaultReported, IsShortOfMemory, IsTooLongText, RunsOutWithin};
 
 use crate::handle::{DiffuseGraph, put};
-use crate::owners::owned;
+use crate::owners::{Owner, owned};
 use crate::status::OPEN;
-use answer_lists::{DONE, MEMORY, NO_ROOM, SharedGraph};
+use answer_lists::{DONE, MEMORY, NO_ROOM};
 use ghost_count::Count;
 use graph_text::read_gr_as;
 use road_graph::OutGraph;
@@ -62,10 +62,11 @@ fn read_graph(alloc: Global, bytes: &[u8]) -> Result<OutGraph, ReadFault>
 }
 
 /// An owner of the graph of a text, or why there is none.
-fn owner_read(alloc: Global, bytes: &[u8]) -> Result<Box<SharedGraph>, ReadFault>
+fn owner_read(alloc: Global, bytes: &[u8]) -> Result<Box<Owner>, ReadFault>
     requires { length bytes.now ≤ 4294967296 }
-    ensures graph { IfOk result (λ b. text_read gr_rules bytes.now ≡ Ok b.value) }
+    ensures graph { IfOk result (λ b. text_read gr_rules bytes.now ≡ Ok b.value.shared) }
     ensures fault { IfErr result (λ f. IsReadFaultOf bytes.now f) }
+    ensures stop { IfOk result (λ b. b.value.stop ≡ None) }
     ensures memory { IfErr result (λ f. f.number ≡ 3 → IsShortOfMemory bytes.now) }
 {
     let graph = read_graph(alloc, bytes)?;
@@ -92,8 +93,9 @@ fn report_fault(fault: ReadFault, line: &mut u64) -> i32
 
 /// Opens a closed handle with the graph of a .gr text, which may be changed or freed afterwards.
 ///
-/// If the text has a fault, the status is the number of the first one, and its line is written, counted from 1. A text of
-/// more than 2^32 bytes is refused by its length alone, and the line is then 0.
+/// If the text has a fault, the status is the number of the first one, and its line is written,
+/// counted from 1. A text of more than 2^32 bytes is refused by its length alone, and the line is
+/// then 0.
 #[unsafe(no_mangle)]
 pub extern "C" fn diffuse_graph_read(
     alloc: Global,
@@ -103,6 +105,7 @@ pub extern "C" fn diffuse_graph_read(
 ) -> i32
     ensures graph { result ≡ pos 0 → IsGraphOf bytes.now handle.new.held.roads }
     ensures kept { result ≢ pos 0 → handle.new.held.roads ≡ handle.old.held.roads }
+    ensures stop { handle.new.held.stop ≡ handle.old.held.stop }
     ensures status { IsOneOf (0 ∷ 2 ∷ 3 ∷ 5 ∷ []) result ⊎ IsFaultReported bytes.now result
         line.new }
     ensures memory { result ≡ pos 3 → IsShortOfMemory bytes.now }

@@ -12,18 +12,20 @@ ghost use Rattle.diffuse_c.specs.Reweighing.{IsReweighFault};
 use crate::arcs::DiffuseArc;
 use crate::handle::{DiffuseGraph, put, take};
 use crate::opening::graph_of;
+use crate::owners::{Owner, boxed};
 use crate::status::{CLOSED, OPEN};
 use answer_lists::{DONE, MEMORY, SharedGraph, reweigh_graph};
 use std::alloc::{AllocError, Global};
 
-/// An owner of the graph of these arcs on the same vertices, factored over the links of the first; or the status that says
-/// why there is none.
+/// An owner of the graph of these arcs on the same vertices, factored over the links of the first;
+/// or the status that says why there is none.
 fn owner_reweighed(
     alloc: Global,
     first: &SharedGraph,
     arcs: &[DiffuseArc],
-) -> Result<Box<SharedGraph>, i32>
-    ensures graph { IfOk result (λ b. b.value ≡ lent first.now.vertices arcs.now) }
+) -> Result<Box<Owner>, i32>
+    ensures graph { IfOk result (λ b. b.value.shared ≡ lent first.now.vertices arcs.now) }
+    ensures stop { IfOk result (λ b. b.value.stop ≡ None) }
     ensures fits { IfOk result (λ b. Fits first.now.vertices arcs.now) }
     ensures fault { IfErr result (IsReweighFault first.now arcs.now) }
 {
@@ -32,14 +34,14 @@ fn owner_reweighed(
         Ok(second) => second,
         Err(status) => return Err(status),
     };
-    match Box::new(alloc, second).map_err(AllocError::from) {
+    match boxed(alloc, second) {
         Ok(owner) => Ok(owner),
         Err(AllocError) => Err(MEMORY),
     }
 }
 
-/// Opens a second, closed handle with the graph of these arcs on the same vertices, factored as the first is, over the links
-/// that it has. The arcs may be changed or freed afterwards.
+/// Opens a second, closed handle with the graph of these arcs on the same vertices, factored as the
+/// first is, over the links that it has. The arcs may be changed or freed afterwards.
 #[unsafe(no_mangle)]
 pub extern "C" fn diffuse_graph_reweigh(
     alloc: Global,
@@ -48,9 +50,12 @@ pub extern "C" fn diffuse_graph_reweigh(
     second: &mut DiffuseGraph,
 ) -> i32
     ensures kept { handle.new.held.roads ≡ handle.old.held.roads }
+    ensures stop { handle.new.held.stop ≡ handle.old.held.stop }
     ensures graph { OfGraph handle.old.held.roads (λ g. result ≡ pos 0 →
         second.new.held.roads ≡ Some (lent g.vertices arcs.now)) }
     ensures unchanged { result ≢ pos 0 → second.new.held.roads ≡ second.old.held.roads }
+    ensures unstopped { result ≡ pos 0 → second.new.held.stop ≡ None }
+    ensures stop_kept { result ≢ pos 0 → second.new.held.stop ≡ second.old.held.stop }
     ensures status { IsOneOf (0 ∷ 3 ∷ 4 ∷ 5 ∷ 8 ∷ 16 ∷ 17 ∷ 44 ∷ []) result }
     ensures open { (result ≡ pos 5) ↔ (has_graph second.old.held.roads ≡ true) }
     ensures closed { (result ≡ pos 4) ↔ ((second.old.held.roads ≡ None) ×
@@ -72,7 +77,7 @@ pub extern "C" fn diffuse_graph_reweigh(
     let Some(owner) = take(alloc, handle) else {
         return CLOSED;
     };
-    let reweighed = owner_reweighed(alloc, &owner, arcs);
+    let reweighed = owner_reweighed(alloc, &owner.shared, arcs);
     put(handle, owner);
     match reweighed {
         Ok(other) => {

@@ -1,18 +1,19 @@
 //! The call that answers with a table of codes.
 
-ghost use Rattle.std.specs.Prelude.{◌≡◌, ◌↔◌, ◌∷◌, [], pos, None};
+ghost use Rattle.std.specs.Prelude.{◌≡◌, ◌↔◌, ◌∷◌, [], pos, IsSome, None};
 ghost use Rattle.path_algebra.specs.Choices.{OfAlgebra};
 ghost use Rattle.answer_lists.specs.Answers.{IsOneOf};
 ghost use Rattle.answer_lists.specs.Table.{AreTableCodes, ReportsTableRefusals};
 ghost use Rattle.diffuse_c.specs.Holding.{OfGraph};
 
 use crate::handle::{DiffuseGraph, put, take};
+use crate::owners::Owner;
 use crate::status::CLOSED;
 use answer_lists::answer_table;
 use std::alloc::Global;
 
-/// The best value from each of some sources to each of some targets, as a code, by the algebra of a number: a row for each
-/// source, with a code for each target.
+/// The best value from each of some sources to each of some targets, as a code, by the algebra of a
+/// number: a row for each source, with a code for each target.
 ///
 /// A target that no walk with a value leads to has the code 2^64 - 1.
 #[unsafe(no_mangle)]
@@ -26,18 +27,21 @@ pub extern "C" fn diffuse_graph_table(
     codes: &mut [u64],
 ) -> i32
     ensures kept { handle.new.held.roads ≡ handle.old.held.roads }
+    ensures stop { handle.new.held.stop ≡ handle.old.held.stop }
     ensures table { OfGraph handle.old.held.roads (λ g. result ≡ pos 0 → OfAlgebra algebra limit
         (λ V A. AreTableCodes A g sources.now targets.now codes.new)) }
     ensures places { (result ≡ pos 0 → ⊥) → codes.new ≡ codes.old }
     ensures refusals { OfGraph handle.old.held.roads (λ g. ReportsTableRefusals g algebra limit
         sources.now targets.now codes.old result) }
     ensures closed { (result ≡ pos 4) ↔ (handle.old.held.roads ≡ None) }
-    ensures status { IsOneOf (0 ∷ 2 ∷ 3 ∷ 4 ∷ 17 ∷ 43 ∷ []) result }
+    ensures stopped { result ≡ pos 45 → IsSome handle.old.held.stop }
+    ensures status { IsOneOf (0 ∷ 2 ∷ 3 ∷ 4 ∷ 17 ∷ 43 ∷ 45 ∷ []) result }
 {
     let Some(mut owner) = take(alloc, handle) else {
         return CLOSED;
     };
-    let status = answer_table(alloc, algebra, limit, &mut owner, sources, targets, codes);
+    let Owner { shared, stop } = &mut *owner;
+    let status = answer_table(alloc, algebra, limit, shared, stop, sources, targets, codes);
     put(handle, owner);
     status
 }

@@ -2,10 +2,12 @@
 use crate::handle::closed;
 use crate::held::discard;
 use crate::{
-    DiffuseArc, DiffuseGraph, diffuse_graph_arcs, diffuse_graph_arcs_from, diffuse_graph_check,
-    diffuse_graph_close, diffuse_graph_factor, diffuse_graph_near, diffuse_graph_open,
-    diffuse_graph_read, diffuse_graph_reweigh, diffuse_graph_route, diffuse_graph_share,
-    diffuse_graph_table, diffuse_graph_tree, diffuse_graph_vertices, diffuse_version,
+    DiffuseArc, DiffuseGraph, DiffuseStop, diffuse_graph_arcs, diffuse_graph_arcs_from,
+    diffuse_graph_check, diffuse_graph_close, diffuse_graph_factor, diffuse_graph_near,
+    diffuse_graph_open, diffuse_graph_read, diffuse_graph_reweigh, diffuse_graph_route,
+    diffuse_graph_share, diffuse_graph_stop_by, diffuse_graph_table, diffuse_graph_tree,
+    diffuse_graph_vertices, diffuse_stop_clear, diffuse_stop_free, diffuse_stop_new,
+    diffuse_stop_set, diffuse_version,
 };
 use std::alloc::Global;
 use std::marker::Send;
@@ -59,7 +61,8 @@ fn close(alloc: Global, mut handle: DiffuseGraph) {
     discard(held);
 }
 
-/// A route from 1 to 4 by the algebra of a number has this status, and these are its code, its hops and the room.
+/// A route from 1 to 4 by the algebra of a number has this status, and these are its code, its hops
+/// and the room.
 fn assert_route(
     rt: &impl Abort,
     alloc: Global,
@@ -77,7 +80,8 @@ fn assert_route(
     assert_eq!(rt; room, route);
 }
 
-/// The routes of the five vertices by each of the six algebras; a number or a limit that names none is refused.
+/// The routes of the five vertices by each of the six algebras; a number or a limit that names none
+/// is refused.
 fn assert_routes(rt: &impl Abort, alloc: Global, handle: &mut DiffuseGraph) {
     for &(number, limit, wanted, route) in &[
         (0, 100, (0, 8, 3), [1, 3, 2, 4]),
@@ -109,7 +113,8 @@ fn assert_pair(
     assert_eq!(rt; (status, code, hops), wanted);
 }
 
-/// Pairs of one source in a row, by another algebra, within another limit and from another source, there and back.
+/// Pairs of one source in a row, by another algebra, within another limit and from another source,
+/// there and back.
 fn assert_pairs(rt: &impl Abort, alloc: Global, handle: &mut DiffuseGraph) {
     let pairs = [
         ((0, 0, 1, 3), (0, 1, 1)),
@@ -162,7 +167,8 @@ fn assert_parts_of_a_tree(rt: &impl Abort, alloc: Global, handle: &mut DiffuseGr
     assert_eq!(rt; status, 0);
 }
 
-/// What is reached from 1 within a limit: a status, a count, and the vertices and codes in lists of four places, which were 7.
+/// What is reached from 1 within a limit: a status, a count, and the vertices and codes in lists of
+/// four places, which were 7.
 fn assert_near(
     rt: &impl Abort,
     alloc: Global,
@@ -198,7 +204,8 @@ fn assert_nears(rt: &impl Abort, alloc: Global, handle: &mut DiffuseGraph) {
     assert_near(rt, alloc, handle, (1 << 63) + 1, (43, 7), ([7; 4], [7; 4]));
 }
 
-/// Lists of one place are too short for what is reached by the shortest walks; it is counted, with lists or with none.
+/// Lists of one place are too short for what is reached by the shortest walks; it is counted, with
+/// lists or with none.
 fn assert_counts(rt: &impl Abort, alloc: Global, handle: &mut DiffuseGraph) {
     let (mut vertices, mut count) = ([7], 7);
     let status = diffuse_graph_near(
@@ -237,6 +244,43 @@ fn assert_table(rt: &impl Abort, alloc: Global, handle: &mut DiffuseGraph) {
     assert_eq!(rt; codes, [8, 0, u64::MAX, 11, 3, 0]);
 }
 
+/// A table from 1 to 4 has this status, and its place, which was 7, this code.
+fn assert_code(rt: &impl Abort, alloc: Global, handle: &mut DiffuseGraph, wanted: (i32, u64)) {
+    let mut codes = [7];
+    let status = diffuse_graph_table(alloc, handle, 0, 0, &[1], &[4], &mut codes);
+    assert_eq!(rt; (status, codes[0]), wanted);
+}
+
+/// Stops that are closed are taken apart, since they can't be dropped.
+fn close_both(alloc: Global, stop: DiffuseStop, none: DiffuseStop) {
+    let DiffuseStop { handle } = stop;
+    close(alloc, handle);
+    let DiffuseStop { handle } = none;
+    close(alloc, handle);
+}
+
+/// A stop that is set ends a table before its first target, until it is cleared or taken away.
+fn assert_stops(rt: &impl Abort, alloc: Global, handle: &mut DiffuseGraph) {
+    let (mut stop, mut none) = (
+        DiffuseStop { handle: closed() },
+        DiffuseStop { handle: closed() },
+    );
+    assert_eq!(rt; diffuse_stop_set(alloc, &mut stop), 4);
+    assert_eq!(rt; diffuse_stop_new(alloc, &mut stop), 0);
+    assert_eq!(rt; diffuse_stop_new(alloc, &mut stop), 5);
+    assert_eq!(rt; diffuse_graph_stop_by(alloc, handle, &mut stop), 0);
+    assert_code(rt, alloc, handle, (0, 8));
+    assert_eq!(rt; diffuse_stop_set(alloc, &mut stop), 0);
+    assert_code(rt, alloc, handle, (45, 7));
+    assert_eq!(rt; diffuse_stop_clear(alloc, &mut stop), 0);
+    assert_code(rt, alloc, handle, (0, 8));
+    assert_eq!(rt; diffuse_stop_set(alloc, &mut stop), 0);
+    assert_eq!(rt; diffuse_graph_stop_by(alloc, handle, &mut none), 0);
+    assert_code(rt, alloc, handle, (0, 8));
+    diffuse_stop_free(alloc, &mut stop);
+    close_both(alloc, stop, none);
+}
+
 /// Factored for the algebras that have factors, the graph is asked the same again.
 fn assert_factored(rt: &impl Abort, alloc: Global, handle: &mut DiffuseGraph) {
     for &(number, wanted) in &[(0, 0), (1, 9), (2, 9), (3, 0), (4, 9), (5, 0), (6, 43)] {
@@ -247,7 +291,8 @@ fn assert_factored(rt: &impl Abort, alloc: Global, handle: &mut DiffuseGraph) {
     assert_table(rt, alloc, handle);
 }
 
-/// Over the links of a factored handle another is opened, in which 1 to 4 is 6 long; an arc from 4 to 5 has no link.
+/// Over the links of a factored handle another is opened, in which 1 to 4 is 6 long; an arc from 4
+/// to 5 has no link.
 fn assert_reweighed(rt: &impl Abort, alloc: Global, handle: &mut DiffuseGraph) {
     let mut other = closed();
     let status = diffuse_graph_reweigh(alloc, handle, &[arc(4, 5, 1)], &mut other);
@@ -262,7 +307,8 @@ fn assert_reweighed(rt: &impl Abort, alloc: Global, handle: &mut DiffuseGraph) {
     close(alloc, other);
 }
 
-/// A check of lists from vertex 1 by the shortest walks has this status, and reports this vertex and reason.
+/// A check of lists from vertex 1 by the shortest walks has this status, and reports this vertex
+/// and reason.
 fn assert_check(
     rt: &impl Abort,
     alloc: Global,
@@ -352,6 +398,7 @@ fn a_handle_is_opened_shared_asked_and_closed(rt: HostRuntime) {
     assert_counts(&rt, alloc, &mut second);
     assert_checks(&rt, alloc, &mut second);
     assert_table(&rt, alloc, &mut second);
+    assert_stops(&rt, alloc, &mut second);
     assert_factored(&rt, alloc, &mut second);
     assert_reweighed(&rt, alloc, &mut second);
     close(alloc, second);

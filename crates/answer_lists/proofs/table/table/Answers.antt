@@ -10,10 +10,10 @@ pub loop-source-preserved : goal.loop-source-preserved
 loop-source-preserved g c =
     let a = c.args in let A = g.A.PathAlgebra.meaning a.algebra in let i = c.loop-source.source-index in
     let lt : i < length a.sources.now = search rules in
-    let joined : c.extend_from_slice.new.self.items ≡ c.loop-source.codes.items ++ c.in_ok-row.row.items =
+    let joined : c.extend_from_slice.new.self.items ≡ c.loop-source.codes.items ++ c.in-Some.row.items =
     c.in_ok-extend_from_slice.ensures.items ∙ ap (λ (xs : List ℕ). c.loop-source.codes.items ++ xs) c.deref.ensures.value in
-    let more = table_more A c.loop-source.shared a.targets.now a.sources.now c.loop-source.codes.items c.in_ok-row.row.items i (get_or a.sources.now i 0) lt refl
-    c.loop-source.invariant.table c.in_ok-row.ensures.row in
+    let more = table_more A c.loop-source.shared a.targets.now a.sources.now c.loop-source.codes.items c.in-Some.row.items i (get_or a.sources.now i 0) lt refl
+    c.loop-source.invariant.table (rw c.in-Some.is at c.in_ok-row.ensures.row) in
     record {
       same = c.row.ensures.graph ∙ c.loop-source.invariant.same;
       kept = subst (λ (x : GraphData). IfSome c.row.new.kept (IsSearcherOf a.algebra x)) (sym c.row.ensures.graph) c.in_ok-row.ensures.kept;

@@ -12,7 +12,10 @@ use Rattle.std.proofs.Crossing.{crosses, frees}
 use Rattle.road_graph.specs.GraphData.{GraphData}
 use Rattle.answer_lists.specs.contracts.kept_searcher.KeptSearcher as kept
 use Rattle.answer_lists.specs.contracts.kept_tree.KeptTree as kept_tree
-use Rattle.diffuse_c.specs.Holding.{held_at, shared_row, the_heap}
+use Rattle.path_plain.specs.declared.halt.Stop.{Stop}
+use Rattle.path_plain.specs.contracts.halt.Stop as stop
+use Rattle.answer_lists.specs.contracts.shared_graph.SharedGraph as shared
+use Rattle.diffuse_c.specs.Holding.{held_at, owner_of, owner_row, the_heap}
 use Rattle.diffuse_c.specs.contracts.held.Held.{the_row, the_type}
 
 lies : (R : RattleType) → IsSend R → (p : Ptr) (x : R.Denot) → Keyless (lies_at R full_share p x)
@@ -25,12 +28,18 @@ searching = search (sendable, crosses) depth 60 fits 100000
 growing : IsSend kept_tree.the_row
 growing = search (sendable, crosses) depth 60 fits 100000
 
-inside : IsSend shared_row
-inside = search (sendable, crosses, searching, growing) depth 60 fits 100000
+sharing : IsSend shared.the_row
+sharing = search (sendable, crosses, searching, growing) depth 60 fits 100000
 
-keyless : (p : Ptr) (x : Option (GraphData)) → Keyless (held_at p x)
-keyless p None = tt
-keyless p (Some g) = (lies shared_row inside p g, frees.frees the_heap (raw (lone shared_row.mir)) p)
+stopping : IsSend stop.the_row
+stopping = search (sendable, crosses) depth 60 fits 100000
+
+inside : IsSend owner_row
+inside = search (sendable, crosses, sharing, stopping) depth 60 fits 100000
+
+keyless : (p : Ptr) (x : Option GraphData) (y : Option Stop) → Keyless (held_at p x y)
+keyless p None y = tt
+keyless p (Some g) y = (lies owner_row inside p (owner_of g y), frees.frees the_heap (raw (lone owner_row.mir)) p)
 
 pub send : IsSend the_row
-send = let ps : IsSend RawPtr = search sendable in owning_send the_type (ps, tt) (λ d. keyless d.at d.roads) (λ k x w. tt)
+send = let ps : IsSend RawPtr = search sendable in owning_send the_type (ps, tt) (λ d. keyless d.at d.roads d.stop) (λ k x w. tt)

@@ -3,7 +3,7 @@ use Rattle.path_algebra.specs.Walks.{label_of}
 use Rattle.route_tree.specs.Tree.{hops_of, parent_of}
 use Rattle.answer_lists.specs.Tree.{code_for, number_for}
 use Rattle.answer_lists.proofs.Telling.{told_at}
-use Rattle.answer_lists.proofs.tree.numbers_of.Goals as goal
+use Rattle.answer_lists.proofs.tree_lists.numbers_of.Goals as goal
 
 pub returns : goal.returns
 returns g c =

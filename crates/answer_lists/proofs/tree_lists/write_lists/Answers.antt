@@ -1,6 +1,6 @@
 use Rattle.std.proofs.Common.{arith}
 use Rattle.answer_lists.proofs.Filling.{none_written, next_written, all_written}
-use Rattle.answer_lists.proofs.tree.write_lists.Goals as goal
+use Rattle.answer_lists.proofs.tree_lists.write_lists.Goals as goal
 
 pub loop-i-init : goal.loop-i-init
 loop-i-init g c = none_written (g.A.PathAlgebra.meaning c.args.algebra) c.args.graph.now c.args.sources.now c.args.codes.now c.args.hops.now c.args.parents.now c.requires.places

@@ -1,0 +1,124 @@
+//! Three lists of the caller, to which a tree is written.
+
+ghost use Rattle.std.specs.Prelude.{◌≡◌, set};
+ghost use Rattle.road_graph.specs.GraphData.{HasVertex};
+ghost use Rattle.path_algebra.specs.Walks.{AreBest};
+ghost use Rattle.route_tree.specs.Tree.{IsTree};
+ghost use Rattle.answer_text.specs.IsAnswer.{IsVertexLine};
+ghost use Rattle.answer_lists.specs.KeptTree.{code_in, graph_in, tree_in};
+ghost use Rattle.answer_lists.specs.Near.{HaveLines};
+ghost use Rattle.answer_lists.specs.Tree.{AreWantedLists, HaveAllOrNone, HasLowCodes, line_of, number_for};
+
+use crate::codes::code_for;
+use crate::kept_tree::KeptTree;
+use path_algebra::{Labels, PathAlgebra, laws_hold};
+use road_graph::{OutGraph, Vertex};
+use route_tree::{Tree, labels_and_trees_agree};
+
+pub(crate) fn hops_for(hops: Option<u32>) -> u32
+    ensures { result ≡ number_for hops }
+{
+    match hops {
+        Some(hops) => hops,
+        None => 0,
+    }
+}
+
+pub(crate) fn parent_for(parent: Option<Vertex>) -> u32
+    ensures { result ≡ number_for parent }
+{
+    match parent {
+        Some(parent) => parent.0,
+        None => 0,
+    }
+}
+
+/// The three numbers of a vertex.
+fn numbers_of<A: PathAlgebra>(
+    algebra: A,
+    graph: &OutGraph,
+    sources: &[Vertex],
+    labels: &Labels<A::Value>,
+    tree: &Tree,
+    v: Vertex,
+) -> (u64, u32, u32)
+    requires low { HasLowCodes (A.meaning algebra) }
+    requires vertex { HasVertex graph.now v }
+    requires best { AreBest (A.meaning algebra) graph.now sources.now labels.now }
+    requires tree { IsTree (A.meaning algebra) graph.now sources.now tree.now }
+    ensures { IsVertexLine (A.meaning algebra) graph.now sources.now v
+        (line_of result.0 result.1 result.2) }
+{
+    graph.holds();
+    laws_hold(algebra);
+    labels_and_trees_agree(algebra);
+    (
+        code_for(algebra, labels.of(v)),
+        hops_for(tree.hops(v)),
+        parent_for(tree.parent(v)),
+    )
+}
+
+/// Writes to a place of a list, if the list has it.
+fn put<T: Copy>(list: &mut [T], i: usize, x: T)
+    ensures { list.new ≡ set list.old i x }
+{
+    if i < list.len() {
+        list[i] = x;
+    }
+}
+
+/// Writes a tree to three lists, of which those without places are not wanted.
+pub(crate) fn write_lists<A: PathAlgebra>(
+    algebra: A,
+    graph: &OutGraph,
+    sources: &[Vertex],
+    labels: &Labels<A::Value>,
+    tree: &Tree,
+    codes: &mut [u64],
+    hops: &mut [u32],
+    parents: &mut [u32],
+)
+    requires low { HasLowCodes (A.meaning algebra) }
+    requires places { HaveAllOrNone graph.now.vertices codes.old hops.old parents.old }
+    requires best { AreBest (A.meaning algebra) graph.now sources.now labels.now }
+    requires tree { IsTree (A.meaning algebra) graph.now sources.now tree.now }
+    ensures { AreWantedLists (A.meaning algebra) graph.now sources.now codes.new hops.new
+        parents.new }
+{
+    graph.holds();
+    for i in 0..graph.vertices() as usize {
+        let v = Vertex(i as u32 + 1);
+        let (code, near, parent) = numbers_of(algebra, graph, sources, labels, tree, v);
+        put(codes, i, code);
+        put(hops, i, near);
+        put(parents, i, parent);
+    }
+}
+
+/// Writes the tree that a kept searcher found to three lists, of which those without places are not
+/// wanted.
+pub(crate) fn write_found<A: PathAlgebra>(
+    _algebra: A,
+    graph: &OutGraph,
+    sources: &[Vertex],
+    kept: &KeptTree,
+    codes: &mut [u64],
+    hops: &mut [u32],
+    parents: &mut [u32],
+)
+    requires graph { graph_in kept.now ≡ graph.now }
+    requires places { HaveAllOrNone graph.now.vertices codes.old hops.old parents.old }
+    requires lines { HaveLines (A.meaning _algebra) graph.now sources.now (code_in kept.now)
+        (tree_in kept.now) }
+    ensures { AreWantedLists (A.meaning _algebra) graph.now sources.now codes.new hops.new
+        parents.new }
+{
+    graph.holds();
+    for i in 0..graph.vertices() as usize {
+        let v = Vertex(i as u32 + 1);
+        put(codes, i, kept.code(v));
+        put(hops, i, kept.hops(v));
+        put(parents, i, kept.parent(v));
+    }
+}

@@ -68,7 +68,8 @@ module _ {V : Type 0} (A : Algebra V) (lawful : IsLawful A) where
           omega (arith, n, l),
         )
 
-    -- an arc that offers the best value of its head is tight, where its tail's line says the best value
+    -- an arc that offers the best value of its head is tight, where its tail's line says the best
+    -- value
     offers_tight : (u v : ℕ) (near : Reached) (x y : V) → IsBest A g sources u x → near.code ≡ A.code x → IsBest A g sources v y → (b : Offers A g lines u v near y) → IsTight A g sources b.arc
     offers_tight u v near x y best_u e best_v b =
         let same : b.value ≡ x = code_of_one near.code b.value x b.code_is (walk_has_code u near.code x best_u.attained e) in

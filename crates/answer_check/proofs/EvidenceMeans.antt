@@ -1,4 +1,5 @@
--- What the evidence of all arcs into a vertex means: the line is right, or the evidence gives the first reason against it.
+-- What the evidence of all arcs into a vertex means: the line is right, or the evidence gives the
+-- first reason against it.
 use Rattle.std.proofs.Common.{◌≡◌, ℕ, ◌+◌, ◌<◌, ◌≤◌, ◌^◌, inl, inr, Bool, true, false, not, ◌&&◌, ◌||◌, nat_eq, nat_lt, List, [], ◌∷◌, get_or, map, refl, ap, sym, ◌∙◌, subst, arith, Option, Some, None}
 use Rattle.std.specs.Prelude.{IsTrue, Contains}
 use Rattle.std.specs.List.{list_any}

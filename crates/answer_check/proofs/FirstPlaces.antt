@@ -1,4 +1,5 @@
--- The first place that a pass over marked lines finds is the first where the answer is wrong; where it finds none, the answer is right.
+-- The first place that a pass over marked lines finds is the first where the answer is wrong; where
+-- it finds none, the answer is right.
 use Rattle.std.proofs.Common.{◌≡◌, ℕ, ◌+◌, inl, inr, List, ap, ◌∙◌, subst, arith, Option, Some, None, zero, suc, ◌-◌, ◌<◌, ◌≤◌, ◌^◌, min, Bool, true, false, [], ◌∷◌, length, refl, sym}
 use Rattle.std.specs.Prelude.{IsTrue, Contains, ◌↔◌, option_map}
 use Rattle.road_graph.specs.GraphData.{GraphData, IsGraph, HasVertex}

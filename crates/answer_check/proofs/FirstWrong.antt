@@ -1,4 +1,5 @@
--- The first place of the first answer that is wrong is the first place of the list; a list that is wrong nowhere is right.
+-- The first place of the first answer that is wrong is the first place of the list; a list that is
+-- wrong nowhere is right.
 use Rattle.std.proofs.Common.{◌≡◌, ℕ, zero, suc, ◌+◌, ◌-◌, ◌<◌, ◌≤◌, ◌⊎◌, inl, inr, List, [], ◌∷◌, length, map, get_or, refl, ap, sym, ◌∙◌, subst, arith, Option, Some, None}
 use Rattle.std.specs.Prelude.{◌↔◌, All, slice_get}
 use Rattle.std.proofs.lemmas.List.Elements.{All-head, All-tail, All-cons, All-nil}

@@ -1,4 +1,5 @@
--- What makes lines right: each is judged by itself and the lines of the vertices with an arc to it, and by nothing else.
+-- What makes lines right: each is judged by itself and the lines of the vertices with an arc to it,
+-- and by nothing else.
 use Rattle.std.specs.Prelude.{◌≡◌, ℕ, ◌+◌, ◌≤◌, ◌⊎◌, List, length, Contains, IsTrue, Option, Some, None}
 use Rattle.road_graph.specs.GraphData.{GraphData, HasVertex}
 use Rattle.path_algebra.specs.Algebra.{Algebra}
@@ -6,8 +7,8 @@ use Rattle.path_algebra.specs.Walks.{label_of}
 use Rattle.answer_text.specs.declared.answers.Reached.{Reached}
 use Rattle.answer_check.specs.Reasons.{IsCodeOf, Offers, source_line}
 
--- the line r of v has a value that its parent gives with one hop less; no arc offers a better value, or this one with fewer hops;
--- no lesser vertex gives it with these hops
+-- the line r of v has a value that its parent gives with one hop less; no arc offers a better
+-- value, or this one with fewer hops; no lesser vertex gives it with these hops
 pub record IsSupported {V : Type 0} (A : Algebra V) (g : GraphData) (lines : List (Option Reached)) (v : ℕ) (r : Reached) : Type 0 where
   pub value : V
   pub code_is : IsCodeOf A r.code value
@@ -18,7 +19,8 @@ pub record IsSupported {V : Type 0} (A : Algebra V) (g : GraphData) (lines : Lis
   pub not_nearer : (u : ℕ) (other : Reached) → Offers A g lines u v other value → r.hops ≤ other.hops + 1
   pub not_lesser : (u : ℕ) (other : Reached) → Offers A g lines u v other value → other.hops + 1 ≡ r.hops → r.parent ≤ u
 
--- what makes the line of a vertex that is no source right: if it is unreached, no arc offers a value
+-- what makes the line of a vertex that is no source right: if it is unreached, no arc offers a
+-- value
 abbrev pub IsRightLine : {V : Type 0} → Algebra V → GraphData → List (Option Reached) → ℕ → Option Reached → Type 0
 IsRightLine {V} A g lines v None = (u : ℕ) (near : Reached) (z : V) → Offers A g lines u v near z → ⊥
 IsRightLine A g lines v (Some r) = IsSupported A g lines v r

@@ -23,7 +23,8 @@ abbrev pub beside : {V : Type 0} → Reached → Option V → Option (Reached ×
 beside near None = None
 beside near (Some z) = Some (near, z)
 
--- what an arc of this weight offers from a vertex with this line: the line, and its value extended by the arc
+-- what an arc of this weight offers from a vertex with this line: the line, and its value extended
+-- by the arc
 abbrev pub candidate_from : {V : Type 0} → Algebra V → Option Reached → ℕ → Option (Reached × V)
 candidate_from A None w = None
 candidate_from A (Some near) w = beside near (extended A (decoded A near.code) w)

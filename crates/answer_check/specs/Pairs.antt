@@ -1,4 +1,5 @@
--- How the answer to a pair differs from the right code, hops and route, and which answers have yet to be judged.
+-- How the answer to a pair differs from the right code, hops and route, and which answers have yet
+-- to be judged.
 use Rattle.std.specs.Prelude.{◌≡◌, ◌≢◌, ℕ, ◌<◌, ◌≤◌, Bool, true, false, ⊤, Some, slice_get}
 use Rattle.road_graph.specs.GraphData.{GraphData}
 use Rattle.path_algebra.specs.Algebra.{Algebra}
@@ -20,7 +21,8 @@ abbrev pub TellsSuspect : {V : Type 0} → Algebra V → GraphData → Asked →
 TellsSuspect A g asked told i true = ⊤
 TellsSuspect A g asked told i false = (q : Question) (t : AnswerData) → slice_get asked.questions i ≡ Some q → slice_get told.list i ≡ Some t → IsAnswer A g q t
 
--- whether some of the answers to the questions from `start` up to `end` has yet to be judged: if not, they are right
+-- whether some of the answers to the questions from `start` up to `end` has yet to be judged: if
+-- not, they are right
 abbrev pub TellsSuspectIn : {V : Type 0} → Algebra V → GraphData → Asked → AnswerList → ℕ → ℕ → Bool → Type 0
 TellsSuspectIn A g asked told start end true = ⊤
 TellsSuspectIn A g asked told start end false = (i : ℕ) → start ≤ i → i < end → TellsSuspect A g asked told i false

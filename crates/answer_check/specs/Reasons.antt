@@ -1,4 +1,5 @@
--- Why the line of a vertex, or the answer to a pair, is refused. A line is judged by itself and the lines of the vertices with an arc to it, and by nothing else.
+-- Why the line of a vertex, or the answer to a pair, is refused. A line is judged by itself and the
+-- lines of the vertices with an arc to it, and by nothing else.
 use Rattle.std.specs.Prelude.{◌≡◌, ◌≢◌, ℕ, ◌+◌, ◌<◌, ◌⊎◌, List, [], ◌∷◌, Contains, IsTrue, Option, Some, None}
 use Rattle.road_graph.specs.GraphData.{GraphData, HasArc, arc_of}
 use Rattle.path_algebra.specs.Algebra.{Algebra}
@@ -27,7 +28,8 @@ source_line A = Some (record { code = A.code A.origin; hops = 0; parent = 0 })
 abbrev pub IsCodeOf : {V : Type 0} → Algebra V → ℕ → V → Type 0
 IsCodeOf A c x = IsTrue (A.is_value x) × (c ≡ A.code x)
 
--- some arc from u to v extends the value of the line `near` of u to z; a line whose code is that of no value offers nothing
+-- some arc from u to v extends the value of the line `near` of u to z; a line whose code is that of
+-- no value offers nothing
 pub record Offers {V : Type 0} (A : Algebra V) (g : GraphData) (lines : List (Option Reached)) (u v : ℕ) (near : Reached) (z : V) : Type 0 where
   pub arc : ℕ
   pub is_arc : HasArc g arc
@@ -73,7 +75,8 @@ abbrev pub IsLineRefused : {V : Type 0} → Algebra V → GraphData → List ℕ
 IsLineRefused A g sources lines v Mismatch = Contains sources v × (label_of lines v ≢ source_line A)
 IsLineRefused A g sources lines v reason = (Contains sources v → ⊥) × IsRefuted A g lines v (label_of lines v) reason
 
--- the reasons against the answer to a pair: it gives none and there is a walk, or its code, its hops or its route are not the right ones
+-- the reasons against the answer to a pair: it gives none and there is a walk, or its code, its
+-- hops or its route are not the right ones
 abbrev pub IsPairRefused : {V : Type 0} → Algebra V → GraphData → ℕ → ℕ → Option FoundData → Reason → Type 0
 IsPairRefused {V} A g s t None HasWalk = (y : V) × IsWalkValue A g (s ∷ []) t y
 IsPairRefused A g s t (Some f) NotBest = IsBestCode A g (s ∷ []) t f.code → ⊥

@@ -11,7 +11,8 @@ use Rattle.answer_check.specs.declared.verdict.Verdict.{Verdict}
 use Rattle.answer_check.specs.declared.verdict.Verdict.TheVariants.{Valid, Invalid}
 use Rattle.answer_check.specs.Reasons.{reason_number, IsLineRefused, IsPairRefused}
 
--- the name, the kind, the number of vertices and the number of answers are those of algebra, questions and graph
+-- the name, the kind, the number of vertices and the number of answers are those of algebra,
+-- questions and graph
 pub record HasHeader {V : Type 0} (A : Algebra V) (g : GraphData) (asked : Asked) (told : AnswerList) : Type 0 where
   pub name_is : told.name ≡ A.name
   pub kind_is : told.kind ≡ asked.kind
@@ -32,11 +33,13 @@ IsRefusedAt A g (BetweenPair s t) (PairAnswer r u found) v reason = (v ≡ t) ×
 IsRefusedAt A g (FromSources ss) (SourcesAnswer rs lines) v reason = HasVertex g v × IsLineRefused A g ss lines v reason
 IsRefusedAt A g _ _ v reason = ⊥
 
--- what is wrong with an answer: it does not name its question, which is reported at vertex 0, or there is a reason against it at a vertex
+-- what is wrong with an answer: it does not name its question, which is reported at vertex 0, or
+-- there is a reason against it at a vertex
 abbrev pub IsWrongIn : {V : Type 0} → Algebra V → GraphData → Question → AnswerData → ℕ → Reason → Type 0
 IsWrongIn A g q t v reason = ((v ≡ 0) × (reason ≡ Mismatch) × (Names g q t → ⊥)) ⊎ IsRefusedAt A g q t v reason
 
--- what is wrong with an answer list: the header, which is reported at question 0, or something in the answer to a question, numbered from 1
+-- what is wrong with an answer list: the header, which is reported at question 0, or something in
+-- the answer to a question, numbered from 1
 abbrev pub IsWrong : {V : Type 0} → Algebra V → GraphData → Asked → AnswerList → ℕ → ℕ → Reason → Type 0
 IsWrong A g asked told question v reason =
     ((question ≡ 0) × (v ≡ 0) × (reason ≡ Mismatch) × (HasHeader A g asked told → ⊥))

@@ -9,7 +9,8 @@ use road_files::Questions;
 use road_graph::{InGraph, OutGraph};
 use std::alloc::Global;
 
-/// As many answers as questions over a graph, which has its arcs by tail and by head, and the algebra that judges them.
+/// As many answers as questions over a graph, which has its arcs by tail and by head, and the
+/// algebra that judges them.
 #[derive(Drop)]
 pub(crate) struct Case<'c, A: PathAlgebra> {
     pub(crate) alloc: Global,

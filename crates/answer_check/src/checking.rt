@@ -34,9 +34,11 @@ fn has_header<A: PathAlgebra>(
         && answers.list.len() == questions.len()
 }
 
-/// Whether these are the right answers to questions over a graph, or else the first place where they are not.
+/// Whether these are the right answers to questions over a graph, or else the first place where
+/// they are not.
 ///
-/// Places are ordered by question, then by vertex, then by the number of the reason. The only error is out of memory.
+/// Places are ordered by question, then by vertex, then by the number of the reason. The only error
+/// is out of memory.
 pub fn check<A: PathAlgebra, R: Threads + Sync>(
     rt: &R,
     alloc: Global,

@@ -85,7 +85,8 @@ pub(crate) fn value_told<A: PathAlgebra>(algebra: A, line: Reached) -> Option<A:
     algebra.value_of(line.code)
 }
 
-/// The line of an arc's tail, and its value extended by the arc. None if the line has no value or the arc refuses it.
+/// The line of an arc's tail, and its value extended by the arc. None if the line has no value or
+/// the arc refuses it.
 pub(crate) fn candidate<A: PathAlgebra>(
     algebra: A,
     near: Option<Reached>,
@@ -122,7 +123,8 @@ fn evidence_by<A: PathAlgebra>(
     }
 }
 
-/// What the arcs of a list, each given reversed, show of the line of the vertex that they enter, which has this value.
+/// What the arcs of a list, each given reversed, show of the line of the vertex that they enter,
+/// which has this value.
 pub(crate) fn evidence_of<A: PathAlgebra, L: VertexLines>(
     algebra: A,
     lines: &L,

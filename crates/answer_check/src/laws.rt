@@ -13,8 +13,8 @@ ghost use Rattle.answer_check.specs.Verdicts.{IsVerdict};
 
 use path_algebra::{PathAlgebra, laws_hold};
 
-/// Lines are the right answer if and only if each is certified by itself and the lines of the vertices with an arc to
-/// it.
+/// Lines are the right answer if and only if each is certified by itself and the lines of the
+/// vertices with an arc to it.
 pub fn right_lines_are_certified<A: PathAlgebra>(algebra: A)
     ensures { (g : GraphData) → IsGraph g → (sources : List ℕ) → All (HasVertex g) sources → (lines : List (Option Reached)) →
         AreVertexLines (A.meaning algebra) g sources lines ↔ AreCertified (A.meaning algebra) g sources lines }

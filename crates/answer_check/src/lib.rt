@@ -1,7 +1,9 @@
-//! Checks an answer list against its graph and questions, without solving what the list itself certifies.
+//! Checks an answer list against its graph and questions, without solving what the list itself
+//! certifies.
 //!
-//! An answer for all vertices carries its own certificate: each line is judged by the lines of the vertices with an arc
-//! to it. Vertices are judged in parallel, and the verdict is the same as with one thread.
+//! An answer for all vertices carries its own certificate: each line is judged by the lines of the
+//! vertices with an arc to it. Vertices are judged in parallel, and the verdict is the same as with
+//! one thread.
 #![tactic(auto)]
 
 mod answers;

@@ -29,7 +29,8 @@ fn marks_of(alloc: Global, n: usize, sources: &[Vertex]) -> Result<Vec<bool>, Al
     Ok(marks)
 }
 
-/// The first vertex whose line is wrong, with the first reason; none if these are the right lines from the sources.
+/// The first vertex whose line is wrong, with the first reason; none if these are the right lines
+/// from the sources.
 ///
 /// # Errors
 /// Out of memory.

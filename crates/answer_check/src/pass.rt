@@ -77,8 +77,8 @@ pub(crate) fn right_lines<A: PathAlgebra, L: VertexLines + Sync, R: Threads + Sy
     }
 }
 
-/// The first vertex with a reason against its line, and the first such reason. So many of the first lines are known to
-/// be right.
+/// The first vertex with a reason against its line, and the first such reason. So many of the first
+/// lines are known to be right.
 pub(crate) fn first_place<A: PathAlgebra, L: VertexLines>(
     algebra: A,
     graph: &InGraph,

@@ -17,7 +17,8 @@ pub(crate) struct Runs {
 }
 
 impl Runs {
-    /// The next runs of `total` answers, as many as `count`. Answers that are few are shared evenly.
+    /// The next runs of `total` answers, as many as `count`. Answers that are few are shared
+    /// evenly.
     pub(crate) fn next(count: usize, start: usize, total: usize) -> Runs
         requires some { 1 ≤ count }
         requires start { start < total }

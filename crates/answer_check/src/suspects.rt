@@ -39,7 +39,8 @@ fn is_suspect<A: PathAlgebra>(searcher: &mut PairSearcher<A>, case: &Case<'_, A>
     }
 }
 
-/// The first answer of a run that has yet to be judged, or the end of the run. One searcher serves them all.
+/// The first answer of a run that has yet to be judged, or the end of the run. One searcher serves
+/// them all.
 fn first_suspect<A: PathAlgebra>(case: &Case<'_, A>, run: (usize, usize)) -> usize
     requires { run.1 ≤ length case.now.answers.now.list.items }
     ensures { TellsSuspectIn (A.meaning case.now.algebra) case.now.graph.now
@@ -95,8 +96,9 @@ fn first_suspect_run<A: PathAlgebra, R: Threads + Sync>(
         )
 }
 
-/// How many of the first answers are right, as far as that is found in parallel: pairs are judged on all processors,
-/// some runs at a time, up to the first that is wrong or for which memory runs out.
+/// How many of the first answers are right, as far as that is found in parallel: pairs are judged
+/// on all processors, some runs at a time, up to the first that is wrong or for which memory runs
+/// out.
 pub(crate) fn right_prefix<A: PathAlgebra, R: Threads + Sync>(rt: &R, case: &Case<'_, A>) -> usize
     ensures { (k : ℕ) → k < result → TellsSuspect (A.meaning case.now.algebra) case.now.graph.now
         (asked_of case.now.questions.now) (answer_list case.now.answers.now) k false }

@@ -45,7 +45,8 @@ impl Reason {
 #[derive(Clone, Copy, Debug, PartialEq, Eq)]
 pub enum Verdict {
     Valid,
-    /// Questions and vertices are numbered from 1. Question 0 is the whole list, and vertex 0 the whole answer.
+    /// Questions and vertices are numbered from 1. Question 0 is the whole list, and vertex 0 the
+    /// whole answer.
     Invalid {
         question: usize,
         vertex: u32,

@@ -12,7 +12,8 @@ pub trait VertexLines {
     // The lines, one for each vertex, in order.
     ghost list: { Self → List (Option Reached) };
 
-    /// The line of a vertex: its code, its hops and its parent, or none if no walk to it has a value.
+    /// The line of a vertex: its code, its hops and its parent, or none if no walk to it has a
+    /// value.
     fn line_of(&self, v: Vertex) -> Option<Reached>
         requires low { 1 ≤ v }
         requires high { v ≤ length (list self.now) }

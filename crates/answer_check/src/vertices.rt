@@ -1,4 +1,5 @@
-//! The first reason against the line of a vertex, which is judged by the lines of the vertices with an arc to it.
+//! The first reason against the line of a vertex, which is judged by the lines of the vertices with
+//! an arc to it.
 
 ghost use Rattle.std.specs.Prelude.{◌≡◌, ◌≤◌, length, All, IsTrue, ◌↔◌};
 ghost use Rattle.std.specs.List.{list_any};

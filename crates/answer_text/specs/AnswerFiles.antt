@@ -1,6 +1,7 @@
--- Answer texts, by their lines: comments, the header `p ans KIND K NAME`, and K answers of that kind, each a line that names its question
--- (`s SOURCE`, `q SOURCE TARGET`, `m SOURCE ..`) and the lines of its answer. After `s` and `m` comes a line for each vertex in order, `d V CODE HOPS PARENT` or `u V`;
--- after `q` come `d CODE HOPS` and `r V1 ..`, or `u`.
+-- Answer texts, by their lines: comments, the header `p ans KIND K NAME`, and K answers of that
+-- kind, each a line that names its question (`s SOURCE`, `q SOURCE TARGET`, `m SOURCE ..`) and the
+-- lines of its answer. After `s` and `m` comes a line for each vertex in order,
+-- `d V CODE HOPS PARENT` or `u V`; after `q` come `d CODE HOPS` and `r V1 ..`, or `u`.
 use Rattle.std.specs.Prelude.{ℕ, ◌+◌, ◌==◌, ◌&&◌, Bool, true, false, List, [], ◌∷◌, ◌++◌, length, drop, map, slice_index, if◌then◌else◌, Option, Some, None, nat_lt, Result, Ok, Err, codes, bytes_eq}
 use Rattle.path_algebra.specs.declared.name.AlgebraName.{AlgebraName}
 use Rattle.path_algebra.specs.Names.{name_of_text}
@@ -17,7 +18,8 @@ pub data Named : Type 0 where
   OneSource : (source : ℕ) → Named
   ManySources : (sources : List ℕ) → Named
 
--- what was read of the present answer: nothing, the question and some lines, a pair, or a pair with its value
+-- what was read of the present answer: nothing, the question and some lines, a pair, or a pair with
+-- its value
 pub data Stage : Type 0 where
   Between : Stage
   InLines : (named : Named) → (lines : List (Option Reached)) → Stage
@@ -76,7 +78,8 @@ pair_line ws = do
   target ← answer_number 4294967295 (word_at 2 ws).number
   Ok (source, target)
 
--- a line of a letter and numbers: 32 for the letter, 33 for how many fields there are, then what the numbers give
+-- a line of a letter and numbers: 32 for the letter, 33 for how many fields there are, then what
+-- the numbers give
 abbrev pub list_line : Bool → Bool → Result (List ℕ) ℕ → Result (List ℕ) ℕ
 list_line letter enough numbers = if letter then (if enough then numbers else Err 33) else Err 32
 

@@ -38,7 +38,8 @@ abbrev pub begins_route : List (List ℕ) → Bool
 begins_route [] = false
 begins_route (f ∷ fs) = bytes_eq f (codes "r")
 
--- these are the fields of the present line so far; the numbers are unspecified if a list of sources is too long
+-- these are the fields of the present line so far; the numbers are unspecified if a list of sources
+-- is too long
 pub record NumbersSoFar (l : PresentNumbers) (fs : List (List ℕ)) : Type 0 where
   pub count_is : l.count ≡ min (length fs) 1026
   pub letter_is : l.is_list ≡ begins_numbers fs

@@ -32,7 +32,8 @@ IsAnswerWritable Pairs n (PairAnswer s t found) = (s < 2 ^ 32) × (t < 2 ^ 32) �
 IsAnswerWritable Multi n (SourcesAnswer ss lines) = (1 ≤ length ss) × (length ss ≤ 1024) × AreSmall ss × AreLinesWritable n lines
 IsAnswerWritable _ _ _ = ⊥
 
--- at most 2^20 answers, all of the list's kind: n lines in each answer for vertices, 1 to 1,024 sources in each of kind `ms`, and no empty route
+-- at most 2^20 answers, all of the list's kind: n lines in each answer for vertices, 1 to 1,024
+-- sources in each of kind `ms`, and no empty route
 pub record AreWritable (t : AnswerList) : Type 0 where
   pub few : length t.list ≤ 1048576
   pub vertices : t.n < 2 ^ 32

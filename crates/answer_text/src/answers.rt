@@ -16,7 +16,8 @@ pub struct Reached {
     pub parent: u32,
 }
 
-/// The answer to one question. Entry `i` of `lines` is that of vertex `i + 1`: `None` if no walk to it has a value.
+/// The answer to one question. Entry `i` of `lines` is that of vertex `i + 1`: `None` if no walk to
+/// it has a value.
 #[derive(Debug, Drop)]
 pub enum Answer {
     Source {

@@ -97,7 +97,8 @@ impl AnswersBuilder {
         push_item(&mut self.list, answer)
     }
 
-    /// Makes the present answer one from this source with the lines so far. It is complete if there are `n` lines.
+    /// Makes the present answer one from this source with the lines so far. It is complete if there
+    /// are `n` lines.
     fn set_source(&mut self, n: u32, source: Vertex) -> Result<(), LineFault>
         ensures set { OnOk result (answers_so_far self.new ≡ with_lines n (answers_so_far self.old)
             (OneSource source) self.old.lines.items) }
@@ -111,7 +112,8 @@ impl AnswersBuilder {
         self.push(Answer::Source { source, lines })
     }
 
-    /// Makes the present answer one from the sources with the lines so far. It is complete if there are `n` lines.
+    /// Makes the present answer one from the sources with the lines so far. It is complete if there
+    /// are `n` lines.
     fn set_sources(&mut self, n: u32) -> Result<(), LineFault>
         ensures set { OnOk result (answers_so_far self.new ≡ with_lines n (answers_so_far self.old)
             (ManySources self.old.sources.items) self.old.lines.items) }
@@ -244,7 +246,8 @@ impl AnswersBuilder {
         })
     }
 
-    /// Adds a line after the header, over a graph with `n` vertices. The numbers of a list were taken before.
+    /// Adds a line after the header, over a graph with `n` vertices. The numbers of a list were
+    /// taken before.
     pub fn add_line(
         &mut self,
         n: u32,

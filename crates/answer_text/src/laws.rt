@@ -30,8 +30,8 @@ pub fn an_answer_is_one<A: PathAlgebra>(algebra: A)
     laws_hold(algebra);
 }
 
-/// The header and the text of the right answers to the first questions are a prefix of the text of every right answer
-/// list.
+/// The header and the text of the right answers to the first questions are a prefix of the text of
+/// every right answer list.
 #[tactic(auto, using(crate::proofs::OneAnswer::first_answers_text))]
 pub fn first_answers_begin_all<A: PathAlgebra>(algebra: A)
     ensures { (g : GraphData) (asked : Asked) (count : ℕ) (ts : List AnswerData) (all : AnswerList) → AreAnswers (A.meaning algebra) g (take count asked.questions) ts → IsAnswerList (A.meaning algebra) g asked all →
@@ -47,7 +47,8 @@ pub fn written_answers_are_read_again()
         text_read (answer_rules t.n) (answers_text t) ≡ Ok t }
 {}
 
-/// The text of the right answers to questions over a graph is read back as just these, unless it is too long.
+/// The text of the right answers to questions over a graph is read back as just these, unless it is
+/// too long.
 pub fn right_answers_are_read_again<A: PathAlgebra>(algebra: A)
     ensures { (g : GraphData) (q : Questions) (t : AnswerList) → IsGraph g → AreQuestionsOf g.vertices q → IsAnswerList (A.meaning algebra) g (asked_of q) t → length (answers_text t) ≤ 4294967296 →
         text_read (answer_rules t.n) (answers_text t) ≡ Ok t }

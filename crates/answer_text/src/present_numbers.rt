@@ -108,8 +108,8 @@ impl PresentNumbers {
         Ok(())
     }
 
-    /// The numbers of the present line; `letter` says whether its letter belongs here, `enough` whether its number of
-    /// fields is right.
+    /// The numbers of the present line; `letter` says whether its letter belongs here, `enough`
+    /// whether its number of fields is right.
     fn complete(
         &mut self,
         alloc: Global,

@@ -29,14 +29,16 @@ pub fn write_header<W: RoadWrite>(
     write_bytes(to, line_of_header(kind, count, name).as_str().as_bytes())
 }
 
-/// Writes the first line of an answer from one source. `write_vertex_line` writes those that follow.
+/// Writes the first line of an answer from one source. `write_vertex_line` writes those that
+/// follow.
 pub fn write_source_line<W: RoadWrite>(to: &mut W, source: Vertex) -> Result<(), WriteFault>
     ensures { WritesText (W.seen to.old) (W.seen to.new) (spelled (source_words source)) result }
 {
     write_bytes(to, line_of_source(source).as_str().as_bytes())
 }
 
-/// Writes the first line of an answer from several sources. `write_vertex_line` writes those that follow.
+/// Writes the first line of an answer from several sources. `write_vertex_line` writes those that
+/// follow.
 pub fn write_sources_line<W: RoadWrite>(to: &mut W, sources: &[Vertex]) -> Result<(), WriteFault>
     ensures { WritesText (W.seen to.old) (W.seen to.new)
         (spelled (list_words (codes "m") sources.now)) result }
@@ -44,7 +46,8 @@ pub fn write_sources_line<W: RoadWrite>(to: &mut W, sources: &[Vertex]) -> Resul
     write_list(to, b"m", sources)
 }
 
-/// Writes the line of a vertex. `line` is room for its text, with any content: one serves for all vertices.
+/// Writes the line of a vertex. `line` is room for its text, with any content: one serves for all
+/// vertices.
 pub fn write_vertex_line<W: RoadWrite>(
     to: &mut W,
     line: &mut VertexLine,

@@ -36,7 +36,8 @@ pub fn five_vertices(alloc: Global) -> Result<Graph, Fault>
     }
 }
 
-/// Prints the least sum of weights to a vertex and the arcs of its route, or that no walk leads to it.
+/// Prints the least sum of weights to a vertex and the arcs of its route, or that no walk leads to
+/// it.
 fn print_sum<R: Print>(rt: &R, v: u32, sum: Option<u64>, hops: Option<u32>) -> Result<(), Fault> {
     match (sum, hops) {
         (Some(sum), Some(hops)) => println!(rt; "to {v}: {sum}, arcs: {hops}")?,

@@ -1,4 +1,5 @@
-//! Files and an algebra of one's own: a bundle is answered from bytes to bytes, and its answers are judged.
+//! Files and an algebra of one's own: a bundle is answered from bytes to bytes, and its answers are
+//! judged.
 ghost use Rattle.std.specs.Prelude.{Some, [], IfOk};
 ghost use Rattle.batch_run.specs.Ran.{Done, IsBundleOf};
 ghost use Rattle.tour.specs.InMemory.{in_memory};
@@ -41,7 +42,8 @@ fn answered<R: Threads + Wait + Sync>(rt: &R, alloc: Global, bundle: &str) -> Re
     Ok(out.into_inner())
 }
 
-/// Whether these are the right answers to a bundle, and if not, the first place where they are wrong.
+/// Whether these are the right answers to a bundle, and if not, the first place where they are
+/// wrong.
 fn judged<R: Threads + Sync>(
     rt: &R,
     alloc: Global,

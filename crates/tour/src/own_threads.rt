@@ -24,14 +24,16 @@ const TURNS: u32 = 10_000_000;
 /// How many messages and signals a station handles in a turn.
 const BUDGET: u32 = 2;
 
-/// A vertex, and the code of the best value that was found for it so far. It may be read at any moment.
+/// A vertex, and the code of the best value that was found for it so far. It may be read at any
+/// moment.
 #[derive(Drop)]
 struct Board {
     vertex: Vertex,
     code: AtomicU64,
 }
 
-/// Turns a station until it reports the end, and shows its label of the board's vertex after each turn.
+/// Turns a station until it reports the end, and shows its label of the board's vertex after each
+/// turn.
 fn turned_to_end<'g, A: PathAlgebra>(
     floor: &Floor<A>,
     algebra: A,
@@ -123,7 +125,8 @@ fn turn_all<'g, A: PathAlgebra, R: Threads + Sync>(
     Ok(turned)
 }
 
-/// Prints the best values from vertex 1 that three threads found, and what the board shows at the end.
+/// Prints the best values from vertex 1 that three threads found, and what the board shows at the
+/// end.
 pub fn show<R: Print + AllocGlobal + Threads + Sync>(rt: &R) -> Result<(), Fault> {
     let alloc = rt.alloc();
     let graph = five_vertices(alloc)?;

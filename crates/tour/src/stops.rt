@@ -1,15 +1,17 @@
-//! An algebra of one's own: its operations, each proved to be that of the meaning in `specs/Stops.antt`.
-use path_algebra::{AlgebraName, PathAlgebra};
+//! An algebra of one's own: its operations, each proved to be that of the meaning in
+//! `specs/Stops.antt`.
+use path_algebra::{AlgebraName, Cost, PathAlgebra};
 
 /// The greatest value.
 const GREATEST: u64 = 1 << 63;
 
-/// The time of a walk: each arc takes its weight, and then a stop of two. Less is better, held at 2^63.
+/// The time of a walk: each arc takes its weight, and then a stop of two. Less is better, held at
+/// 2^63.
 #[derive(Clone, Copy, Debug, PartialEq, Eq)]
 pub struct Stops;
 
 impl PathAlgebra for Stops {
-    ghost use Rattle.std.specs.Prelude.{refl};
+    ghost use Rattle.std.specs.Prelude.{refl, None};
     ghost use Rattle.path_algebra.specs.Laws.{less_is_better};
     ghost use Rattle.tour.specs.Stops.{stops, stops_laws};
 
@@ -18,6 +20,8 @@ impl PathAlgebra for Stops {
     ghost order = { stops.no_worse };
 
     ghost meaning = { λ _. stops };
+
+    ghost arc_cost = { λ _. None };
 
     ghost one_order = { λ _. refl };
 
@@ -51,5 +55,9 @@ impl PathAlgebra for Stops {
 
     fn name(self) -> AlgebraName {
         AlgebraName::Own
+    }
+
+    fn cost(self) -> Option<Cost> {
+        None
     }
 }

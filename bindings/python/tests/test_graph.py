@@ -287,10 +287,27 @@ class Refusals(unittest.TestCase):
             with self.subTest(message):
                 self.refused_softly(message, call)
 
+    def test_a_stop_ends_calls(self):
+        import threading
+
+        n, stop = 100_000, diffuse.Stop()
+        graph = Graph.from_columns(range(1, n), range(2, n + 1), [1] * (n - 1))
+        self.assertEqual(graph.route(1, n, stop=stop).value, n - 1)
+        thread = threading.Thread(target=stop.set)
+        thread.start()
+        thread.join()
+        for call in (lambda: graph.route(2, n, stop=stop), lambda: graph.tree(1, stop=stop), lambda: graph.near(1, stop=stop),
+                     lambda: graph.table(1, n, stop=stop), lambda: graph.tree(1, "widest", stop=stop)):
+            with self.assertRaisesRegex(diffuse.Stopped, "The stop was set before there was an answer."):
+                call()
+        self.assertEqual(graph.route(1, n).value, n - 1)
+        stop.clear()
+        self.assertEqual(len(graph.near(1, stop=stop).vertices), n)
+
     def test_classes_by_status(self):
         from diffuse.errors import BY_STATUS
 
-        self.assertEqual(sorted(BY_STATUS), [*range(1, 20), 43, 44])
+        self.assertEqual(sorted(BY_STATUS), [*range(1, 20), 43, 44, 45])
         for status, kind in BY_STATUS.items():
             self.assertTrue(issubclass(kind, diffuse.DiffuseError) and 400 <= kind.http < 600, status)
         error = diffuse.NoRoute("no route leads from 1 to 5")

@@ -9,7 +9,7 @@ from .algebras import ALGEBRAS, UNREACHED, Algebra
 from .answers import Near, Route, Tree
 from .errors import (
     AlreadyOpen, BadProblemLine, BadShape, Closed, DiffuseError, InputError, NoAlgebra, NoFactors, NoLink, NoProblemLine, NoRoom,
-    NoRoute, NotANumber, NotFactored, NoVertex, OutOfMemory, OutOfRange, Reason, SecondProblemLine, TextFault, TooDense, TooFewArcs,
+    NoRoute, NotANumber, NotFactored, NoVertex, OutOfMemory, OutOfRange, Reason, SecondProblemLine, Stopped, TextFault, TooDense, TooFewArcs,
     TooHeavy, TooManyArcs, UnknownLine, WrongFields, WrongTree,
 )
 from .between import BetweenPoints
@@ -19,6 +19,7 @@ from .isochrones import Isochrone
 from .network import Network
 from .places import Places
 from .routes import NamedRoute, Step
+from .stops import Stop
 from .streets import DRIVING, WALKING
 from .snaps import Snap
 from .trees import NamedTree
@@ -29,6 +30,6 @@ __all__ = [
     "Algebra", "ALGEBRAS", "AlreadyOpen", "BadProblemLine", "BadShape", "BetweenPoints", "Closed", "DiffuseError", "DRIVING", "Graph",
     "InputError", "Isochrone", "NamedRoute", "NamedTable", "NamedTree", "Near", "Network", "NoAlgebra", "NoFactors", "NoLink", "NoProblemLine",
     "NoRoom", "NoRoute", "NotANumber", "NotFactored", "NoVertex", "OutOfMemory", "OutOfRange", "Places", "Reason", "Route",
-    "SecondProblemLine", "Snap", "Step", "TextFault", "TooDense", "TooFewArcs", "TooHeavy", "TooManyArcs", "Tree", "UnknownLine",
+    "SecondProblemLine", "Snap", "Step", "Stop", "Stopped", "TextFault", "TooDense", "TooFewArcs", "TooHeavy", "TooManyArcs", "Tree", "UnknownLine",
     "UNREACHED", "version", "WALKING", "WrongFields", "WrongTree",
 ]

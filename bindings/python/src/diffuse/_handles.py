@@ -3,12 +3,13 @@ from __future__ import annotations
 
 from contextlib import contextmanager
 from ctypes import byref
-from typing import Any, Iterable, Iterator
+from typing import Any, Iterable, Iterator, Optional
 
 from ._library import DONE, Handle, library
 from ._locks import ForkLock
 from .columns import address, reweighed
 from .errors import Closed, InputError, refusal
+from .stops import Stop, take_from
 
 
 class Handles:
@@ -29,13 +30,17 @@ class Handles:
         self._closed, self._given = False, given
 
     @contextmanager
-    def borrowed(self) -> Iterator[Handle]:
-        """A handle that no other call uses. Raises Closed, or OutOfMemory."""
+    def borrowed(self, stop: Optional[Stop] = None) -> Iterator[Handle]:
+        """A handle that no other call uses, with a stop if one is given. Raises Closed, or OutOfMemory."""
         with self._lock:
             handle = self._unused()
         try:
+            if stop is not None:
+                stop.give_to(handle)
             yield handle
         finally:
+            if stop is not None:
+                take_from(handle)
             self._give_back(handle)
 
     def copied(self) -> Handles:

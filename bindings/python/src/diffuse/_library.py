@@ -28,7 +28,13 @@ class Handle(ctypes.Structure):
         return self._places
 
 
-_HANDLE = POINTER(Handle)
+class StopHandle(ctypes.Structure):
+    """A stop, which begins closed: all zero."""
+
+    _fields_ = [("at", c_void_p), ("is_open", c_bool)]
+
+
+_HANDLE, _STOP = POINTER(Handle), POINTER(StopHandle)
 _NUMBER, _CODE = POINTER(c_uint32), POINTER(c_uint64)
 _LIST = [c_void_p, c_size_t]
 _QUESTION = [_HANDLE, c_uint32, c_uint64]
@@ -46,6 +52,11 @@ _CALLS = {
     "diffuse_graph_near": (c_int32, [*_QUESTION, *_LIST, *_LIST, *_LIST, *_LIST, *_LIST, POINTER(c_size_t)]),
     "diffuse_graph_reweigh": (c_int32, [_HANDLE, *_LIST, _HANDLE]),
     "diffuse_graph_factor": (c_int32, [_HANDLE, c_uint32]),
+    "diffuse_stop_new": (c_int32, [_STOP]),
+    "diffuse_graph_stop_by": (c_int32, [_HANDLE, _STOP]),
+    "diffuse_stop_set": (c_int32, [_STOP]),
+    "diffuse_stop_clear": (c_int32, [_STOP]),
+    "diffuse_stop_free": (None, [_STOP]),
     "diffuse_version": (c_uint32, []),
 }
 

@@ -223,10 +223,16 @@ class NoLink(NotFactored):
     status = 44
 
 
+class Stopped(DiffuseError):
+    """The stop was set before there was an answer."""
+
+    status = 45
+
+
 _KINDS: tuple[type[DiffuseError], ...] = (
     NoRoute, NoRoom, OutOfMemory, Closed, AlreadyOpen, WrongTree, TooDense, TooHeavy, NoFactors, NoProblemLine, SecondProblemLine,
     BadProblemLine, UnknownLine, WrongFields, NotANumber, OutOfRange, NoVertex, TooManyArcs, TooFewArcs, NoAlgebra,
-    NoLink,
+    NoLink, Stopped,
 )
 BY_STATUS = {kind.status: kind for kind in _KINDS}
 

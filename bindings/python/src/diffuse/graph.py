@@ -10,6 +10,7 @@ from .answers import Near, Route, Tree
 from .columns import MOST_64, WEIGHTS, Argument, Span, address, first_of, index_of, is_truth, numbers, room, rows_of, vertex_number
 from .errors import NoRoom, NoRoute, NoVertex, WrongTree, refusal
 from .opening import Opened
+from .stops import Stop
 
 _VERTICES = "a vertex or a list of vertices"
 FEW = 1024
@@ -30,15 +31,16 @@ class Graph(Opened):
     Raises NotANumber, OutOfRange, NoVertex or BadShape, with the place of the first number that can't be used; OutOfMemory.
     """
 
-    def route(self, source: int, target: int, algebra: AnyAlgebra = Algebra.SHORTEST, limit: Optional[int] = None) -> Route:
+    def route(self, source: int, target: int, algebra: AnyAlgebra = Algebra.SHORTEST, limit: Optional[int] = None,
+              stop: Optional[Stop] = None) -> Route:
         """The best route from a source to a target.
 
-        Raises NoRoute if no walk has a value, NoVertex, NoAlgebra, OutOfMemory or Closed.
+        Raises NoRoute if no walk has a value, NoVertex, NoAlgebra, OutOfMemory, Closed, or Stopped if the stop is set before.
         """
         number, bound = question_of(algebra, limit)
         ends = (vertex_number(source, "source", self._vertices), vertex_number(target, "target", self._vertices))
         code, hops = c_uint64(), c_uint32()
-        with self._handles.borrowed() as handle:
+        with self._handles.borrowed(stop) as handle:
             places = handle.places(self._vertices)
             status = library().diffuse_graph_route(
                 byref(handle), number, bound, *ends, byref(code), byref(hops), addressof(places), self._vertices)
@@ -50,15 +52,15 @@ class Graph(Opened):
         return Route(code.value, hops.value, vertices)
 
     def tree(self, sources: Union[int, Iterable[int]], algebra: AnyAlgebra = Algebra.SHORTEST,
-             limit: Optional[int] = None) -> Tree:
+             limit: Optional[int] = None, stop: Optional[Stop] = None) -> Tree:
         """For all vertices at once the best value, the hops and the parent from the nearest of one or more sources.
 
-        Raises NoVertex, NotANumber, NoAlgebra, OutOfMemory or Closed.
+        Raises NoVertex, NotANumber, NoAlgebra, OutOfMemory, Closed, or Stopped if the stop is set before.
         """
         number, bound = question_of(algebra, limit)
         count, begins = self._vertices, self._sources(sources)
         values, hops, parents = room("Q", count), room("I", count), room("I", count)
-        with self._handles.borrowed() as handle:
+        with self._handles.borrowed(stop) as handle:
             status = library().diffuse_graph_tree(
                 byref(handle), number, bound, address(begins), len(begins), *_lent(values), *_lent(hops), *_lent(parents))
         if status != DONE:
@@ -66,18 +68,18 @@ class Graph(Opened):
         return Tree(values, hops, parents, begins, number, limit)
 
     def near(self, sources: Union[int, Iterable[int]], limit: Optional[int] = None,
-             algebra: Optional[AnyAlgebra] = None) -> Near:
+             algebra: Optional[AnyAlgebra] = None, stop: Optional[Stop] = None) -> Near:
         """The vertices that are reached from the nearest of one or more sources, the best first: their values, hops and parents.
 
         With a limit it is by `within`, and else by `shortest`, unless an algebra is given. It costs what it returns: less than a
         tree does, if the limit reaches only a part of the graph.
 
-        Raises NoVertex, NotANumber, NoAlgebra, OutOfMemory or Closed.
+        Raises NoVertex, NotANumber, NoAlgebra, OutOfMemory, Closed, or Stopped if the stop is set before.
         """
         usual = Algebra.SHORTEST if limit is None else Algebra.WITHIN
         number, bound = question_of(usual if algebra is None else algebra, limit)
         begins, count, places = self._sources(sources), c_size_t(), min(self._vertices, FEW)
-        with self._handles.borrowed() as handle:
+        with self._handles.borrowed(stop) as handle:
             for _ in range(2):
                 lists = [room(code, places) for code in "IQII"]
                 status = library().diffuse_graph_near(
@@ -110,18 +112,18 @@ class Graph(Opened):
             raise refusal(status)
 
     def table(self, sources: Union[int, Iterable[int]], targets: Union[int, Iterable[int]],
-              algebra: AnyAlgebra = Algebra.SHORTEST, limit: Optional[int] = None) -> Any:
+              algebra: AnyAlgebra = Algebra.SHORTEST, limit: Optional[int] = None, stop: Optional[Stop] = None) -> Any:
         """The best value from each source to each target: a row for each source, with a place for each target.
 
         A target that no walk with a value leads to has UNREACHED. The table is an array of numpy of two dimensions (uint64),
         or a list of rows without numpy. Each source takes a search, unless the graph was factored.
 
-        Raises NoVertex, NotANumber, NoAlgebra, OutOfMemory or Closed.
+        Raises NoVertex, NotANumber, NoAlgebra, OutOfMemory, Closed, or Stopped if the stop is set before.
         """
         number, bound = question_of(algebra, limit)
         begins, ends = self._sources(sources), self._sources(targets, "targets")
         codes = room("Q", len(begins) * len(ends))
-        with self._handles.borrowed() as handle:
+        with self._handles.borrowed(stop) as handle:
             status = library().diffuse_graph_table(byref(handle), number, bound, *_lent(begins), *_lent(ends), *_lent(codes))
         if status != DONE:
             raise refusal(status)

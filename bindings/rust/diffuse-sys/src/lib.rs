@@ -23,6 +23,18 @@ impl Handle {
     pub const CLOSED: Handle = Handle { at: core::ptr::null_mut(), is_open: false };
 }
 
+/// A stop: closed, or open with a flag of the library's.
+#[repr(C)]
+#[derive(Debug)]
+pub struct StopHandle {
+    pub at: *mut u8,
+    pub is_open: bool,
+}
+
+impl StopHandle {
+    pub const CLOSED: StopHandle = StopHandle { at: core::ptr::null_mut(), is_open: false };
+}
+
 unsafe extern "C" {
     pub fn diffuse_graph_open(vertices: u32, arcs: *const Arc, n_arcs: usize, graph: *mut Handle) -> i32;
     pub fn diffuse_graph_read(bytes: *const u8, n_bytes: usize, graph: *mut Handle, line: *mut u64) -> i32;
@@ -99,5 +111,10 @@ unsafe extern "C" {
     ) -> i32;
     pub fn diffuse_graph_factor(graph: *mut Handle, algebra: u32) -> i32;
     pub fn diffuse_graph_reweigh(graph: *mut Handle, arcs: *const Arc, n_arcs: usize, second: *mut Handle) -> i32;
+    pub fn diffuse_stop_new(stop: *mut StopHandle) -> i32;
+    pub fn diffuse_graph_stop_by(graph: *mut Handle, stop: *mut StopHandle) -> i32;
+    pub fn diffuse_stop_set(stop: *mut StopHandle) -> i32;
+    pub fn diffuse_stop_clear(stop: *mut StopHandle) -> i32;
+    pub fn diffuse_stop_free(stop: *mut StopHandle);
     pub fn diffuse_version() -> u32;
 }

@@ -22,6 +22,8 @@ pub enum Error {
     NoFactors,
     /// An arc joins vertices between which the factors have no link.
     NoLink,
+    /// The stop of the graph was set before there was an answer.
+    Stopped,
     /// A text is longer than 2^32 bytes.
     TextTooLong,
     /// The first fault of a text, and its line, counted from 1.
@@ -80,6 +82,7 @@ pub(crate) fn done(status: i32) -> Result<(), Error> {
         17 => Error::NoVertex,
         43 => Error::LimitTooGreat,
         44 => Error::NoLink,
+        45 => Error::Stopped,
         other => Error::Other(other),
     })
 }
@@ -105,6 +108,7 @@ impl fmt::Display for Error {
             Error::TooHeavy => out.write_str("weights that are too great for factors"),
             Error::NoFactors => out.write_str("an algebra without factors"),
             Error::NoLink => out.write_str("an arc between vertices between which the factors have no link"),
+            Error::Stopped => out.write_str("stopped before there was an answer"),
             Error::TextTooLong => out.write_str("a text of more than 2^32 bytes"),
             Error::Text { fault, line } => write!(out, "fault {} in line {line}", *fault as i32),
             Error::Other(status) => write!(out, "status {status}"),

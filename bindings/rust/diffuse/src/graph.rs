@@ -1,6 +1,6 @@
 use crate::error::{self, Error};
 use crate::tree::{Label, Tree, Wrong};
-use crate::{Algebra, Arc, Route, Table};
+use crate::{Algebra, Arc, Route, Stop, Table};
 use diffuse_sys::*;
 use std::cell::UnsafeCell;
 use std::fmt;
@@ -49,6 +49,17 @@ impl Graph {
         // SAFETY: a `Graph` is not `Sync`, so no other call uses its handle during this one; this holds for all calls below.
         error::done(unsafe { diffuse_graph_share(self.handle.get(), second.handle.get()) })?;
         Ok(second)
+    }
+
+    /// From now on routes, trees, tables and near answers of this graph end with [`Error::Stopped`] once the stop is set; with none
+    /// they never do. A graph that [`share`](Graph::share) or [`reweigh`](Graph::reweigh) makes has none.
+    pub fn stop_by(&self, stop: Option<&Stop>) -> Result<(), Error> {
+        let mut none = StopHandle::CLOSED;
+        // SAFETY: as in `share`; the lock of the stop is held, or the closed one is in use nowhere else.
+        error::done(match stop {
+            Some(stop) => stop.with(|handle| unsafe { diffuse_graph_stop_by(self.handle.get(), handle) }),
+            None => unsafe { diffuse_graph_stop_by(self.handle.get(), &mut none) },
+        })
     }
 
     /// How many vertices there are. They are numbered from 1.

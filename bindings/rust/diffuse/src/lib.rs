@@ -25,6 +25,7 @@ mod algebra;
 mod error;
 mod graph;
 mod route;
+mod stop;
 mod table;
 mod tree;
 
@@ -33,6 +34,7 @@ pub use diffuse_sys::Arc;
 pub use error::{Error, TextFault};
 pub use graph::Graph;
 pub use route::Route;
+pub use stop::Stop;
 pub use table::Table;
 pub use tree::{Label, Reason, Tree, Wrong};
 

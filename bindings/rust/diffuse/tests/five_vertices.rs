@@ -1,5 +1,5 @@
 //! The five vertices of the README, all worked out by hand, and each refusal.
-use diffuse::{Algebra, Arc, Error, Graph, Label, Reason, Route, TextFault, Tree, Wrong, version};
+use diffuse::{Algebra, Arc, Error, Graph, Label, Reason, Route, Stop, TextFault, Tree, Wrong, version};
 use std::thread;
 
 const TEXT: &[u8] = b"p sp 5 7\na 1 2 4\na 1 3 1\na 3 2 2\na 2 4 5\na 3 4 8\na 4 4 0\na 5 1 3\n";
@@ -160,6 +160,27 @@ fn each_refusal() {
         assert_eq!(Graph::read(text).unwrap_err(), Error::Text { fault, line }, "{}", text.escape_ascii());
     }
     assert_eq!(Graph::read(b"p sp 5 1\n").unwrap_err().to_string(), "fault 19 in line 2");
+}
+
+#[test]
+fn a_stop_ends_searches() {
+    let chain: Vec<Arc> = (1..100_000).map(|v| arc(v, v + 1, 1)).collect();
+    let (graph, stop) = (Graph::open(100_000, &chain).unwrap(), Stop::new().unwrap());
+    graph.stop_by(Some(&stop)).unwrap();
+    std::thread::scope(|scope| {
+        scope.spawn(|| stop.set());
+    });
+    assert_eq!(graph.route(Algebra::Shortest, 1, 100_000), Err(Error::Stopped));
+    assert_eq!(graph.tree(Algebra::Widest, &[1]).unwrap_err(), Error::Stopped);
+    assert_eq!(graph.near(Algebra::Hops, &[1]).unwrap_err(), Error::Stopped);
+    assert_eq!(graph.table(Algebra::Reach, &[1], &[2]).unwrap_err(), Error::Stopped);
+    assert_eq!(Error::Stopped.to_string(), "stopped before there was an answer");
+    stop.clear();
+    assert_eq!(graph.route(Algebra::Shortest, 1, 100_000).unwrap().unwrap().code, 99_999);
+    stop.set();
+    assert_eq!(graph.share().unwrap().route(Algebra::Shortest, 1, 100_000).unwrap().unwrap().code, 99_999);
+    graph.stop_by(None).unwrap();
+    assert_eq!(graph.route(Algebra::Shortest, 1, 100_000).unwrap().unwrap().code, 99_999);
 }
 
 #[test]

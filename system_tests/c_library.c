@@ -236,6 +236,44 @@ static clock_t near_time(struct diffuse_graph *graph) {
     return least;
 }
 
+/* A tree within a limit. */
+struct lists {
+    uint64_t codes[PLACES];
+    uint32_t hops[PLACES], parents[PLACES];
+};
+static struct lists by_search_lists, by_factors_lists;
+
+static void tree_within(struct diffuse_graph *graph, uint64_t limit, struct lists *l) {
+    static const uint32_t MIDDLE = PLACES / 2;
+    memset(l, 7, sizeof *l);
+    if (diffuse_graph_tree(graph, DIFFUSE_ALGEBRA_WITHIN, limit, &MIDDLE, 1, l->codes, PLACES, l->hops, PLACES, l->parents, PLACES) != DIFFUSE_STATUS_DONE)
+        printf("no tree within %lu\n", (unsigned long)limit);
+}
+
+/* The least time of ten small trees, of some runs. */
+static clock_t small_tree_time(struct diffuse_graph *graph) {
+    clock_t least = 0;
+    for (int run = 0; run < 10; run++) {
+        clock_t before = clock();
+        for (int i = 0; i < 10; i++) tree_within(graph, 2000, &by_search_lists);
+        clock_t took = clock() - before;
+        if (run == 1 || (run > 1 && took < least)) least = took;
+    }
+    return least;
+}
+
+/* Trees by factors are those by searches, small and large, and small ones take hardly longer. */
+static void small_trees(struct diffuse_graph *searched, struct diffuse_graph *factored) {
+    static const uint64_t LIMITS[] = {0, 1, 100, 500, 1000, 2000, 4000, 8000, 16000, 1000000000};
+    for (size_t i = 0; i < sizeof LIMITS / sizeof *LIMITS; i++) {
+        tree_within(searched, LIMITS[i], &by_search_lists);
+        tree_within(factored, LIMITS[i], &by_factors_lists);
+        if (memcmp(&by_search_lists, &by_factors_lists, sizeof by_search_lists) != 0) printf("another tree within %lu\n", (unsigned long)LIMITS[i]);
+    }
+    clock_t by_search = small_tree_time(searched), by_factors = small_tree_time(factored);
+    if (by_factors > 2 * by_search) printf("slower trees: %ld clocks, and %ld by searches\n", (long)by_factors, (long)by_search);
+}
+
 /* Routes by factors are those by searches, near and far, and near ones take hardly longer. */
 static int near(void) {
     struct diffuse_graph searched = DIFFUSE_CLOSED, factored = DIFFUSE_CLOSED;
@@ -247,6 +285,7 @@ static int near(void) {
     }
     clock_t by_search = near_time(&searched), by_factors = near_time(&factored);
     if (by_factors > 2 * by_search) printf("slower: %ld clocks, and %ld by searches\n", (long)by_factors, (long)by_search);
+    small_trees(&searched, &factored);
     printf("near\n");
     diffuse_graph_close(&searched);
     diffuse_graph_close(&factored);

@@ -461,6 +461,102 @@ static void unwanted_lists(void) {
     }
 }
 
+/* A chain of LONG vertices, whose searches take more steps than lie between two looks at a stop. */
+enum { LONG = 200000 };
+static struct diffuse_arc *chain;
+static uint64_t *codes_of;
+static uint32_t *room_of;
+
+static void open_chain(void) {
+    chain = (struct diffuse_arc *)malloc((LONG - 1) * sizeof *chain);
+    codes_of = (uint64_t *)malloc(LONG * sizeof *codes_of);
+    room_of = (uint32_t *)malloc(LONG * sizeof *room_of);
+    for (uint32_t v = 1; v < LONG; v++) chain[v - 1].tail = v, chain[v - 1].head = v + 1, chain[v - 1].weight = 1;
+    open(chain, LONG, LONG - 1);
+}
+
+/* What a route, a tree, what is near and a table of the chain return, by an algebra; nothing is written unless they are done. */
+static void ask_chain(struct diffuse_graph *of, enum diffuse_algebra by, enum diffuse_status wanted) {
+    static const uint32_t LAST = LONG;
+    size_t count = 7;
+    codes_of[LONG - 1] = code = hops = room_of[0] = 77;
+    /* from another vertex, since a search that has come past its target goes on to answer */
+    IS(wanted, diffuse_graph_route(of, by, 0, wanted == DIFFUSE_STATUS_DONE ? 1 : 2, LONG, &code, &hops, room_of, LONG));
+    IS(wanted == DIFFUSE_STATUS_DONE ? LONG - 1 : 77, hops);
+    IS(wanted == DIFFUSE_STATUS_DONE ? 1 : 77, room_of[0]);
+    IS(wanted == DIFFUSE_STATUS_DONE, code != 77);
+    IS(wanted, diffuse_graph_tree(of, by, 0, &ONE, 1, codes_of, LONG, NULL, 0, NULL, 0));
+    IS(wanted == DIFFUSE_STATUS_DONE, codes_of[LONG - 1] != 77);
+    codes_of[LONG - 1] = 77;
+    IS(wanted, diffuse_graph_near(of, by, 0, &ONE, 1, NULL, 0, codes_of, LONG, NULL, 0, NULL, 0, &count));
+    IS(wanted == DIFFUSE_STATUS_DONE ? LONG : 7, count);
+    IS(wanted == DIFFUSE_STATUS_DONE, codes_of[LONG - 1] != 77);
+    code = 77;
+    IS(wanted, diffuse_graph_table(of, by, 0, &ONE, 1, &LAST, 1, &code, 1));
+    IS(wanted == DIFFUSE_STATUS_DONE, code != 77);
+}
+
+static struct diffuse_stop stop = DIFFUSE_CLOSED;
+
+/* Asks for trees until one is stopped, on a thread of its own. */
+static void *ask_until_stopped(void *found) {
+    enum diffuse_status status = DIFFUSE_STATUS_DONE;
+    for (int i = 0; i < 100000 && status == DIFFUSE_STATUS_DONE; i++)
+        status = diffuse_graph_tree(&graph, DIFFUSE_ALGEBRA_SHORTEST, 0, &ONE, 1, codes_of, LONG, NULL, 0, NULL, 0);
+    *(enum diffuse_status *)found = status;
+    return NULL;
+}
+
+static void stops(void) {
+    struct diffuse_stop none = DIFFUSE_CLOSED;
+    enum diffuse_status found = DIFFUSE_STATUS_DONE;
+    pthread_t thread;
+    diffuse_graph_close(&graph);
+    IS(DIFFUSE_STATUS_CLOSED, diffuse_stop_set(&stop));
+    IS(DIFFUSE_STATUS_CLOSED, diffuse_stop_clear(&stop));
+    is_short_of_memory = 1;
+    IS(DIFFUSE_STATUS_MEMORY, diffuse_stop_new(&stop));
+    is_short_of_memory = 0;
+    IS(DIFFUSE_STATUS_DONE, diffuse_stop_new(&stop));
+    IS(DIFFUSE_STATUS_OPEN, diffuse_stop_new(&stop));
+    IS(DIFFUSE_STATUS_CLOSED, diffuse_graph_stop_by(&graph, &stop));
+    open_chain();
+    IS(DIFFUSE_STATUS_DONE, diffuse_graph_stop_by(&graph, &stop));
+    for (int by = 0; by < 4; by++) {
+        ask_chain(&graph, (enum diffuse_algebra)by, DIFFUSE_STATUS_DONE);
+        IS(DIFFUSE_STATUS_DONE, diffuse_stop_set(&stop));
+        ask_chain(&graph, (enum diffuse_algebra)by, DIFFUSE_STATUS_STOPPED);
+        IS(DIFFUSE_STATUS_DONE, diffuse_stop_clear(&stop));
+    }
+    IS(DIFFUSE_STATUS_DONE, diffuse_stop_set(&stop));
+    code = 77; /* a near route is found before the stop is looked at */
+    IS(DIFFUSE_STATUS_DONE, diffuse_graph_route(&graph, DIFFUSE_ALGEBRA_SHORTEST, 0, 1, 4, &code, &hops, room, 8));
+    IS(3, code);
+    IS(DIFFUSE_STATUS_NO_VERTEX, diffuse_graph_route(&graph, DIFFUSE_ALGEBRA_SHORTEST, 0, 0, 4, &code, &hops, room, 8));
+    diffuse_graph_close(&second);
+    IS(DIFFUSE_STATUS_DONE, diffuse_graph_share(&graph, &second));
+    ask_chain(&second, DIFFUSE_ALGEBRA_SHORTEST, DIFFUSE_STATUS_DONE);
+    IS(DIFFUSE_STATUS_DONE, diffuse_graph_stop_by(&graph, &none));
+    ask_chain(&graph, DIFFUSE_ALGEBRA_SHORTEST, DIFFUSE_STATUS_DONE);
+    IS(DIFFUSE_STATUS_DONE, diffuse_graph_stop_by(&graph, &stop));
+    IS(DIFFUSE_STATUS_DONE, diffuse_stop_clear(&stop));
+    IS(0, pthread_create(&thread, NULL, ask_until_stopped, &found));
+    IS(DIFFUSE_STATUS_DONE, diffuse_stop_set(&stop));
+    pthread_join(thread, NULL);
+    IS(DIFFUSE_STATUS_STOPPED, found);
+    IS(DIFFUSE_STATUS_DONE, diffuse_graph_factor(&graph, DIFFUSE_ALGEBRA_SHORTEST));
+    IS(DIFFUSE_STATUS_STOPPED, diffuse_graph_tree(&graph, DIFFUSE_ALGEBRA_SHORTEST, 0, &ONE, 1, codes_of, LONG, NULL, 0, NULL, 0));
+    IS(DIFFUSE_STATUS_DONE, diffuse_graph_tree(&graph, DIFFUSE_ALGEBRA_WITHIN, 9, &ONE, 1, codes_of, LONG, NULL, 0, NULL, 0));
+    IS(9, codes_of[9]);
+    IS(DIFFUSE_UNREACHED, codes_of[10]);
+    diffuse_stop_free(&stop);
+    diffuse_stop_free(&stop);
+    IS(DIFFUSE_STATUS_STOPPED, diffuse_graph_tree(&graph, DIFFUSE_ALGEBRA_SHORTEST, 0, &ONE, 1, codes_of, LONG, NULL, 0, NULL, 0));
+    diffuse_graph_close(&second);
+    diffuse_graph_close(&graph);
+    free(chain), free(codes_of), free(room_of);
+}
+
 /* Each status and each reason has a text of its own. */
 static void texts(void) {
     int statuses = 0, reasons = 0;
@@ -473,7 +569,7 @@ static void texts(void) {
                 IS(0, strcmp(diffuse_reason_text((uint32_t)i), diffuse_reason_text(0)));
         }
     }
-    IS(22, statuses);
+    IS(23, statuses);
     IS(6, reasons);
 }
 
@@ -491,6 +587,7 @@ static void *all(void *nothing) {
     factors();
     factors_once();
     reweighs();
+    stops();
     texts();
     IS(DIFFUSE_VERSION, diffuse_version());
     diffuse_graph_close(&graph);

@@ -51,6 +51,15 @@ int main() {
     expect(refused(DIFFUSE_STATUS_NO_LINK, [&] { graph.reweigh({{4, 5, 1}}); }), "no link");
     diffuse::graph second = graph.share();
     std::thread([&] { expect(second.route(1, 4).code == 8, "share"); }).join();
+    diffuse::stop stop;
+    second.stop_by(stop);
+    stop.set();
+    expect(refused(DIFFUSE_STATUS_STOPPED, [&] { second.table({1}, {4}); }), "stopped");
+    stop.clear();
+    expect(second.table({1}, {4}) == codes({8}), "a stop that is cleared");
+    stop.set();
+    second.stop_by_none();
+    expect(second.table({1}, {4}) == codes({8}), "no stop");
     diffuse::graph moved = std::move(graph);
     expect(moved.route(1, 4).code == 8, "move");
     graph = std::move(moved);

@@ -5,7 +5,8 @@ use crate::lists::NONE;
 /// A vertex in the assembly tree.
 #[derive(Clone, Copy)]
 pub(crate) struct TreeNode {
-    /// The vertex that it was merged into, or that it was eliminated with; `NONE` if it became an element of its own.
+    /// The vertex that it was merged into, or that it was eliminated with; `NONE` if it became an
+    /// element of its own.
     pub(crate) principal: u32,
     /// The vertex whose element absorbed its own, or the only member of its own; `NONE` at a root.
     pub(crate) parent: u32,

@@ -2,19 +2,20 @@
 ghost use Rattle.std.specs.Prelude.{◌↔◌, IsTrue};
 ghost use Rattle.elimination_order.specs.Bounds.{IsTooDense};
 
-/// Links for each vertex. Road networks make 2 to 6, a wheel 3, twenty hubs over a path 21, a grid of 512 by 512 makes
-/// 34 and one of 1,024 by 1,024 makes 42; a random graph of degree 4 with 100,000 vertices 2,500.
+/// Links for each vertex. Road networks make 2 to 6, a wheel 3, twenty hubs over a path 21, a grid
+/// of 512 by 512 makes 34 and one of 1,024 by 1,024 makes 42; a random graph of degree 4 with
+/// 100,000 vertices 2,500.
 const LINKS_A_VERTEX: u64 = 64;
 
 /// Links besides, so that small graphs are in: a complete one of 175 vertices, but not of 176.
 const MORE_LINKS: u64 = 4096;
 
-/// Triangles for each vertex, which are the time that it takes to put walks at the links. Road networks make up to 160,
-/// a grid of 512 by 512 makes 3,900 and one of 1,024 by 1,024 makes 9,000.
+/// Triangles for each vertex, which are the time that it takes to put walks at the links. Road
+/// networks make up to 160, a grid of 512 by 512 makes 3,900 and one of 1,024 by 1,024 makes 9,000.
 const TRIANGLES_A_VERTEX: u64 = 8192;
 
-/// Entries of lists looked at, for each vertex and arc. Graphs that are factored need up to 14; it is a bound of the
-/// time where many vertices are joined to two of many hubs.
+/// Entries of lists looked at, for each vertex and arc. Graphs that are factored need up to 14; it
+/// is a bound of the time where many vertices are joined to two of many hubs.
 const WORK_AN_ENTRY: u64 = 64;
 
 /// Counts of an elimination.

@@ -18,7 +18,8 @@ struct Kept {
 }
 
 impl Elimination {
-    /// Finds how many vertices each element of a member has outside the new one: as many as before, less the member.
+    /// Finds how many vertices each element of a member has outside the new one: as many as before,
+    /// less the member.
     fn leave_elements(&mut self, mark: u32, node: Node) {
         let elements = node.elements();
         for j in elements.start..elements.end {
@@ -62,7 +63,8 @@ impl Elimination {
         kept
     }
 
-    /// Keeps the elements of a member that have vertices outside the new one, which absorbs the others.
+    /// Keeps the elements of a member that have vertices outside the new one, which absorbs the
+    /// others.
     fn keep_elements(&mut self, pivot: Pivot, elements: Span, kept: &mut Kept) {
         for k in elements.start..elements.end {
             let e = self.graph.listed(k);
@@ -79,8 +81,8 @@ impl Elimination {
         }
     }
 
-    /// Brings the list and the degree of a member up to date. One with no neighbours but the other members is
-    /// eliminated with the pivot.
+    /// Brings the list and the degree of a member up to date. One with no neighbours but the other
+    /// members is eliminated with the pivot.
     fn update(&mut self, pivot: &mut Pivot, v: u32) -> Result<(), Memory> {
         let node = self.graph.node(v);
         self.counts.add_work(node.list().len());

@@ -20,8 +20,8 @@ pub(crate) struct Elimination {
     pub(crate) counts: Counts,
     /// How many arcs the graph has.
     arcs: u32,
-    /// The vertices in the order in which they went: each before the one that it was merged into, and each element
-    /// before the one that absorbed it.
+    /// The vertices in the order in which they went: each before the one that it was merged into,
+    /// and each element before the one that absorbed it.
     pub(crate) eliminated: Vec<u32>,
     pub(crate) tree: Vec<TreeNode>,
     /// How many vertices are left.
@@ -74,8 +74,8 @@ impl Elimination {
         }
     }
 
-    /// Counts the links of the vertices that a pivot eliminates: to the members of its element, to those of them that
-    /// go after it, and to each dense row.
+    /// Counts the links of the vertices that a pivot eliminates: to the members of its element, to
+    /// those of them that go after it, and to each dense row.
     fn count(&mut self, pivot: Pivot) {
         let dense = self.graph.dense.len() as u64;
         let others = u64::from(pivot.degree).saturating_add(dense);

@@ -39,7 +39,8 @@ impl HashBuckets {
         put(&mut self.firsts, bucket_of(hash), v);
     }
 
-    /// The first vertex of the bucket of a hash, which is empty from then on; `NONE` if it was before.
+    /// The first vertex of the bucket of a hash, which is empty from then on; `NONE` if it was
+    /// before.
     #[inline]
     pub(crate) fn take(&mut self, hash: u32) -> u32 {
         let first = at(&self.firsts, bucket_of(hash));

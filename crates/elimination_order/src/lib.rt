@@ -1,13 +1,15 @@
 //! An order in which the vertices of a graph are eliminated, so that few links come about.
 //!
-//! It is by approximate minimum degree (Amestoy, Davis and Duff, SIAM J. Matrix Anal. Appl. 17, 1996), over a quotient
-//! graph: an eliminated vertex becomes an element, whose members are neighbours of each other with no list of that;
-//! degrees are upper bounds; an element that another one contains is absorbed; indistinguishable vertices are merged
-//! into one, a supervariable; and dense rows, vertices with very many neighbours, go last. The order is a postorder of
-//! the assembly tree.
+//! It is by approximate minimum degree (Amestoy, Davis and Duff, SIAM J. Matrix Anal. Appl. 17,
+//! 1996), over a quotient graph: an eliminated vertex becomes an element, whose members are
+//! neighbours of each other with no list of that; degrees are upper bounds; an element that another
+//! one contains is absorbed; indistinguishable vertices are merged into one, a supervariable; and
+//! dense rows, vertices with very many neighbours, go last. The order is a postorder of the
+//! assembly tree.
 //!
-//! Any order gives right answers, so nothing is claimed of this one: who uses it checks that it has each vertex once.
-//! The links and triangles that it makes are counted as it comes about, and a graph with too many is given up.
+//! Any order gives right answers, so nothing is claimed of this one: who uses it checks that it has
+//! each vertex once. The links and triangles that it makes are counted as it comes about, and a
+//! graph with too many is given up.
 #![tactic(auto)]
 
 mod assembly_tree;

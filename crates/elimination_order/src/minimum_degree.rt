@@ -11,14 +11,16 @@ use std::alloc::Global;
 /// An order of elimination, and what it makes.
 #[derive(Drop)]
 pub struct Ordered {
-    /// The vertices in the order in which they are eliminated; none if the graph is too dense to factor.
+    /// The vertices in the order in which they are eliminated; none if the graph is too dense to
+    /// factor.
     pub order: Option<Vec<Vertex>>,
-    /// What the elimination makes, if each dense row is a neighbour of every vertex; what it had made when it was given
-    /// up, if there is no order.
+    /// What the elimination makes, if each dense row is a neighbour of every vertex; what it had
+    /// made when it was given up, if there is no order.
     pub counts: Counts,
 }
 
-/// An order of the vertices of a graph by approximate minimum degree; none if the graph is too dense to factor.
+/// An order of the vertices of a graph by approximate minimum degree; none if the graph is too
+/// dense to factor.
 ///
 /// It takes a few searches' time, and about as much memory as the graph with all its links.
 ///

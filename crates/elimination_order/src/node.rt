@@ -4,8 +4,8 @@ use crate::lists::{Span, stored};
 
 /// A vertex that is left, a supervariable, or an element.
 ///
-/// Its list lies in one array for all: the vertices that are its neighbours by edges of the graph, and then the elements
-/// that it is a member of. The list of an element has its members alone.
+/// Its list lies in one array for all: the vertices that are its neighbours by edges of the graph,
+/// and then the elements that it is a member of. The list of an element has its members alone.
 #[derive(Clone, Copy)]
 pub(crate) struct Node {
     start: u32,
@@ -13,7 +13,8 @@ pub(crate) struct Node {
     elements: u32,
     /// How many vertices it stands for; 0 once it is eliminated or merged.
     pub(crate) size: u32,
-    /// A bound of its degree; of an element how many vertices its members stand for, and 0 once it is absorbed.
+    /// A bound of its degree; of an element how many vertices its members stand for, and 0 once it
+    /// is absorbed.
     pub(crate) degree: u32,
     /// When it was last met.
     pub(crate) mark: u32,

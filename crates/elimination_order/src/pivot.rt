@@ -20,7 +20,8 @@ pub(crate) struct Pivot {
 }
 
 impl Elimination {
-    /// Makes the vertices of a list that are left members of the newest element. Says how many the new ones stand for.
+    /// Makes the vertices of a list that are left members of the newest element. Says how many the
+    /// new ones stand for.
     fn gather(&mut self, list: Span, mark: u32) -> Result<u32, Memory> {
         let mut degree = 0u32;
         for k in list.start..list.end {
@@ -37,7 +38,8 @@ impl Elimination {
         Ok(degree)
     }
 
-    /// Begins with a vertex: gathers its neighbours, and absorbs the elements that it is a member of.
+    /// Begins with a vertex: gathers its neighbours, and absorbs the elements that it is a member
+    /// of.
     pub(crate) fn begin(&mut self, vertex: u32) -> Result<Pivot, Memory> {
         let mark = self.graph.new_mark();
         let node = self.graph.node(vertex);
@@ -69,8 +71,8 @@ impl Elimination {
         })
     }
 
-    /// Puts a member back into the degree lists, with a bound of its degree: of that outside the element and in it, and
-    /// of the vertices that are left.
+    /// Puts a member back into the degree lists, with a bound of its degree: of that outside the
+    /// element and in it, and of the vertices that are left.
     fn restore(&mut self, pivot: Pivot, v: u32) {
         let left = self.left;
         let node = self.graph.node_mut(v);

@@ -1,5 +1,5 @@
-//! A postorder of the assembly tree: each element after those below it. It makes the same links, and those that are
-//! looked at together lie together.
+//! A postorder of the assembly tree: each element after those below it. It makes the same links,
+//! and those that are looked at together lie together.
 
 use crate::assembly_tree::TreeNode;
 use crate::elimination::Elimination;

@@ -64,7 +64,8 @@ impl QuotientGraph {
         stored(self.nodes.len())
     }
 
-    /// Makes a row the list of a vertex, with each neighbour once, from a place on. Says where it ends.
+    /// Makes a row the list of a vertex, with each neighbour once, from a place on. Says where it
+    /// ends.
     fn take_row(&mut self, v: u32, row: Span, start: usize) -> usize {
         let mark = self.new_mark();
         let mut end = start;
@@ -112,7 +113,8 @@ impl QuotientGraph {
         Ok(())
     }
 
-    /// Takes each vertex with a dense row out: with more than 16 neighbours, and more than 10 times the root of n.
+    /// Takes each vertex with a dense row out: with more than 16 neighbours, and more than 10 times
+    /// the root of n.
     fn remove_all_dense(&mut self) -> Result<(), Memory> {
         let n = self.vertices();
         let square = u64::from(n).saturating_mul(100);

@@ -77,12 +77,14 @@ pub fn chain_of(rt: &(impl Abort + AllocGlobal), n: u32, weight: u32) -> Graph {
     graph_of(rt, n, &arcs)
 }
 
-/// A better way to 3 through 5, which is in another of two or three blocks, and an arc on from 3 to 4.
+/// A better way to 3 through 5, which is in another of two or three blocks, and an arc on from 3 to
+/// 4.
 pub fn better_through_five(rt: &(impl Abort + AllocGlobal)) -> Graph {
     graph_of(rt, 6, &[(1, 3, 10), (1, 5, 1), (5, 3, 1), (3, 4, 1)])
 }
 
-/// Eight vertices in two chains: a dear one in the order of their numbers, and a cheap one along a walk.
+/// Eight vertices in two chains: a dear one in the order of their numbers, and a cheap one along a
+/// walk.
 pub fn two_chains(rt: &(impl Abort + AllocGlobal), walk: [u32; 8]) -> Graph {
     let mut arcs = Vec::new(rt.alloc());
     for k in 0..7 {

@@ -247,7 +247,8 @@ fn assert_closes<A: PathAlgebra>(
     assert!(rt; floor.close(seats).is_ok());
 }
 
-/// Lets two places take steps in turn, and asserts the result of each, and that both close the floor.
+/// Lets two places take steps in turn, and asserts the result of each, and that both close the
+/// floor.
 fn assert_turns<A: PathAlgebra<Value = u64>>(
     rt: &(impl Abort + AllocGlobal),
     algebra: A,

@@ -279,7 +279,8 @@ fn two_parts_by_hand(rt: HostRuntime) {
     }
 }
 
-/// Asserts the counts of two parts before a message goes over and a signal comes back, and after it.
+/// Asserts the counts of two parts before a message goes over and a signal comes back, and after
+/// it.
 fn assert_tallies<A: PathAlgebra>(rt: &(impl Abort + AllocGlobal), parts: &mut [Part<'_, A>]) {
     let (first, rest) = parts.split_first_mut().expect(rt, "two parts");
     let second = rest.first_mut().expect(rt, "two parts");

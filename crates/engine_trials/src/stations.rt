@@ -1,4 +1,5 @@
-//! Diffusions that stations answer together. A call that was refused memory is made once more, so a diffusion ends the same if any one growth is refused.
+//! Diffusions that stations answer together. A call that was refused memory is made once more, so a
+//! diffusion ends the same if any one growth is refused.
 ghost use Rattle.std.specs.Prelude.{◌≡◌, ℕ, ◌+◌, ◌<◌, Bool, [], length};
 ghost use Rattle.std.specs.List.{All};
 ghost use Rattle.path_algebra.specs.Given.{reach};
@@ -59,8 +60,9 @@ pub fn opened<'g, A: PathAlgebra>(
     }
 }
 
-/// How a diffusion goes on: the order in which parts take their items, by what weight a shard may run ahead of the others, if it is held back, how many items
-/// parts take in a turn, and how many turns there are.
+/// How a diffusion goes on: the order in which parts take their items, by what weight a shard may
+/// run ahead of the others, if it is held back, how many items parts take in a turn, and how many
+/// turns there are.
 #[derive(Clone, Copy)]
 struct Schedule {
     order: QueueOrder,
@@ -314,7 +316,8 @@ fn any_plan(rt: HostRuntime) {
     assert_answer(&rt, Shortest, &by_table(&rt), 2, 200, SHORTEST);
 }
 
-/// The answer of reachability: in every schedule each counter is one, and one more for each arc whose tail is reached.
+/// The answer of reachability: in every schedule each counter is one, and one more for each arc
+/// whose tail is reached.
 fn reached(
     rt: &(impl Abort + AllocGlobal),
     graph: &Graph,
@@ -370,7 +373,8 @@ fn reach_accounts_from_other_sources(rt: HostRuntime) {
     assert_reached(&rt, &plan, 5, 1, [Some(0); 5], 8);
 }
 
-/// The answer in one shard, best first: each counter is one, and one more for each arc in which some walk with a value ends.
+/// The answer in one shard, best first: each counter is one, and one more for each arc in which
+/// some walk with a value ends.
 fn best_alone<A: PathAlgebra>(
     rt: &(impl Abort + AllocGlobal),
     algebra: A,
@@ -412,7 +416,8 @@ fn assert_best_alone<A: PathAlgebra>(
 
 #[test]
 fn best_first_accounts(rt: HostRuntime) {
-    // From vertex 1 six arcs, from 4 the loop, from 5 all seven; two of the six would pass the limit.
+    // From vertex 1 six arcs, from 4 the loop, from 5 all seven; two of the six would pass the
+    // limit.
     assert_best_alone(&rt, Shortest, 1, 7);
     assert_best_alone(&rt, Widest, 1, 7);
     assert_best_alone(&rt, Within { limit: 5 }, 1, 4);
@@ -438,7 +443,8 @@ fn assert_no_greater(rt: &impl Abort, now: Option<u64>, before: Option<u64>) {
     }
 }
 
-/// Asserts that the label of a vertex of the second of three stations never grows, and what it is in the end.
+/// Asserts that the label of a vertex of the second of three stations never grows, and what it is
+/// in the end.
 fn assert_never_grows<A: PathAlgebra<Value = u64>>(
     rt: &impl Abort,
     floor: &Floor<A>,
@@ -469,7 +475,8 @@ fn peek_never_grows(rt: HostRuntime) {
     assert_never_grows(&rt, &floor, stations, 4, Some(8));
 }
 
-/// What comes back if the station of shard 1 is missing, and no earlier shard's is: this many stations.
+/// What comes back if the station of shard 1 is missing, and no earlier shard's is: this many
+/// stations.
 fn refused<'g, A: PathAlgebra>(
     rt: &(impl Abort + AllocGlobal),
     floor: Floor<A>,
@@ -493,7 +500,8 @@ fn refused<'g, A: PathAlgebra>(
     (floor, stations)
 }
 
-/// The answer of three stations, after it was asked for in vain from the first alone, and from the first and the third.
+/// The answer of three stations, after it was asked for in vain from the first alone, and from the
+/// first and the third.
 fn gathered_at_last<A: PathAlgebra>(
     rt: &(impl Abort + AllocGlobal),
     floor: Floor<A>,

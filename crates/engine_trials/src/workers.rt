@@ -114,7 +114,8 @@ fn assert_gated<A: PathAlgebra>(rt: &(impl Abort + AllocGlobal), algebra: A) {
     assert!(rt; back.stations.len() == 2);
 }
 
-/// Asserts how a worker that may make three turns stops, and after how many, if it was called off before, or was not.
+/// Asserts how a worker that may make three turns stops, and after how many, if it was called off
+/// before, or was not.
 fn assert_called_off<A: PathAlgebra>(
     rt: &(impl Abort + AllocGlobal),
     algebra: A,

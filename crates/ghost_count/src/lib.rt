@@ -1,4 +1,5 @@
-//! A ghost count of how often something happened. Only contracts see it, and it takes no bytes at run time.
+//! A ghost count of how often something happened. Only contracts see it, and it takes no bytes at
+//! run time.
 #![tactic(auto)]
 
 ghost use Rattle.std.specs.Prelude.{◌≡◌, ℕ, ◌+◌};
@@ -6,7 +7,8 @@ ghost use base.Fml.{ftrue};
 
 use std::marker::Model;
 
-/// A count of events. Its number is ghost: only contracts see it, and the methods do nothing at run time.
+/// A count of events. Its number is ghost: only contracts see it, and the methods do nothing at run
+/// time.
 #[derive(Drop)]
 pub struct Count {
     pub ghost total: { ℕ },

@@ -1,5 +1,5 @@
--- The rules of numbers, vertices and graph lines: what is kept of a line is enough for them, and their faults have
--- the numbers 10 to 19.
+-- The rules of numbers, vertices and graph lines: what is kept of a line is enough for them, and
+-- their faults have the numbers 10 to 19.
 use Rattle.std.proofs.Common.{◌≡◌, ℕ, ◌<◌, min, Option, Some, None, option_map, refl, arith, List, take, map, sym, lit<, codes, if◌then◌else◌, ◌≤◌, Bool, Result, Ok, Err}
 use Rattle.std.proofs.lemmas.Grind.{common_steps}
 use Rattle.std.specs.Option.{IfSome}

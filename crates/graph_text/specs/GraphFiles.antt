@@ -17,7 +17,8 @@ abbrev pub roads_before : Option RoadsSoFar → Result RoadsSoFar ℕ
 roads_before None = Err 10
 roads_before (Some s) = Ok s
 
--- a problem line: it is the first, it has four fields, the second is `sp`, then the numbers of vertices and of arcs
+-- a problem line: it is the first, it has four fields, the second is `sp`, then the numbers of
+-- vertices and of arcs
 unfoldable pub gr_problem : Option RoadsSoFar → List Word → Result (Option RoadsSoFar) ℕ
 gr_problem s ws = do
   _ ← unless (is_none s) 11
@@ -27,7 +28,8 @@ gr_problem s ws = do
   announced ← up_to 134217728 (word_at 3 ws).number
   Ok (Some (record { vertices = vertices; announced = announced; arcs = [] }))
 
--- an arc line after the problem line: it is announced, it has four fields, then tail, head and weight
+-- an arc line after the problem line: it is announced, it has four fields, then tail, head and
+-- weight
 unfoldable pub one_arc : RoadsSoFar → List Word → Result RoadsSoFar ℕ
 one_arc roads ws = do
   _ ← unless (nat_lt (length roads.arcs) roads.announced) 18

@@ -1,4 +1,5 @@
--- What the lines of a text say of a graph: each arc line is an arc, and the problem line counts vertices and arcs.
+-- What the lines of a text say of a graph: each arc line is an arc, and the problem line counts
+-- vertices and arcs.
 use Rattle.std.specs.Prelude.{◌≡◌, ℕ, Bool, List, [], ◌∷◌, length, filter, Some, ⊤, codes, bytes_eq}
 use Rattle.road_graph.specs.declared.RoadArc.{RoadArc}
 use Rattle.road_graph.specs.GraphData.{GraphData}
@@ -46,7 +47,8 @@ SayArcs [] (a ∷ as') = ⊥
 SayArcs (l ∷ ls) [] = ⊥
 SayArcs (l ∷ ls) (a ∷ as') = SaysArc l a × SayArcs ls as'
 
--- the arcs of the graph are those of the arc lines, in order, and the one problem line counts vertices and arcs
+-- the arcs of the graph are those of the arc lines, in order, and the one problem line counts
+-- vertices and arcs
 pub record SayGraph (lines : List (List ℕ)) (g : GraphData) : Type 0 where
   pub arcs : SayArcs (arc_lines lines) g.arcs
   pub problem : List ℕ

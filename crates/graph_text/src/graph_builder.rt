@@ -40,7 +40,8 @@ impl GraphBuilder {
         push_item(&mut self.arcs, arc)
     }
 
-    /// Adds the arc of these numbers if it breaks no rule and there is room for it. Else it changes nothing.
+    /// Adds the arc of these numbers if it breaks no rule and there is room for it. Else it changes
+    /// nothing.
     #[tactic(auto, unfolding(crate::specs::GraphFiles::one_arc))]
     pub fn short_arc(&mut self, numbers: (u64, u64, u64)) -> bool
         ensures left { result ≡ false → self.new ≡ self.old }

@@ -70,7 +70,8 @@ impl GraphParser {
         }
     }
 
-    /// Takes a whole arc line if it breaks no rule and there is room for the arc. Else it changes nothing.
+    /// Takes a whole arc line if it breaks no rule and there is room for the arc. Else it changes
+    /// nothing.
     pub fn short(&mut self, letter: u8, numbers: (u64, u64, u64)) -> bool
         ensures left { result ≡ false → self.new ≡ self.old }
         ensures letter { result ≡ true → letter ≡ 97 }

@@ -1,5 +1,5 @@
-//! Theorems about the definitions: a graph that is written is read back, and the lines of a graph file say what the
-//! graph is.
+//! Theorems about the definitions: a graph that is written is read back, and the lines of a graph
+//! file say what the graph is.
 ghost use Rattle.std.specs.Prelude.{◌≡◌, ℕ, List, Ok, false};
 ghost use Rattle.road_graph.specs.GraphData.{GraphData, IsGraph};
 ghost use Rattle.text_lines.specs.Lines.{lines};
@@ -14,8 +14,8 @@ pub fn graph_read_again()
     ensures { (g : GraphData) → IsGraph g → text_read gr_rules (gr_text g) ≡ Ok g }
 {}
 
-/// The arcs of a graph that is read from a text are those of its arc lines, in order. Its one problem line says how many
-/// vertices and arcs there are.
+/// The arcs of a graph that is read from a text are those of its arc lines, in order. Its one
+/// problem line says how many vertices and arcs there are.
 pub fn lines_say_the_graph()
     ensures { (bytes : List ℕ) (g : GraphData) → text_read gr_rules bytes ≡ Ok g →
         SayGraph (lines false bytes) g }

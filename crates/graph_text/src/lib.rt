@@ -1,5 +1,5 @@
-//! Road graphs as files of lines. Readers return the graph of a file or its first fault; the writer gives each graph its
-//! one spelling. Bundles, and questions over a graph, are in the crate above.
+//! Road graphs as files of lines. Readers return the graph of a file or its first fault; the writer
+//! gives each graph its one spelling. Bundles, and questions over a graph, are in the crate above.
 #![tactic(auto)]
 
 mod from_arcs;

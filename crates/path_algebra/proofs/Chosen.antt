@@ -1,4 +1,5 @@
--- A number names one algebra at most, and what holds of each algebra holds of the one that was chosen.
+-- A number names one algebra at most, and what holds of each algebra holds of the one that was
+-- chosen.
 use Rattle.std.proofs.Common.{◌≡◌, ◌↔◌, ℕ, ◌≤◌, ◌^◌, refl, subst, arith}
 use Rattle.path_algebra.specs.Algebra.{Algebra}
 use Rattle.path_algebra.specs.Given.{within}

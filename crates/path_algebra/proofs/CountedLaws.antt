@@ -1,4 +1,5 @@
--- Carrying the arcs in the numbers is right: best numbers are best sums with hops, and arcs that add up are those of parents.
+-- Carrying the arcs in the numbers is right: best numbers are best sums with hops, and arcs that
+-- add up are those of parents.
 use Rattle.std.proofs.Common.{◌≡◌, ℕ, ◌+◌, ◌-◌, ◌*◌, ◌/◌, ◌%◌, ◌<◌, ◌≤◌, ◌^◌, ◌⊎◌, inl, inr, true, min, List, [], ◌∷◌, refl, ap, sym, ◌∙◌, subst, arith, Option, Some, None, le-leb, leb-true}
 use Rattle.std.proofs.Math.Nat.{mul-le-mul_right, mul-le-mul_left, add-mul}
 use Rattle.std.proofs.lemmas.Nat.{div-add-mod'}

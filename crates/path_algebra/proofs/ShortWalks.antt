@@ -199,7 +199,8 @@ module _ (g : GraphData) (cost : ℕ → ℕ) where
         (in_upto g.vertices s in_s.0 in_s.1, all_within (arc_of g a).head p v ((roads.ends a w.0).1) w.2)
 
     module _ (sources : List ℕ) (in_s : (s : ℕ) → Contains sources s → HasVertex g s) where
-      -- from the same sources, with fewer arcs than there are vertices, and no more than one into each vertex
+      -- from the same sources, with fewer arcs than there are vertices, and no more than one into
+      -- each vertex
       pub short_walk : (p : List ℕ) (v : ℕ) → IsWalkFrom g sources p v →
           (q : List ℕ) × IsWalkFrom g sources q v × (length q < g.vertices) × (sum_of_costs g cost q ≤ sum_of_costs g cost p)
           × ((f : ℕ → ℕ) → Bounds f → sum_of_costs g cost q ≤ sum_to f g.vertices)

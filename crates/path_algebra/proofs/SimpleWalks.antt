@@ -208,7 +208,8 @@ module _ (g : GraphData) where
     ]
   ]
 
-  -- a walk from u to v that passes no vertex twice, fewer than n arcs, and no vertex of those before
+  -- a walk from u to v that passes no vertex twice, fewer than n arcs, and no vertex of those
+  -- before
   abbrev IsBeyond : ℕ → List ℕ → ℕ → ℕ → List ℕ → Type 0
   IsBeyond n before u v p = IsSimpleWalk g u p v × ((w : ℕ) → Contains (vertices_of g u p) w → Contains before w → ⊥) × (length p < n)
 

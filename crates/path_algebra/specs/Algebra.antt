@@ -1,9 +1,11 @@
--- What a path algebra is, and what makes it lawful. After Carre, An algebra for network routing problems (1971):
--- choice is a total order here, and composition the extension of a value by one arc.
+-- What a path algebra is, and what makes it lawful. After Carre, An algebra for network routing
+-- problems (1971): choice is a total order here, and composition the extension of a value by one
+-- arc.
 use Rattle.path_algebra.specs.declared.name.AlgebraName.{AlgebraName}
 use Rattle.std.specs.Prelude.{◌≡◌, ℕ, ◌<◌, ◌^◌, ◌⊎◌, Bool, IsTrue, Option, Some}
 
--- the name, the values of walks, how one more arc changes a value, which is no worse, and the codes of values
+-- the name, the values of walks, how one more arc changes a value, which is no worse, and the codes
+-- of values
 pub record Algebra (V : Type 0) : Type 0 where
   pub name : AlgebraName
   pub is_value : V → Bool

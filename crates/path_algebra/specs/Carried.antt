@@ -5,8 +5,8 @@ use Rattle.path_algebra.specs.Algebra.{Algebra}
 use Rattle.path_algebra.specs.Counted.{counted, AreBestInto, CountsFit, IsCountedParent, IsCountedStep}
 use Rattle.path_algebra.specs.Walks.{AreHops, IsBest, IsBestLabel, IsNearer, IsParent}
 
--- the value that a number carries, if there is a number: the one whose code is above the low k bits; none if that is the
--- code of no value
+-- the value that a number carries, if there is a number: the one whose code is above the low k
+-- bits; none if that is the code of no value
 abbrev pub carried_value : {V : Type 0} → Algebra V → ℕ → Option ℕ → Option V
 carried_value A k None = None
 carried_value A k (Some x) = A.value_of (x / 2 ^ k)
@@ -29,8 +29,8 @@ pub record CarryValues {V : Type 0} (A : Algebra V) (g : GraphData) (cost : ℕ 
       IsSome (carried_value A k (Some y)) → AreBestInto (counted cost k) g sources number v →
       IsCountedParent g cost k number v y u ↔ IsParent A g sources v u
 
--- the best values of A are least sums of these costs: on every graph, from all sources and for every k with which the
--- numbers fit, they are carried by the best numbers
+-- the best values of A are least sums of these costs: on every graph, from all sources and for
+-- every k with which the numbers fit, they are carried by the best numbers
 abbrev pub IsCarried : {V : Type 0} → Algebra V → (ℕ → ℕ) → Type 0
 IsCarried A cost = (g : GraphData) (sources : List ℕ) (k : ℕ) → IsGraph g → All (HasVertex g) sources →
     CountsFit g cost k → CarryValues A g cost k sources

@@ -1,4 +1,5 @@
--- The given algebras in one list: their names, numbers and limits, and what holds under the one that was chosen.
+-- The given algebras in one list: their names, numbers and limits, and what holds under the one
+-- that was chosen.
 use Rattle.std.specs.Prelude.{◌≡◌, ℕ, ◌≤◌, ◌^◌, Option, Some, None}
 use Rattle.path_algebra.specs.Algebra.{Algebra}
 use Rattle.path_algebra.specs.Given.{shortest, widest, reach, hops, reliable, within}
@@ -6,15 +7,35 @@ use Rattle.path_algebra.specs.declared.name.AlgebraName.{AlgebraName}
 use Rattle.path_algebra.specs.declared.name.AlgebraName.TheVariants as names
 use Rattle.path_algebra.specs.declared.choice.AlgebraChoice.{AlgebraChoice}
 use Rattle.path_algebra.specs.declared.choice.AlgebraChoice.TheVariants.{Shortest, Widest, Reach, Hops, Reliable, Within}
+use Rattle.path_algebra.specs.declared.counted_sums.Cost.{Cost}
+use Rattle.path_algebra.specs.declared.counted_sums.Cost.TheVariants.{One, Weight}
+use Rattle.path_algebra.specs.declared.shortest.Shortest.{Shortest as ShortestAlgebra}
+use Rattle.path_algebra.specs.declared.widest.Widest.{Widest as WidestAlgebra}
+use Rattle.path_algebra.specs.declared.reach.Reach.{Reach as ReachAlgebra}
+use Rattle.path_algebra.specs.declared.hops.Hops.{Hops as HopsAlgebra}
+use Rattle.path_algebra.specs.declared.reliable.Reliable.{Reliable as ReliableAlgebra}
 
--- this is so of the algebra that was chosen
+-- this is so of the value that is the algebra that was chosen, given what a value of its type means
+abbrev pub OfChosen : AlgebraChoice → ((S V : Type 0) → (S → Algebra V) → S → Type 0) → Type 0
+OfChosen Shortest P = P ShortestAlgebra _ (λ _. shortest) (record {})
+OfChosen Widest P = P WidestAlgebra _ (λ _. widest) (record {})
+OfChosen Reach P = P ReachAlgebra _ (λ _. reach) (record {})
+OfChosen Hops P = P HopsAlgebra _ (λ _. hops) (record {})
+OfChosen Reliable P = P ReliableAlgebra _ (λ _. reliable) (record {})
+OfChosen (Within w) P = P _ _ (λ v. within v.limit) w
+
+-- this is so of what the algebra that was chosen means
 abbrev pub Under : AlgebraChoice → ((V : Type 0) → Algebra V → Type 0) → Type 0
-Under Shortest P = P _ shortest
-Under Widest P = P _ widest
-Under Reach P = P _ reach
-Under Hops P = P _ hops
-Under Reliable P = P _ reliable
-Under (Within w) P = P _ (within w.limit)
+Under chosen P = OfChosen chosen (λ S V meaning algebra. P V (meaning algebra))
+
+-- what an arc costs by it, if best values are least sums of that
+abbrev pub arc_cost_of : AlgebraChoice → Option Cost
+arc_cost_of Shortest = Some Weight
+arc_cost_of Widest = None
+arc_cost_of Reach = None
+arc_cost_of Hops = Some One
+arc_cost_of Reliable = None
+arc_cost_of (Within w) = Some Weight
 
 -- its name
 abbrev pub name_of : AlgebraChoice → AlgebraName
@@ -39,7 +60,8 @@ abbrev pub limit_of : AlgebraChoice → Option ℕ
 limit_of (Within w) = Some w.limit
 limit_of _ = None
 
--- a limit goes with `within`, which needs one up to 2^63, and with no other algebra; none of a caller's own is given
+-- a limit goes with `within`, which needs one up to 2^63, and with no other algebra; none of a
+-- caller's own is given
 abbrev pub GoTogether : AlgebraName → Option ℕ → Type 0
 GoTogether names.Within None = ⊥
 GoTogether names.Within (Some limit) = limit ≤ 2 ^ 63

@@ -1,9 +1,10 @@
--- How whole walks act on values. After Carre, An algebra for network routing problems (1971): composition of routes.
+-- How whole walks act on values. After Carre, An algebra for network routing problems (1971):
+-- composition of routes.
 use Rattle.std.specs.Prelude.{◌≡◌, ℕ, ◌<◌, ◌^◌, Bool, IsTrue, Option, Some, None}
 use Rattle.path_algebra.specs.Algebra.{Algebra, IsOrder}
 
--- what a walk is worth to the values before it: an arc, a walk and another after it, how a walk extends a value, and
--- which of two walks is no worse
+-- what a walk is worth to the values before it: an arc, a walk and another after it, how a walk
+-- extends a value, and which of two walks is no worse
 pub record Composition (V W : Type 0) : Type 0 where
   pub of_arc : ℕ → W  -- of the walk of one arc of this weight
   pub no_walk : W  -- of none, where there is no walk
@@ -16,8 +17,8 @@ abbrev pub applied : {V W : Type 0} → Composition V W → Option V → W → O
 applied C None a = None
 applied C (Some x) a = C.apply x a
 
--- the laws, for all values that `is_value` allows and all weights: walks act on values as their arcs do, one after the
--- other, and a walk that is no worse leaves a value no worse
+-- the laws, for all values that `is_value` allows and all weights: walks act on values as their
+-- arcs do, one after the other, and a walk that is no worse leaves a value no worse
 pub record IsComposition {V W : Type 0} (A : Algebra V) (C : Composition V W) : Type 0 where
   pub ordered : IsOrder C.no_worse
   pub apply_arc : (v : V) (w : ℕ) → IsTrue (A.is_value v) → w < 2 ^ 32 → C.apply v (C.of_arc w) ≡ A.extend v w

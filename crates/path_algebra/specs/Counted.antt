@@ -1,4 +1,5 @@
--- Sums that carry the number of arcs in their low k bits: least number means least sum and, among those, fewest arcs.
+-- Sums that carry the number of arcs in their low k bits: least number means least sum and, among
+-- those, fewest arcs.
 use Rattle.std.specs.Prelude.{◌≡◌, ℕ, zero, suc, ◌+◌, ◌-◌, ◌*◌, ◌/◌, ◌%◌, ◌<◌, ◌≤◌, ◌^◌, ◌↔◌, List, [], ◌∷◌, Contains, Option, Some}
 use Rattle.road_graph.specs.GraphData.{GraphData, HasArc, arc_of}
 use Rattle.path_algebra.specs.Algebra.{Algebra}
@@ -18,7 +19,8 @@ cost_of One w = 1
 abbrev pub counted_cost : (ℕ → ℕ) → ℕ → ℕ → ℕ
 counted_cost cost k w = cost w * 2 ^ k + 1
 
--- the sum of what the arcs cost, times 2^k, and the number of arcs; refused from 2^63 on, and less is better
+-- the sum of what the arcs cost, times 2^k, and the number of arcs; refused from 2^63 on, and less
+-- is better
 abbrev pub counted : (ℕ → ℕ) → ℕ → Algebra ℕ
 counted cost k = limited_sums Own (counted_cost cost k) (2 ^ 63 - 1)
 
@@ -27,8 +29,9 @@ abbrev pub sum_to : (ℕ → ℕ) → ℕ → ℕ
 sum_to f zero = 0
 sum_to f (suc n) = f (suc n) + sum_to f n
 
--- 2^k is above the number of vertices, and the sum of the heaviest arcs that enter each, and one more, times 2^k is
--- at most 2^63: a walk that enters no vertex twice has fewer than 2^k arcs and a number below 2^63
+-- 2^k is above the number of vertices, and the sum of the heaviest arcs that enter each, and one
+-- more, times 2^k is at most 2^63: a walk that enters no vertex twice has fewer than 2^k arcs and a
+-- number below 2^63
 pub record CountsFit (g : GraphData) (cost : ℕ → ℕ) (k : ℕ) : Type 0 where
   pub heaviest : ℕ → ℕ  -- no arc that enters a vertex costs more than this
   pub costs : (a : ℕ) → HasArc g a → cost (arc_of g a).weight ≤ heaviest (arc_of g a).head
@@ -64,8 +67,8 @@ abbrev pub AreBestInto : Algebra ℕ → GraphData → List ℕ → (ℕ → Opt
 AreBestInto A g sources label v =
     (a : ℕ) → HasArc g a → (arc_of g a).head ≡ v → IsBestLabel A g sources (arc_of g a).tail (label (arc_of g a).tail)
 
--- the best numbers are the best values of A with hops and parents: the value above the low k bits, the hops in them, and
--- the parent by the arcs that add up
+-- the best numbers are the best values of A with hops and parents: the value above the low k bits,
+-- the hops in them, and the parent by the arcs that add up
 pub record CarryHops (A : Algebra ℕ) (g : GraphData) (cost : ℕ → ℕ) (k : ℕ) (sources : List ℕ) : Type 0 where
   pub best : (v x : ℕ) → IsBest (counted cost k) g sources v x ↔
       (IsBest A g sources v (x / 2 ^ k) × AreHops A g sources v (x % 2 ^ k))
@@ -77,7 +80,8 @@ pub record CarryHops (A : Algebra ℕ) (g : GraphData) (cost : ℕ → ℕ) (k :
       AreBestInto (counted cost k) g sources number v →
       IsCountedParent g cost k number v y u ↔ IsParent A g sources v u
 
--- the same numbers at every limit: a vertex whose sum is above the limit is unreached, and the others are as without one
+-- the same numbers at every limit: a vertex whose sum is above the limit is unreached, and the
+-- others are as without one
 pub record CarryHopsWithin (limit : ℕ) (g : GraphData) (k : ℕ) (sources : List ℕ) : Type 0 where
   pub best : (v x : ℕ) → x / 2 ^ k ≤ limit → IsBest (counted (λ w. w) k) g sources v x ↔
       (IsBest (within limit) g sources v (x / 2 ^ k) × AreHops (within limit) g sources v (x % 2 ^ k))

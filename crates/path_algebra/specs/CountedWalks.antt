@@ -9,8 +9,8 @@ use Rattle.path_algebra.specs.Algebra.{IsLawful}
 use Rattle.path_algebra.specs.Counted.{counted, counted_cost}
 use Rattle.path_algebra.specs.Laws.{less_is_better, coded_below, limited_sums, limited_laws}
 
--- the sum of what the arcs cost, by their weights, held at 2^64 - 1, which stands for no walk; refused where it passes
--- the limit
+-- the sum of what the arcs cost, by their weights, held at 2^64 - 1, which stands for no walk;
+-- refused where it passes the limit
 abbrev pub limited_walks : (ℕ → ℕ) → ℕ → Composition ℕ ℕ
 limited_walks cost limit = record {
   of_arc = λ w. cost w;

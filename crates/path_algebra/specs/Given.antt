@@ -1,4 +1,5 @@
--- The algebras that are given, each as one record of its operations. A code is the value itself, and 0 for Reach.
+-- The algebras that are given, each as one record of its operations. A code is the value itself,
+-- and 0 for Reach.
 use Rattle.std.specs.Prelude.{ℕ, ◌+◌, ◌*◌, ◌/◌, ◌^◌, ◌==◌, min, nat_le, if◌then◌else◌, true, Some, None}
 use Rattle.path_algebra.specs.Algebra.{Algebra}
 use Rattle.path_algebra.specs.Names.{Shortest, Widest, Reach, Hops, Reliable, Within}
@@ -51,8 +52,8 @@ hops = record {
   value_of = λ c. if nat_le c (2 ^ 63) then Some c else None;
 }
 
--- Reliable: a chance in parts of 10^12, times weights in parts of 10^6, each time rounded down; more is better.
--- A weight above 10^6 counts as 10^6.
+-- Reliable: a chance in parts of 10^12, times weights in parts of 10^6, each time rounded down;
+-- more is better. A weight above 10^6 counts as 10^6.
 abbrev pub reliable : Algebra ℕ
 reliable = record {
   name = Reliable;

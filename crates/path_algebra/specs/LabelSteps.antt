@@ -41,7 +41,8 @@ abbrev pub is_reached_by : {V : Type 0} → (V → V → Bool) → Option V → 
 is_reached_by no_worse None y = false
 is_reached_by no_worse (Some z) y = no_worse z y
 
--- whether both ends have labels, and the tail's, extended by the weight, is no worse than the head's
+-- whether both ends have labels, and the tail's, extended by the weight, is no worse than the
+-- head's
 abbrev pub is_tight_between : {V : Type 0} → Algebra V → Option V → ℕ → Option V → Bool
 is_tight_between A None w l = false
 is_tight_between A (Some x) w None = false

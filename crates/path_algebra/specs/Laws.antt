@@ -142,7 +142,8 @@ reliable_laws = record {
   code_of_value = λ c v k h. coded_below (10 ^ 12) c v h;
 }
 
--- the sum of what the arcs cost, by their weights, up to a limit; an arc that passes it is refused; less is better
+-- the sum of what the arcs cost, by their weights, up to a limit; an arc that passes it is refused;
+-- less is better
 abbrev pub limited_sums : AlgebraName → (ℕ → ℕ) → ℕ → Algebra ℕ
 limited_sums name cost limit = record {
   name = name;

@@ -1,6 +1,6 @@
--- Walks of a graph from some source of a list, their values, and the best ones; then tight arcs, hops and parents.
--- Walk, value and best are after Carre, An algebra for network routing problems (1971). Tight arcs, hops and parents
--- are how this project chooses among walks of equal value.
+-- Walks of a graph from some source of a list, their values, and the best ones; then tight arcs,
+-- hops and parents. Walk, value and best are after Carre, An algebra for network routing problems
+-- (1971). Tight arcs, hops and parents are how this project chooses among walks of equal value.
 use Rattle.std.specs.Prelude.{◌≡◌, ℕ, ◌+◌, ◌≤◌, List, [], ◌∷◌, length, All, Contains, Bool, IsTrue, Option, Some, None}
 use Rattle.road_graph.specs.GraphData.{GraphData, HasArc, HasVertex, arc_of}
 use Rattle.path_algebra.specs.Algebra.{Algebra}
@@ -58,7 +58,8 @@ IsNotImproving {V} A g labels a =
     (x z : V) → label_of labels (arc_of g a).tail ≡ Some x → A.extend x (arc_of g a).weight ≡ Some z →
     (y : V) × (label_of labels (arc_of g a).head ≡ Some y) × IsTrue (A.no_worse y z)
 
--- each label is the value of a walk, each source has one no worse than the origin, and no arc improves a label
+-- each label is the value of a walk, each source has one no worse than the origin, and no arc
+-- improves a label
 pub record AreClosed {V : Type 0} (A : Algebra V) (g : GraphData) (sources : List ℕ) (labels : List (Option V)) : Type 0 where
   pub count : length labels ≡ g.vertices
   pub values : AreWalkValues A g sources labels

@@ -10,7 +10,8 @@ use crate::name::AlgebraName;
 /// The values of walks, how one more arc changes a value, and which of two values is no worse.
 ///
 /// An implementation says by `meaning` what its calls compute, and proves the laws below the last
-/// call. Nothing else is required of it, and every solver, engine and checker over it is then right.
+/// call. Nothing else is required of it, and every solver, engine and checker over it is then
+/// right.
 pub trait PathAlgebra: Copy + Send + Sync {
     /// What a walk is worth. `is_value` says which values of the type occur.
     type Value: Copy + Send + Sync;
@@ -53,14 +54,14 @@ pub trait PathAlgebra: Copy + Send + Sync {
     fn name(self) -> AlgebraName
         ensures { result ≡ (meaning self).name };
 
-    /// Whether the values of most walks tie, as if there are few values. A hint, on which no promise
-    /// rests: solvers choose by it between ways to the same answer.
+    /// Whether the values of most walks tie, as if there are few values. A hint, on which no
+    /// promise rests: solvers choose by it between ways to the same answer.
     fn ties_mostly(self) -> bool {
         false
     }
 
-    /// What an arc costs, if the best values are the least sums of what arcs cost; otherwise none. Such
-    /// values are carried by counted numbers, and a graph can be factored for them.
+    /// What an arc costs, if the best values are the least sums of what arcs cost; otherwise none.
+    /// Such values are carried by counted numbers, and a graph can be factored for them.
     fn cost(self) -> Option<Cost>
         ensures exactly { result ≡ arc_cost self }
         ensures carried { IfSome result (λ cost. IsCarried (meaning self) (cost_of cost)) };

@@ -1,4 +1,5 @@
-//! The given algebras in one list: which of them is chosen, by its name or by its number, and what is computed under it.
+//! The given algebras in one list: which of them is chosen, by its name or by its number, and what
+//! is computed under it.
 use crate::algebra::PathAlgebra;
 use crate::name::AlgebraName;
 use crate::within::Within;
@@ -65,8 +66,8 @@ impl AlgebraChoice {
         }
     }
 
-    /// The algebra of a number, counted from 0 in the order above; none if there is no such number, or the limit is above
-    /// 2^63. Only `within` takes the limit.
+    /// The algebra of a number, counted from 0 in the order above; none if there is no such number,
+    /// or the limit is above 2^63. Only `within` takes the limit.
     pub fn numbered(number: u32, limit: u64) -> Option<AlgebraChoice>
         ensures some { IsSome result ↔ IsAlgebra number limit }
         ensures chosen { IfSome result (IsNumbered number limit) }

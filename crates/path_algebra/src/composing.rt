@@ -4,8 +4,8 @@ ghost use Rattle.path_algebra.specs.Composition.{Composition, IsComposition};
 
 use crate::algebra::PathAlgebra;
 
-/// An algebra in which a walk is worth something to any value before it, and two walks, one after the other, what
-/// their worths compose to. So a graph can be factored once, for all sources.
+/// An algebra in which a walk is worth something to any value before it, and two walks, one after
+/// the other, what their worths compose to. So a graph can be factored once, for all sources.
 pub trait ComposingAlgebra: PathAlgebra {
     /// What a walk does to the values before it.
     type Walk: Copy + Send + Sync;
@@ -25,7 +25,8 @@ pub trait ComposingAlgebra: PathAlgebra {
     fn compose(self, a: Self::Walk, b: Self::Walk) -> Self::Walk
         ensures { result ≡ (walks self).compose a b };
 
-    /// The value of a walk of value `v` and, after it, the walk `a`; none if it may not be taken from there.
+    /// The value of a walk of value `v` and, after it, the walk `a`; none if it may not be taken
+    /// from there.
     fn apply(self, v: Self::Value, a: Self::Walk) -> Option<Self::Value>
         ensures { result ≡ (walks self).apply v a };
 

@@ -88,8 +88,8 @@ pub fn simple_walks_are_listed()
         ListsSimpleWalks g s v (simple_walks g s v) }
 {}
 
-/// Widths whose ties are decided by the number of arcs are not lawful: after a narrow arc, a wider walk
-/// of more arcs is the worse one.
+/// Widths whose ties are decided by the number of arcs are not lawful: after a narrow arc, a wider
+/// walk of more arcs is the worse one.
 pub fn width_then_hops_is_not_lawful()
     ensures { (A : Algebra (ℕ × ℕ)) → IsWidthThenHops A → IsLawful A → ⊥ }
 {}

@@ -63,8 +63,8 @@ module _ {V W : Type 0} (A : Algebra V) (lawful : IsLawful A) (C : Composition V
         let low : y < g.vertices = omega (arith, inside.0, inside.1) in
         (backward.best y low).down x a falls
 
-    -- no link to a greater place improves a label. A label that came down from a place z could have gone on from there:
-    -- by the link past x, or, if that would lead back to z, by staying there
+    -- no link to a greater place improves a label. A label that came down from a place z could have
+    -- gone on from there: by the link past x, or, if that would lead back to z, by staying there
     passes_up : (d x y : ℕ) (a : W) → g.vertices ≤ x + d → Rises F x y a → Passes A C (at labels x) a (at labels y)
     passes_up zero x y a far rises =
         let inside = factor.links.rising x y a rises in

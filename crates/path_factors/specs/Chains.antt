@@ -1,4 +1,5 @@
--- Lists of numbers that grow at their front, all in one. Their items are numbered from 1, and 0 is none.
+-- Lists of numbers that grow at their front, all in one. Their items are numbered from 1, and 0 is
+-- none.
 use Rattle.std.specs.Prelude.{◌≡◌, ℕ, zero, suc, ◌-◌, ◌<◌, ◌≤◌, List, length, All, slice_index, slice_index_or}
 use Rattle.path_factors.specs.declared.chains.Item.{Item}
 

@@ -44,7 +44,8 @@ pub record IsEdgeAt {W : Type 0} (F : FactorData W) (v j : ℕ) (e : Edge W) : T
   pub rises : slice_index_or (row_of F.leaving v) j (rising e) ≡ rising e
   pub falls : slice_index_or (row_of F.entering v) j (falling e) ≡ falling e
 
--- links lead between the greater places of two edges, both ways, no worse than over the place where the edges meet
+-- links lead between the greater places of two edges, both ways, no worse than over the place where
+-- the edges meet
 abbrev pub AreJoined : {V W : Type 0} → Composition V W → FactorData W → Edge W → Edge W → Type 0
 AreJoined C F e f =
     (e.place ≡ f.place → ⊥) → LeadsNoWorse C F e.place f.place (C.compose e.entering f.leaving)

@@ -12,7 +12,8 @@ ArePlacesOf n order places k =
     (j : ℕ) → j < k → 1 ≤ slice_index order j → slice_index order j ≤ n →
     Stands order (slice_index places (slice_index order j - 1)) (slice_index order j)
 
--- a row after a link was added to it: its links are those before and that one, none got worse, and one is as good
+-- a row after a link was added to it: its links are those before and that one, none got worse, and
+-- one is as good
 pub record IsImproved {V W : Type 0} (C : Composition V W) (before : List (Link W)) (k : Link W) (after : List (Link W)) : Type 0 where
   pub given : (l : Link W) → Contains after l → Contains before l ⊎ (l ≡ k)
   pub kept : (p : ℕ) (a : W) → Contains before (record { place = p; walk = a }) →

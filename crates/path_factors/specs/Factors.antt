@@ -1,5 +1,6 @@
--- What a factored graph is: walks between places of an order, among them one for each arc, and closed under passing
--- a place that is less than both ends. After Carre, An algebra for network routing problems (1971): elimination.
+-- What a factored graph is: walks between places of an order, among them one for each arc, and
+-- closed under passing a place that is less than both ends. After Carre, An algebra for network
+-- routing problems (1971): elimination.
 use Rattle.std.specs.Prelude.{◌≡◌, ℕ, ◌<◌, ◌≤◌, ◌-◌, ◌⊎◌, List, [], length, Contains, IsTrue, Some, slice_index, slice_index_or}
 use Rattle.road_graph.specs.GraphData.{GraphData, HasArc, arc_of}
 use Rattle.path_algebra.specs.Algebra.{Algebra}
@@ -7,8 +8,8 @@ use Rattle.path_algebra.specs.Composition.{Composition}
 use Rattle.path_algebra.specs.Walks.{IsWalk, Extends}
 use Rattle.path_factors.specs.declared.link.Link.{Link}
 
--- the vertex at each place, counted from 0; the place of each vertex; and for each place the links to greater places
--- and from greater places
+-- the vertex at each place, counted from 0; the place of each vertex; and for each place the links
+-- to greater places and from greater places
 pub record FactorData (W : Type 0) : Type 0 where
   pub order : List ℕ
   pub places : List ℕ
@@ -54,7 +55,8 @@ CoversArcs C g F =
     (a : ℕ) → HasArc g a → ((arc_of g a).tail ≡ (arc_of g a).head → ⊥) →
     LeadsNoWorse C F (place_of F (arc_of g a).tail) (place_of F (arc_of g a).head) (C.of_arc (arc_of g a).weight)
 
--- a link that falls to place v and one that rises from it are, together, no better than some link past v
+-- a link that falls to place v and one that rises from it are, together, no better than some link
+-- past v
 abbrev pub IsClosedAt : {V W : Type 0} → Composition V W → FactorData W → ℕ → Type 0
 IsClosedAt {W = W} C F v =
     (x y : ℕ) (a b : W) → Falls F x v a → Rises F v y b → (x ≡ y → ⊥) → LeadsNoWorse C F x y (C.compose a b)

@@ -1,4 +1,5 @@
--- The heads of each place: the greater places to which it has an edge. Which these are depends on the order alone.
+-- The heads of each place: the greater places to which it has an edge. Which these are depends on
+-- the order alone.
 use Rattle.std.specs.Prelude.{◌≡◌, ℕ, ◌-◌, ◌<◌, List, length, map, Contains, slice_index}
 use Rattle.std.specs.List.Sorted.{IsStrictlyIncreasing}
 use Rattle.road_graph.specs.GraphData.{GraphData, HasArc, arc_of}
@@ -13,7 +14,8 @@ IsHead heads v y = Contains (row_of heads v) y
 abbrev pub heads_in : {W : Type 0} → List (List (Link W)) → List (List ℕ)
 heads_in rows = map (λ row. map (λ k. k.place) row) rows
 
--- the heads of n places: each is greater than its place, those of a place ascend, and two of them have an edge
+-- the heads of n places: each is greater than its place, those of a place ascend, and two of them
+-- have an edge
 pub record AreHeads (n : ℕ) (heads : List (List ℕ)) : Type 0 where
   pub count : length heads ≡ n
   pub rising : (v y : ℕ) → IsHead heads v y → (v < y) × (y < n)

@@ -26,7 +26,8 @@ IsReason Arc g f = (g.vertices ≡ f.roads.vertices) × (HasEdges g f.factor →
 abbrev pub HasEndsOf : RoadArc → RoadArc → Type 0
 HasEndsOf a b = ((a.tail ≡ b.tail) × (a.head ≡ b.head)) ⊎ ((a.tail ≡ b.head) × (a.head ≡ b.tail))
 
--- g has as many vertices as h, and each arc of g leads from a vertex to itself, or joins two that an arc of h joins
+-- g has as many vertices as h, and each arc of g leads from a vertex to itself, or joins two that
+-- an arc of h joins
 pub record JoinsNoOthers (g h : GraphData) : Type 0 where
   pub vertices : g.vertices ≡ h.vertices
   pub ends : (a : ℕ) → HasArc g a →

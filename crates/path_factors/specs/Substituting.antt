@@ -1,4 +1,5 @@
--- Best values by substitution in a factor: forward, from lesser to greater places, and back. Labels are by place here.
+-- Best values by substitution in a factor: forward, from lesser to greater places, and back. Labels
+-- are by place here.
 use Rattle.std.specs.Prelude.{◌≡◌, ℕ, ◌<◌, ◌≤◌, ◌⊎◌, List, [], ◌∷◌, length, Contains, IsTrue, Option, Some, None, slice_index_or, slice_set}
 use Rattle.road_graph.specs.GraphData.{GraphData}
 use Rattle.path_algebra.specs.Algebra.{Algebra}
@@ -49,8 +50,8 @@ pub record ComesFromAbove {V W : Type 0} (C : Composition V W) (F : FactorData W
   pub label : at labels place ≡ Some value
   pub extends : C.apply value walk ≡ Some z
 
--- labels after forward substitution: values of walks, the origin or better at the sources, and no link to a greater place
--- improves one
+-- labels after forward substitution: values of walks, the origin or better at the sources, and no
+-- link to a greater place improves one
 pub record IsForward {V W : Type 0} (A : Algebra V) (C : Composition V W) (g : GraphData) (F : FactorData W)
     (sources : List ℕ) (labels : List (Option V)) : Type 0 where
   pub count : length labels ≡ g.vertices
@@ -58,7 +59,8 @@ pub record IsForward {V W : Type 0} (A : Algebra V) (C : Composition V W) (g : G
   pub at_sources : (s : ℕ) → Contains sources s → HasNoWorse A (at labels (place_of F s)) A.origin
   pub up : (x y : ℕ) (a : W) → Rises F x y a → Passes A C (at labels x) a (at labels y)
 
--- label l at place i is the best of the label before and of what the links from greater places bring
+-- label l at place i is the best of the label before and of what the links from greater places
+-- bring
 pub record IsBestDown {V W : Type 0} (A : Algebra V) (C : Composition V W) (F : FactorData W)
     (before : Option V) (labels : List (Option V)) (i : ℕ) (l : Option V) : Type 0 where
   pub kept : (x : V) → before ≡ Some x → HasNoWorse A l x

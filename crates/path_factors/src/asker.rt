@@ -11,9 +11,9 @@ use std::alloc::Global;
 use std::marker::Model;
 use std::snapshot::Snapshot;
 
-/// What is known of the best values from a source: forward substitution is done over its ancestors, and back
-/// substitution at those of the targets. It is made once for a factor, and then serves one source after another: no list
-/// of all places is made or cleared again.
+/// What is known of the best values from a source: forward substitution is done over its ancestors,
+/// and back substitution at those of the targets. It is made once for a factor, and then serves one
+/// source after another: no list of all places is made or cleared again.
 #[derive(Drop)]
 pub struct Asker<A: ComposingAlgebra> {
     factors: Snapshot<Factors<A>>,

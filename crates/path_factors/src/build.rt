@@ -15,10 +15,11 @@ use std::snapshot::Snapshot;
 use std::sync::Arc;
 
 impl<A: ComposingAlgebra> Factors<A> {
-    /// The factor of a graph by an order of its vertices; none if the order does not have each vertex once.
+    /// The factor of a graph by an order of its vertices; none if the order does not have each
+    /// vertex once.
     ///
-    /// Any order gives right answers, a good one few links. First it is found which links are needed, and then walks
-    /// are put at them.
+    /// Any order gives right answers, a good one few links. First it is found which links are
+    /// needed, and then walks are put at them.
     pub fn build(
         alloc: Global,
         algebra: A,
@@ -41,7 +42,8 @@ impl<A: ComposingAlgebra> Factors<A> {
         Ok(Some(Weighing::weigh(algebra, graph, order, places, rows)))
     }
 
-    /// The factor of a graph by the order of `elimination_order`; none if the graph is too dense to factor.
+    /// The factor of a graph by the order of `elimination_order`; none if the graph is too dense to
+    /// factor.
     pub fn of(alloc: Global, algebra: A, graph: &OutGraph) -> Result<Option<Factors<A>>, Memory>
         ensures algebra { IfOk result (λ built. IfSome built (λ f. f.algebra ≡ algebra)) }
         ensures roads { IfOk result (λ built. IfSome built (λ f. f.roads ≡ graph.now)) }

@@ -10,8 +10,8 @@ use path_algebra::ComposingAlgebra;
 use road_graph::Vertex;
 
 impl<A: ComposingAlgebra> Factors<A> {
-    /// Forward substitution if one place alone has a label: each of its ancestors, in ascending order, offers its label
-    /// along its links. No other gets one.
+    /// Forward substitution if one place alone has a label: each of its ancestors, in ascending
+    /// order, offers its label along its links. No other gets one.
     pub(crate) fn climb(&self, labels: &mut [Option<A::Value>], s: usize)
         requires place { s < self.now.roads.vertices }
         requires count { length labels.old ≡ self.now.roads.vertices }

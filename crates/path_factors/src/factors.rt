@@ -14,8 +14,8 @@ use std::marker::Model;
 use std::snapshot::Snapshot;
 use std::sync::Arc;
 
-/// Links between the places of an order, from which best values of a graph are found by substitution. Contracts alone
-/// see the graph and the order.
+/// Links between the places of an order, from which best values of a graph are found by
+/// substitution. Contracts alone see the graph and the order.
 ///
 /// It takes 8 bytes for each vertex, and 4 and those of two walks for each edge.
 #[derive(Drop)]

@@ -10,7 +10,8 @@ use road_graph::Memory;
 use std::alloc::AllocError;
 
 impl<A: ComposingAlgebra> Factors<A> {
-    /// Lists the ancestors of a place that are not known, itself the first, up to the first that is known.
+    /// Lists the ancestors of a place that are not known, itself the first, up to the first that is
+    /// known.
     pub(crate) fn list_unknown(
         &self,
         known: &[bool],

@@ -1,8 +1,9 @@
-//! Carré's elimination: a graph is factored once, by an order of its vertices, and then answered by substitution.
+//! Carré's elimination: a graph is factored once, by an order of its vertices, and then answered by
+//! substitution.
 //!
-//! Any order gives right answers, a good one few links. A factor's links go between places of the order; each is worth a
-//! walk of the graph, and two that meet at a lesser place are no better than one past it. So two sweeps over the links,
-//! up and down, find the best value of each vertex.
+//! Any order gives right answers, a good one few links. A factor's links go between places of the
+//! order; each is worth a walk of the graph, and two that meet at a lesser place are no better than
+//! one past it. So two sweeps over the links, up and down, find the best value of each vertex.
 #![tactic(auto)]
 
 mod asker;

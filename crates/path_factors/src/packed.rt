@@ -10,7 +10,8 @@ use road_graph::Memory;
 use std::alloc::{AllocError, Global};
 use std::marker::Model;
 
-/// The rows of all places, one after the other: that of place i lies at `starts[i]..starts[i + 1]` of each list.
+/// The rows of all places, one after the other: that of place i lies at `starts[i]..starts[i + 1]`
+/// of each list.
 #[derive(Drop)]
 pub(crate) struct PackedRows<W: Copy> {
     starts: Vec<u32>,

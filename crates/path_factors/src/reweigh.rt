@@ -90,8 +90,9 @@ impl<'g, A: ComposingAlgebra> Weighing<'g, A> {
 }
 
 impl<A: ComposingAlgebra> Factors<A> {
-    /// The factor of another graph, by the same order and over the same links: in a fraction of the time of `build`, and
-    /// with no allocation. Weights may change, and arcs may go, come back or have others beside them.
+    /// The factor of another graph, by the same order and over the same links: in a fraction of the
+    /// time of `build`, and with no allocation. Weights may change, and arcs may go, come back or
+    /// have others beside them.
     ///
     /// # Errors
     /// The graph has another number of vertices, or an arc where there is no link.
@@ -107,8 +108,8 @@ impl<A: ComposingAlgebra> Factors<A> {
         Ok(Weighing::weigh(algebra, graph, self.order, self.places, self.rows))
     }
 
-    /// The same, with these factors left as they are: their order is shared, and places and links are copied. The only other
-    /// error is `Memory`.
+    /// The same, with these factors left as they are: their order is shared, and places and links
+    /// are copied. The only other error is `Memory`.
     pub fn reweighed(
         &self,
         alloc: Global,

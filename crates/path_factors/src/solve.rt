@@ -112,7 +112,8 @@ impl<A: ComposingAlgebra> Factors<A> {
         }
     }
 
-    /// Back substitution: each place, in descending order, gets the best of its label and of what its links bring.
+    /// Back substitution: each place, in descending order, gets the best of its label and of what
+    /// its links bring.
     fn sweep_down(&self, labels: &mut [Option<A::Value>])
         requires { length labels.old ≡ self.now.roads.vertices }
         ensures { IsBackward (A.meaning self.now.algebra) (A.walks self.now.algebra) self.now.roads
@@ -157,8 +158,8 @@ impl<A: ComposingAlgebra> Factors<A> {
         Ok(Labels::from_vec(found))
     }
 
-    /// The best value of each vertex over all walks from some source of the list, and none if no walk has a value.
-    /// Sources may repeat.
+    /// The best value of each vertex over all walks from some source of the list, and none if no
+    /// walk has a value. Sources may repeat.
     pub fn solve_by(&self, alloc: Global, sources: &[Vertex]) -> Result<Labels<A::Value>, Memory>
         requires { All (HasVertex self.now.roads) sources.now }
         ensures { IfOk result (λ labels. AreBest (A.meaning self.now.algebra) self.now.roads

@@ -18,8 +18,8 @@ use std::marker::Model;
 use std::snapshot::Snapshot;
 use std::sync::Arc;
 
-/// A factor in the making, with an edge wherever elimination needs one: its links are worth walks of the graph, and are
-/// closed at the places that are eliminated.
+/// A factor in the making, with an edge wherever elimination needs one: its links are worth walks
+/// of the graph, and are closed at the places that are eliminated.
 #[derive(Drop)]
 pub(crate) struct Weighing<'g, A: ComposingAlgebra> {
     pub(crate) algebra: A,
@@ -67,8 +67,8 @@ impl<'g, A: ComposingAlgebra> Weighing<'g, A> {
         self.rows.improve(algebra, x, j, edge);
     }
 
-    /// Makes the links from one place to another and back no worse than these walks. From a place to itself none is
-    /// needed.
+    /// Makes the links from one place to another and back no worse than these walks. From a place
+    /// to itself none is needed.
     pub(crate) fn connect(&mut self, x: u32, y: u32, there: A::Walk, back: A::Walk)
         requires from { x < self.old.roads.vertices }
         requires to { y < self.old.roads.vertices }
@@ -142,7 +142,8 @@ impl<'g, A: ComposingAlgebra> Weighing<'g, A> {
         }
     }
 
-    /// Joins two edges that meet at a place, both ways; `q` is the index of the edge between their places.
+    /// Joins two edges that meet at a place, both ways; `q` is the index of the edge between their
+    /// places.
     fn join(&mut self, v: usize, e: Edge<A::Walk>, f: Edge<A::Walk>, q: usize)
         requires first { (j : ℕ) × IsEdgeAt self.old.factor v j e }
         requires second { (j : ℕ) × IsEdgeAt self.old.factor v j f }

@@ -34,7 +34,8 @@ fn less(a: Option<u64>, b: Option<u64>) -> Option<u64> {
     }
 }
 
-/// The number of the walk along an order from its first vertex to another, or none if an arc is missing on the way.
+/// The number of the walk along an order from its first vertex to another, or none if an arc is
+/// missing on the way.
 fn along(arcs: &[(u32, u32, u32)], cost: Cost, order: &[Vertex], to: u32) -> Option<u64> {
     let mut sum = Some(0u64);
     let mut at = 0;
@@ -53,7 +54,8 @@ fn along(arcs: &[(u32, u32, u32)], cost: Cost, order: &[Vertex], to: u32) -> Opt
     if at == to { sum } else { None }
 }
 
-/// The least number of a simple walk from one vertex to another, or none: each is the beginning of some order.
+/// The least number of a simple walk from one vertex to another, or none: each is the beginning of
+/// some order.
 fn by_walks(
     rt: &(impl Abort + AllocGlobal),
     cost: Cost,
@@ -121,7 +123,8 @@ fn second_of(
     found
 }
 
-/// Asserts that an asker finds the least number of a simple walk for each pair, in some orders of elimination.
+/// Asserts that an asker finds the least number of a simple walk for each pair, in some orders of
+/// elimination.
 fn assert_pairs(
     rt: &(impl Abort + AllocGlobal),
     cost: Cost,
@@ -149,7 +152,8 @@ fn pairs_of_five_vertices_in_all_orders(rt: HostRuntime) {
     assert_pairs(&rt, Cost::One, (5, 120, 120), &FIVE);
 }
 
-/// One-way streets, a cycle that costs nothing, parallel arcs and a loop; 6 reaches no other, and nothing reaches 5.
+/// One-way streets, a cycle that costs nothing, parallel arcs and a loop; 6 reaches no other, and
+/// nothing reaches 5.
 const STREETS: [(u32, u32, u32); 10] = [
     (1, 2, 0),
     (2, 3, 0),
@@ -202,8 +206,8 @@ fn is_factored(rt: &(impl Abort + AllocGlobal), n: u32, arcs: &[(u32, u32, u32)]
         .is_some()
 }
 
-/// A small complete graph is factored, and a star. A larger complete graph has more than 64 links for each vertex and
-/// 4,096 more.
+/// A small complete graph is factored, and a star. A larger complete graph has more than 64 links
+/// for each vertex and 4,096 more.
 #[test]
 fn dense_graphs_are_refused(rt: HostRuntime) {
     let small = complete(&rt, 8);

@@ -1,4 +1,5 @@
-//! Orders of events worked out by hand, and two graphs that would be slow if each event looked at every arc of a vertex.
+//! Orders of events worked out by hand, and two graphs that would be slow if each event looked at
+//! every arc of a vertex.
 
 ghost use Rattle.std.specs.Prelude.{◌≡◌};
 
@@ -89,7 +90,8 @@ impl<'g, A: PathAlgebra> Trial<'g, A> {
         false
     }
 
-    /// Events until none is enabled, at order 0 of the least arc, at 1 of the greatest, and at 2 of both in turn.
+    /// Events until none is enabled, at order 0 of the least arc, at 1 of the greatest, and at 2 of
+    /// both in turn.
     fn run_in_order(&mut self, order: u32) {
         for turn in 0..1_000 {
             let least = order == 0 || (order == 2 && turn % 2 == 0);
@@ -176,7 +178,8 @@ fn assert_from_start<A: PathAlgebra<Value = u64>>(
     assert_steps(rt, &mut trial, steps);
 }
 
-/// Asserts that four of these events happen from the start, each in its turn, and that the diffusion has ended then.
+/// Asserts that four of these events happen from the start, each in its turn, and that the
+/// diffusion has ended then.
 fn assert_four_happen(rt: &(impl Abort + AllocGlobal), graph: &Graph, events: &[Event]) {
     let mut trial = Trial::open(rt, Shortest, graph);
     assert!(rt; trial.core.run(events) == 4);

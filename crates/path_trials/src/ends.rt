@@ -58,7 +58,8 @@ const LONGEST: [Event; 26] = [
     Event::Accept(ArcNo(0)),
 ];
 
-/// On the five vertices no run sends more than 10 messages, and no list of events has more than 20 that are enabled.
+/// On the five vertices no run sends more than 10 messages, and no list of events has more than 20
+/// that are enabled.
 fn five_vertices_end_soon()
     ensures messages { (events : List Event) → (totals_of shortest (network five 1) events).sent ≤
         10 }
@@ -68,7 +69,8 @@ fn five_vertices_end_soon()
     every_run_is_finite(Shortest);
 }
 
-/// On two locks no run sends more than 13 messages, and no list of events has more than 26 that are enabled.
+/// On two locks no run sends more than 13 messages, and no list of events has more than 26 that are
+/// enabled.
 fn two_locks_end_soon()
     ensures messages { (events : List Event) →
         (totals_of shortest (network two_locks 1) events).sent ≤ 13 }

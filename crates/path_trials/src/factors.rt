@@ -1,4 +1,5 @@
-//! Values by substitution: by hand in every order of elimination, and against the search's on small graphs.
+//! Values by substitution: by hand in every order of elimination, and against the search's on small
+//! graphs.
 use crate::graphs::{FIVE, graph_of};
 use elimination_order::approximate_minimum_degree;
 use path_algebra::{
@@ -9,7 +10,8 @@ use path_plain::solve_outgoing;
 use road_graph::{OutGraph, Vertex};
 use std::process::Abort;
 
-/// One of the orders of the vertices 1 to n, by its number: each next vertex is picked by a digit of it.
+/// One of the orders of the vertices 1 to n, by its number: each next vertex is picked by a digit
+/// of it.
 pub(crate) fn order_of(rt: &(impl Abort + AllocGlobal), n: u32, number: u32) -> Vec<Vertex> {
     let mut left = Vec::new(rt.alloc());
     for v in 1..=n {
@@ -150,7 +152,8 @@ fn five_vertices_under_each_algebra_in_all_orders(rt: HostRuntime) {
     assert_five_under(&rt, Hops, &arcs);
 }
 
-/// Asserts that substitution and search find the same from each vertex, in some orders and the one by least degree.
+/// Asserts that substitution and search find the same from each vertex, in some orders and the one
+/// by least degree.
 fn assert_as_searched(
     rt: &(impl Abort + AllocGlobal),
     cost: Cost,

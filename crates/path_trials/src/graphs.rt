@@ -67,7 +67,8 @@ fn refusals_hand_back(rt: HostRuntime) {
     assert!(rt; back.as_slice() == [arc(1, 2, 7), arc(1, 3, 8), arc(0, 1, 9)].as_slice());
 }
 
-/// Five vertices, with two arcs from 1 to 3, a loop at 4, and nothing that enters 5. No arc has its number's place in the rows.
+/// Five vertices, with two arcs from 1 to 3, a loop at 4, and nothing that enters 5. No arc has its
+/// number's place in the rows.
 pub(crate) fn five_vertices(alloc: Global) -> Option<Graph> {
     let arcs = vec![in alloc;
         arc(3, 2, 2),

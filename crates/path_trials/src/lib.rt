@@ -1,4 +1,5 @@
-//! The tests of the graph, the algebras, the queue, the solver, the trees and the engine, through what these crates make public.
+//! The tests of the graph, the algebras, the queue, the solver, the trees and the engine, through
+//! what these crates make public.
 //!
 //! They are here and not in each crate, so that no crate is proved a second time with its tests.
 #![tactic(auto)]

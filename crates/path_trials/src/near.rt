@@ -52,7 +52,8 @@ impl<'g> PairAsker<'g> {
     }
 }
 
-/// Asserts that a pair is decided: it has no route if there are no vertices, or else the one through these.
+/// Asserts that a pair is decided: it has no route if there are no vertices, or else the one
+/// through these.
 fn assert_decided(rt: &impl Abort, nearby: Nearby, code: u64, vertices: &[u32]) {
     match nearby {
         Nearby::Decided(Some(found)) => {
@@ -91,7 +92,8 @@ fn five_vertices_by_searches_that_give_up(rt: HostRuntime) {
     assert_near(&rt, (4, 4, 2), 0, &[4]);
 }
 
-/// A search that gave up goes on with the next pair of its source; from another source it begins anew.
+/// A search that gave up goes on with the next pair of its source; from another source it begins
+/// anew.
 #[test]
 fn a_search_that_gave_up_goes_on(rt: HostRuntime) {
     let five = graph_of(&rt, 5, &FIVE);

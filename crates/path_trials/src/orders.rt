@@ -1,4 +1,5 @@
-//! Orders by approximate minimum degree: what they make of graphs that are counted by hand, and when they give up.
+//! Orders by approximate minimum degree: what they make of graphs that are counted by hand, and
+//! when they give up.
 use crate::graphs::graph_of;
 use elimination_order::{Ordered, approximate_minimum_degree};
 use std::process::Abort;
@@ -55,9 +56,10 @@ fn path(rt: &(impl Abort + AllocGlobal), n: u32) -> Vec<(u32, u32, u32)> {
     arcs
 }
 
-/// A path has a link for each arc, and so has a star. The rim of a wheel is eliminated with two neighbours and the hub:
-/// three links and three triangles for each vertex, and at the end two links and a triangle, then one link. A complete
-/// graph has a link for each two vertices and a triangle for each three.
+/// A path has a link for each arc, and so has a star. The rim of a wheel is eliminated with two
+/// neighbours and the hub: three links and three triangles for each vertex, and at the end two
+/// links and a triangle, then one link. A complete graph has a link for each two vertices and a
+/// triangle for each three.
 #[test]
 fn links_and_triangles_by_hand(rt: HostRuntime) {
     assert_counts(&rt, 1, &[], (0, 0));
@@ -75,7 +77,8 @@ fn links_and_triangles_by_hand(rt: HostRuntime) {
     assert_counts(&rt, 175, &complete(&rt, 175), (15225, 877975));
 }
 
-/// A complete graph of 176 vertices has 15,400 links; there may be 64 for each vertex, and 4,096 more: 15,360.
+/// A complete graph of 176 vertices has 15,400 links; there may be 64 for each vertex, and 4,096
+/// more: 15,360.
 #[test]
 fn a_dense_graph_has_no_order(rt: HostRuntime) {
     let found = ordered(&rt, 176, &complete(&rt, 176));

@@ -1,4 +1,5 @@
-//! Labels worked out by hand, as far as a target and from several sources; for each algebra, `system_tests/worked` tries them.
+//! Labels worked out by hand, as far as a target and from several sources; for each algebra,
+//! `system_tests/worked` tries them.
 
 ghost use Rattle.std.specs.Prelude.{◌≡◌, length};
 
@@ -29,7 +30,8 @@ fn codes_of<A: PathAlgebra>(
     Some(codes)
 }
 
-/// The codes of the shortest sums from three sources, vertex by vertex, or none if a call was refused.
+/// The codes of the shortest sums from three sources, vertex by vertex, or none if a call was
+/// refused.
 fn shortest_from(alloc: Global, graph: &Graph, sources: [Vertex; 3]) -> Option<Vec<Option<u64>>> {
     let [a, b, c] = sources;
     if !graph.has(a) || !graph.has(b) || !graph.has(c) {
@@ -39,7 +41,8 @@ fn shortest_from(alloc: Global, graph: &Graph, sources: [Vertex; 3]) -> Option<V
     codes_of(alloc, Shortest, graph, &labels)
 }
 
-/// The codes of the shortest sums from vertex 1 as far as a target, vertex by vertex, or none if a call was refused.
+/// The codes of the shortest sums from vertex 1 as far as a target, vertex by vertex, or none if a
+/// call was refused.
 fn shortest_to(alloc: Global, graph: &Graph, target: Vertex) -> Option<Vec<Option<u64>>> {
     if !graph.has(Vertex(1)) || !graph.has(target) {
         return None;
@@ -48,14 +51,16 @@ fn shortest_to(alloc: Global, graph: &Graph, target: Vertex) -> Option<Vec<Optio
     codes_of(alloc, Shortest, graph, &labels)
 }
 
-/// Asserts the codes of the shortest sums in the five vertices from vertex 1 as far as a target, vertex by vertex.
+/// Asserts the codes of the shortest sums in the five vertices from vertex 1 as far as a target,
+/// vertex by vertex.
 fn assert_codes_to(rt: &(impl Abort + AllocGlobal), target: Vertex, wanted: &[Option<u64>]) {
     let graph = graph_of(rt, 5, &FIVE);
     let found = shortest_to(rt.alloc(), &graph, target).expect(rt, "no labels");
     assert!(rt; found.as_slice() == wanted);
 }
 
-/// Asserts the codes of the shortest sums in the five vertices from three sources, vertex by vertex.
+/// Asserts the codes of the shortest sums in the five vertices from three sources, vertex by
+/// vertex.
 fn assert_codes_from(
     rt: &(impl Abort + AllocGlobal),
     sources: [Vertex; 3],
@@ -66,7 +71,8 @@ fn assert_codes_from(
     assert!(rt; found.as_slice() == wanted);
 }
 
-// The search to 3 stops before 2 is settled, by which 4 has 8; the one to 5, which no walk reaches, goes on to the end.
+// The search to 3 stops before 2 is settled, by which 4 has 8; the one to 5, which no walk reaches,
+// goes on to the end.
 #[test]
 fn five_vertices_as_far_as_a_target(rt: HostRuntime) {
     labels_serve_nearer_targets(Shortest);

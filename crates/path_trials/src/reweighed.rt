@@ -18,7 +18,8 @@ const FIVE_OTHERWISE: [(u32, u32, u32); 7] = [
     (5, 1, 1000),
 ];
 
-/// The sums, times 8, and the arcs from a vertex, by factors of a graph that were built for another one.
+/// The sums, times 8, and the arcs from a vertex, by factors of a graph that were built for another
+/// one.
 fn assert_reweighed(
     rt: &(impl Abort + AllocGlobal),
     other: &OutGraph,
@@ -42,8 +43,8 @@ fn assert_reweighed(
     }
 }
 
-/// A value is the sum, times 8, and the arcs: 1, 3, 2, 4 is a route of 8 with three arcs; by the other weights 1, 2 is
-/// one of 1, and 1, 3, 4 one of 10.
+/// A value is the sum, times 8, and the arcs: 1, 3, 2, 4 is a route of 8 with three arcs; by the
+/// other weights 1, 2 is one of 1, and 1, 3, 4 one of 10.
 #[test]
 fn five_vertices_reweighed_in_all_orders(rt: HostRuntime) {
     let one = graph_of(&rt, 5, &FIVE);
@@ -84,7 +85,8 @@ fn five_of(rt: &(impl Abort + AllocGlobal), weight: u32) -> Graph {
     graph_of(rt, 5, &arcs)
 }
 
-/// By weights of 0 the value is the number of arcs; by the greatest, 2^32 - 1, each arc is worth 34359738361.
+/// By weights of 0 the value is the number of arcs; by the greatest, 2^32 - 1, each arc is worth
+/// 34359738361.
 #[test]
 fn five_vertices_reweighed_with_the_least_and_the_greatest(rt: HostRuntime) {
     let five = graph_of(&rt, 5, &FIVE);
@@ -116,7 +118,8 @@ fn five_vertices_reweighed_with_the_least_and_the_greatest(rt: HostRuntime) {
     }
 }
 
-/// What comes of reweighing the factors of the five vertices, in the order 5, 1, 2, 3, 4, for a graph.
+/// What comes of reweighing the factors of the five vertices, in the order 5, 1, 2, 3, 4, for a
+/// graph.
 fn refusal_of(rt: &(impl Abort + AllocGlobal), graph: &OutGraph) -> Option<Unfit> {
     let five = graph_of(rt, 5, &FIVE);
     let algebra = CountedSums::new(Cost::Weight, 3).expect(rt, "bits");
@@ -136,7 +139,8 @@ fn with_arc(rt: &(impl Abort + AllocGlobal), n: u32, tail: u32, head: u32) -> Gr
     graph_of(rt, n, &arcs)
 }
 
-/// An arc back has a link, and so has a second one between two vertices; one between two that were not joined has none.
+/// An arc back has a link, and so has a second one between two vertices; one between two that were
+/// not joined has none.
 #[test]
 fn an_arc_with_no_link_is_refused(rt: HostRuntime) {
     assert!(rt; refusal_of(&rt, with_arc(&rt, 5, 4, 2).outgoing()).is_none());

@@ -9,7 +9,8 @@ use route_tree::{Found, Tree};
 use std::marker::Model;
 use std::process::Abort;
 
-/// The code of a vertex's value, its hops, and the two vertices from which its last arc may come, or 0.
+/// The code of a vertex's value, its hops, and the two vertices from which its last arc may come,
+/// or 0.
 pub(crate) type Reached = (u64, u32, (u32, u32));
 
 /// Three sources, which may be the same, and what is to be found of vertices 1, 2 and so on.
@@ -185,7 +186,8 @@ fn assert_pair<A: PathAlgebra>(
     }
 }
 
-/// Asserts the labels and the tree from some sources, which are asked for again if memory was refused.
+/// Asserts the labels and the tree from some sources, which are asked for again if memory was
+/// refused.
 fn assert_tree<A: PathAlgebra>(
     rt: &(impl Abort + AllocGlobal),
     roads: &Roads<A>,

@@ -1,4 +1,5 @@
-//! A small graph, with the hops and parents that were worked out by hand; `system_tests/worked` has more.
+//! A small graph, with the hops and parents that were worked out by hand; `system_tests/worked` has
+//! more.
 
 use crate::graphs::{FIVE, graph_of};
 use path_algebra::{PathAlgebra, Shortest};

@@ -1,4 +1,5 @@
--- What the calls know of their seat between two plain reads and writes of a slot, and what they ask of a step.
+-- What the calls know of their seat between two plain reads and writes of a slot, and what they ask
+-- of a step.
 use Rattle.std.proofs.Common.{◌≡◌, ℕ, List, [], ◌∷◌, sym, ap, ◌∙◌, subst, get_or}
 use Rattle.std.proofs.lemmas.Option.{same_Some}
 use Rattle.std.specs.Prelude as std

@@ -1,4 +1,5 @@
--- A floor may be shared by threads, and a seat moved to another, where values may; so may a tuple of what may.
+-- A floor may be shared by threads, and a seat moved to another, where values may; so may a tuple
+-- of what may.
 use mathlib.Core.List.{List, [], ◌∷◌}
 use Prim.Native.Nat.{ℕ}
 use mir.Syntax.{w8}

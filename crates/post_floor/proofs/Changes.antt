@@ -63,7 +63,8 @@ module _ {S V : Type 0} (meaning : S → Algebra V) (t : SetupData S) (L : AllLa
 
   module _ (s : Tab) (r : FloorInvariant meaning t s) (id k : ℕ) (v : View S V) (b d : PartData S V) (items : List (Item V)) (T : HandledAll meaning b items d)
       (at : get_elem? s.views id ≡ some v) (one : v.parts ≡ b ∷ []) (lt : k < box_count t.plan.shards) where
-    -- Only the mailbox k changes, by the view of the seat id. Its part has gone from b to d by items of its own, and then to e; u is the view but for that.
+    -- Only the mailbox k changes, by the view of the seat id. Its part has gone from b to d by
+    -- items of its own, and then to e; u is the view but for that.
     pub record Change (n' : ℕ) (homes' : List (Option (Slot V))) (u : View S V) (e : PartData S V) : Type 0 where
       pub lists : Relisted meaning t d e
       pub now : Option (Slot V)

@@ -46,7 +46,8 @@ module _ (f : ℕ → ℕ) (P : ℕ → Type 0) (apart : (x y : ℕ) → P x →
   pub at_most : (xs : List ℕ) (n : ℕ) → All P xs → All (λ x. f x < n) xs → ((k : ℕ) → total (is k) xs ≤ 1) → length xs ≤ n
   at_most xs n a b once = let s = scatter xs n b in let m = sum_most (λ j. total (λ y. is j (f y)) xs) (λ _. 1) n (λ j. once_there j xs a once) in let o = sum_ones n in omega (arith, s, m, o)
 
--- the place of a mailbox among those with an end at the shard s: first those that come from it, then the others
+-- the place of a mailbox among those with an end at the shard s: first those that come from it,
+-- then the others
 place : (n s k : ℕ) → ℕ
 place n s k = cond (eqb (k / 4 / n) s) (k / 4 % n * 4 + k % 4) ((n + k / 4 / n) * 4 + k % 4)
 

@@ -69,7 +69,8 @@ module _ {S V : Type 0} (meaning : S → Algebra V) (t : SetupData S) where
     mail_done n ws hs n' h = sum_below_same (λ j. box (h (dest n j)) (get_or (set ws (box_count n) n') j 0) (get_elem? hs j)) (λ j. box (h (dest n j)) (get_or ws j 0) (get_elem? hs j)) (box_count n)
         (λ j lt. ap (λ (z : ℕ). box (h (dest n j)) z (get_elem? hs j)) (get_or-set_other ws (box_count n) j n' 0 (λ e. omega (arith, e, lt))))
 
-    -- The seat id, whose view shows the part b, makes a step on the done word. The part has gone on to d by items of its own.
+    -- The seat id, whose view shows the part b, makes a step on the done word. The part has gone on
+    -- to d by items of its own.
     module _ (s : Tab meaning t L W) (r : FloorInvariant meaning t s) (id : ℕ) (v : View S V) (b d : PartData S V) (items : List (Item V)) (T : HandledAll meaning b items d)
         (at : get_elem? s.views id ≡ some v) (sh : IsViewOf v b) where
       abbrev n : ℕ

@@ -73,7 +73,8 @@ module _ {S V : Type 0} (meaning : S → Algebra V) (t : SetupData S) where
         looked_on t.plan.shards s.words s.views id v (gone meaning t v u e (done_by meaning items b e T)) b e at one refl (handled_same meaning items b e T).1 r.whole
         (ap length fill) (ap length read) r.ordered ws' same fill read (shard_below s r id v b at one)
 
-    -- The seat id, whose view shows the part b, makes a step on the mailbox k. The part has gone on to d by items of its own.
+    -- The seat id, whose view shows the part b, makes a step on the mailbox k. The part has gone on
+    -- to d by items of its own.
     module _ (s : Tab meaning t L W) (r : FloorInvariant meaning t s) (id k : ℕ) (me : Seat meaning t L W) (b d : PartData S V) (items : List (Item V)) (T : HandledAll meaning b items d)
         (at : get_elem? s.views id ≡ some me.0) (sh : IsViewOf me.0 b) (lt : k < box_count t.plan.shards) where
       abbrev n : ℕ

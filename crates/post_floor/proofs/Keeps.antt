@@ -78,7 +78,8 @@ module _ {S V : Type 0} (meaning : S → Algebra V) (t : SetupData S) where
     kept_core events = run_kept (meaning t.diffusion.algebra) (network_of t) (L t.diffusion.algebra) W
         (opening (meaning t.diffusion.algebra) (network_of t)) events (opening_kept (meaning t.diffusion.algebra) (network_of t) W)
 
-    -- what the parts and mailboxes show after one view went on by items of its part and then changed its lists
+    -- what the parts and mailboxes show after one view went on by items of its part and then
+    -- changed its lists
     pub record After (s : St) (id : ℕ) (w : View S V) (e : PartData S V) (mail' : (ℕ → Item V → ℕ) → ℕ) (events : List Event) : Type 0 where
       pub shown : Represents meaning t (flat (set s.views id w)) mail' (core_of meaning t events)
       pub whole : (j : ℕ) → j < t.plan.shards → total (λ p. is j p.shard) (flat (set s.views id w)) ≡ 1

@@ -40,7 +40,8 @@ slots_next n next j x h is_x = record {
     here (y ∷ ys) zero x l = l
     here (y ∷ ys) (suc j) x l = here ys j x l
 
--- what a call knows of the floor, the seat and the part: f, d and p as callers see them, and what is inside of floor and seat
+-- what a call knows of the floor, the seat and the part: f, d and p as callers see them, and what
+-- is inside of floor and seat
 pub record Seated {S V : Type 0} (meaning : S → Algebra V) (f : FloorData S) (d : SeatData S V) (p : PartData S V)
     (fid : TableId) (t : SetupData S) (sh : ℕ) (id : TableId) (s : ℕ) (v : View S V) (slots : List (ℕ × Slot V)) (claims : List ℕ) (room : ℕ)
     (next_fill next_read : List ℕ) : Type 0 where

@@ -31,19 +31,22 @@ pub record SeatData (S V : Type 0) : Type 0 where
   pub shard : ℕ
   pub knows : View S V
 
--- the table has a word and a slot for each mailbox between the diffusion's shards, and the done word
+-- the table has a word and a slot for each mailbox between the diffusion's shards, and the done
+-- word
 pub record IsTableSized {S : Type 0} (id : TableId) (t : SetupData S) : Type 0 where
   pub words : id.words ≡ box_count t.plan.shards + 1
   pub slots : id.slots ≡ box_count t.plan.shards
   pub planned : IsPlanned t 0
 
--- a pass is of a table of the diffusion's size, and the part has moved on from what the pass knows by items of its own
+-- a pass is of a table of the diffusion's size, and the part has moved on from what the pass knows
+-- by items of its own
 pub record AtTable {S V : Type 0} (meaning : S → Algebra V) (id : TableId) (t : SetupData S) (pass : TableId) (v : View S V) (p : PartData S V) : Type 0 where
   pub sized : IsTableSized id t
   pub own : pass ≡ id
   pub moved : ViewLags meaning v p
 
--- The part d is at the table, and e is what is left of it: the slot k was taken last, and has what d had for the mailbox's shard.
+-- The part d is at the table, and e is what is left of it: the slot k was taken last, and has what
+-- d had for the mailbox's shard.
 pub record Publishing {S V : Type 0} (meaning : S → Algebra V) (id : TableId) (t : SetupData S) (pass : TableId) (k : ℕ) (e : PartData S V) (m : Me (Slot V) (View S V)) : Type 0 where
   pub d : PartData S V
   pub at : AtTable meaning id t pass m.0 d
@@ -68,7 +71,8 @@ pub record AreSlots (n : ℕ) (next : List ℕ) : Type 0 where
 abbrev pub HasEnd : ℕ → ℕ → ℕ → Type 0
 HasEnd n s k = (k < box_count n) × ((origin n k ≡ s) ⊎ (dest n k ≡ s))
 
--- the slots that a seat has out: those of the mailboxes that it fills or reads, in the order of its claims, each empty, none twice
+-- the slots that a seat has out: those of the mailboxes that it fills or reads, in the order of its
+-- claims, each empty, none twice
 pub record AreOpen {S V : Type 0} (t : SetupData S) (s : ℕ) (v : View S V) (slots : List (ℕ × Slot V)) (claims : List ℕ) : Type 0 where
   pub keys : map (λ x. x.0) slots ≡ claims
   pub empty : All (λ x. x.1 ≡ empty_slot t x.0) slots
@@ -76,7 +80,8 @@ pub record AreOpen {S V : Type 0} (t : SetupData S) (s : ℕ) (v : View S V) (sl
   pub once : (k : ℕ) → total (is k) claims ≤ 1
   pub own : All (HasEnd t.plan.shards s) claims
 
--- a seat has one part, of its shard; its arrays of next slots are the view's, and its ring of claims has room for all mailboxes with an end at the shard
+-- a seat has one part, of its shard; its arrays of next slots are the view's, and its ring of
+-- claims has room for all mailboxes with an end at the shard
 pub record IsSeat {S V : Type 0} (d : SeatData S V) (slots : List (ℕ × Slot V)) (claims : List ℕ) (room : ℕ) (next_fill next_read : List ℕ) : Type 0 where
   pub part : PartData S V
   pub parts : d.knows.parts ≡ part ∷ []
@@ -97,7 +102,8 @@ fill_box f d to = mailbox f.setup.plan.shards d.shard to (get_or d.knows.next_fi
 abbrev pub read_box : {S V : Type 0} → FloorData S → SeatData S V → ℕ → ℕ
 read_box f d from = mailbox f.setup.plan.shards from d.shard (get_or d.knows.next_read from 0)
 
--- the seat is one of the floor's, the part is of its diffusion, and since the seat's last step the part moved on by items of its own alone
+-- the seat is one of the floor's, the part is of its diffusion, and since the seat's last step the
+-- part moved on by items of its own alone
 pub record IsAt {S V : Type 0} (meaning : S → Algebra V) (f : FloorData S) (d : SeatData S V) (p : PartData S V) : Type 0 where
   pub floor : d.floor ≡ f.id
   pub setup : p.setup ≡ f.setup
@@ -111,6 +117,7 @@ IsSameSeat d e = (e.floor ≡ d.floor) × (e.shard ≡ d.shard)
 abbrev pub seat_of : {S V : Type 0} → TableId → ℕ → PartData S V → SeatData S V
 seat_of id n p = record { floor = id; shard = p.shard; knows = knows n (p ∷ []) }
 
--- the parts are those of all shards of the plan, in order, as they are opened for one diffusion from the source
+-- the parts are those of all shards of the plan, in order, as they are opened for one diffusion
+-- from the source
 abbrev pub IsFresh : {S V : Type 0} → (S → Algebra V) → PlanData → ℕ → List (PartData S V) → Type 0
 IsFresh {S} meaning plan source parts = (t : SetupData S) × (parts ≡ first_parts meaning t t.plan.shards) × (t.plan ≡ plan) × (t.diffusion.source ≡ source)

@@ -70,8 +70,9 @@ module _ {S V : Type 0} where
     pub fills : length v.next_fill ≡ n
     pub reads : length v.next_read ≡ n
 
-  -- The slots between each two of n shards are in order, by the next slots that the views of their parts have: those that are full are consecutive, from the
-  -- receiver's next slot to the one before the sender's next.
+  -- The slots between each two of n shards are in order, by the next slots that the views of their
+  -- parts have: those that are full are consecutive, from the receiver's next slot to the one
+  -- before the sender's next.
   abbrev pub AreAllInOrder : ℕ → List ℕ → List (View S V) → Type 0
   AreAllInOrder n words views = (i j : ℕ) (v w : View S V) (p q : PartData S V) → get_elem? views i ≡ some v → get_elem? views j ≡ some w
       → IsSeatOf n v p → IsSeatOf n w q → p.shard ≢ q.shard
@@ -118,9 +119,10 @@ pub record MailboxInvariant {S V : Type 0} (t : SetupData S) (k w : ℕ) (y : Pl
   pub out : (w ≡ filling) ⊎ (w ≡ reading) → y ≡ some none
 
 module _ {S V : Type 0} (meaning : S → Algebra V) (t : SetupData S) where
-  -- What holds between any two steps: some events lead from the opening to a state that all views and all mailboxes represent, the views are of all
-  -- shards, their counts add up to what the events did, each mailbox is as its word says, the slots between
-  -- two shards are in order, and the done word says so only if the state has ended. No part has an item in its outbox to its own
+  -- What holds between any two steps: some events lead from the opening to a state that all views
+  -- and all mailboxes represent, the views are of all shards, their counts add up to what the
+  -- events did, each mailbox is as its word says, the slots between two shards are in order, and
+  -- the done word says so only if the state has ended. No part has an item in its outbox to its own
   -- shard, and if there is one part, best first, the events take the best waiting message first.
   pub record FloorInvariant (s : State (Slot V) (View S V)) : Type 0 where
     pub events : List Event
@@ -138,7 +140,9 @@ module _ {S V : Type 0} (meaning : S → Algebra V) (t : SetupData S) where
     pub own : All OwnOutboxIsEmpty (flat s.views)
     pub best : IsPlanned t 0 → AreBestFirstIfOne meaning t events
 
-  -- one view has all parts of a diffusion: with the mailboxes it represents a state that some events lead to, its counts are what these did, and if the done word says so, or it has seen that, the state has ended
+  -- one view has all parts of a diffusion: with the mailboxes it represents a state that some
+  -- events lead to, its counts are what these did, and if the done word says so, or it has seen
+  -- that, the state has ended
   pub record FinalView (v : View S V) (ws : List ℕ) (hs : List (Option (Slot V))) : Type 0 where
     pub events : List Event
     pub shown : Represents meaning t v.parts (in_transit t.plan.shards ws hs) (core_of meaning t events)
@@ -147,7 +151,8 @@ module _ {S V : Type 0} (meaning : S → Algebra V) (t : SetupData S) where
     pub seen : v.seen ≡ true → HasEnded (core_of meaning t events)
     pub best : IsPlanned t 0 → AreBestFirstIfOne meaning t events
 
-  -- after these events all is over: parts and mailboxes represent a state that has ended and is quiet, its labels are best, and no queue, outbox or mailbox holds an item
+  -- after these events all is over: parts and mailboxes represent a state that has ended and is
+  -- quiet, its labels are best, and no queue, outbox or mailbox holds an item
   pub record RepresentsQuiet (parts : List (PartData S V)) (mailed : (ℕ → Item V → ℕ) → ℕ) (events : List Event) : Type 0 where
     pub shown : Represents meaning t parts mailed (core_of meaning t events)
     pub ended : HasEnded (core_of meaning t events)
@@ -156,8 +161,9 @@ module _ {S V : Type 0} (meaning : S → Algebra V) (t : SetupData S) where
     pub empty : total (part_weight (λ _ _. 1)) parts + mailed (λ _ _. 1) ≡ 0
 
 module _ {S V : Type 0} where
-  -- A part of the view can do nothing: its queue is empty, its next mailbox from each other shard is not full, and each outbox is empty, or it is for another
-  -- shard to which the next mailbox is not empty.
+  -- A part of the view can do nothing: its queue is empty, its next mailbox from each other shard
+  -- is not full, and each outbox is empty, or it is for another shard to which the next mailbox is
+  -- not empty.
   pub record Rests (n : ℕ) (words : List ℕ) (v : View S V) (p : PartData S V) : Type 0 where
     pub next_fill : length v.next_fill ≡ n
     pub next_read : length v.next_read ≡ n

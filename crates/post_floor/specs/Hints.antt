@@ -22,13 +22,15 @@ module _ {V : Type 0} (A : Algebra V) (shows : ℕ → ℕ → Type 0) where
   abbrev pub IsShown : ℕ → Option V → Type 0
   IsShown shard o = (code : ℕ) × shows shard code × StandsFor A code o
 
-  -- the best of the values shown of the first n shards but one; none if no value is shown of any of them
+  -- the best of the values shown of the first n shards but one; none if no value is shown of any of
+  -- them
   pub record IsBestShown (n own : ℕ) (best : Option V) : Type 0 where
     pub shown : IfSome best (λ x. (shard : ℕ) × (shard < n) × (shard ≢ own) × IsShown shard (Some x))
     pub least : (shard : ℕ) → shard < n → shard ≢ own → (o : Option V) × IsShown shard o × IfSome o (IsAsGood A.no_worse best)
 
-  -- How far the shard `own` of n may run ahead: the best value shown of the others, and the same after one more arc of this weight. There is no limit if no
-  -- value is shown of any of them, or if the arc may not be taken from the best.
+  -- How far the shard `own` of n may run ahead: the best value shown of the others, and the same
+  -- after one more arc of this weight. There is no limit if no value is shown of any of them, or if
+  -- the arc may not be taken from the best.
   abbrev pub IsLimit : (n own ahead : ℕ) → Option (Limit V) → Type 0
   IsLimit n own ahead (Some l) = IsBestShown n own (Some l.best) × (A.extend l.best ahead ≡ Some l.value)
   IsLimit n own ahead None = IsBestShown n own None ⊎ ((x : V) × IsBestShown n own (Some x) × (A.extend x ahead ≡ None))

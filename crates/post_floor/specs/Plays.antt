@@ -23,7 +23,8 @@ without k [] = []
 without k (x ∷ xs) = cond (eqb k x) xs (x ∷ without k xs)
 
 module _ {S V : Type 0} where
-  -- the view has the part alone, and the part's counters are the view's counts, each held at the top
+  -- the view has the part alone, and the part's counters are the view's counts, each held at the
+  -- top
   pub record IsViewOf (v : View S V) (p : PartData S V) : Type 0 where
     pub parts : v.parts ≡ p ∷ []
     pub sent : p.sent ≡ min v.sent top
@@ -98,7 +99,8 @@ module _ {S V : Type 0} (meaning : S → Algebra V) where
   abbrev pub HoldsReachedShare : PartData S V → Type 0
   HoldsReachedShare p = (events : List Event) × HoldsShare meaning (core_of meaning p.setup events) p
 
-  -- the part holds its share of a state that some events lead to, and that state has ended and is quiet
+  -- the part holds its share of a state that some events lead to, and that state has ended and is
+  -- quiet
   abbrev pub HoldsEndedShare : PartData S V → Type 0
   HoldsEndedShare p = (events : List Event) × HoldsShare meaning (core_of meaning p.setup events) p × HasEnded (core_of meaning p.setup events) × IsQuiet (core_of meaning p.setup events)
 
@@ -125,32 +127,38 @@ module _ {S V : Type 0} (meaning : S → Algebra V) where
   AnnounceStep p k m m' = StepsTo (at_word k done_now (see m.0)) p m'.0 × HoldsEndedShare p × (m'.1 ≡ m.1)
 
 module _ {S V : Type 0} where
-  -- what a try_fill of the mailbox k reports: true if it found it empty, and then the seat fills it; false if it did not
+  -- what a try_fill of the mailbox k reports: true if it found it empty, and then the seat fills
+  -- it; false if it did not
   abbrev pub FillOutcome : Bool → PartData S V → ℕ → View S V → View S V → Type 0
   FillOutcome true p k v w = StepsTo (at_word k empty (begin_fill k v)) p w
   FillOutcome false p k v w = (x : ℕ) × (x ≢ empty) × StepsTo (at_word k x v) p w
 
-  -- what holds after publishing into the mailbox k, which leads to a shard: it is full, and the seat fills it no more
+  -- what holds after publishing into the mailbox k, which leads to a shard: it is full, and the
+  -- seat fills it no more
   abbrev pub PublishOutcome : ℕ → PartData S V → ℕ → View S V → View S V → Type 0
   PublishOutcome to p k v w = StepsTo (at_word k full (end_fill to k v)) p w
 
-  -- what holds after clearing the mailbox k, which comes from a shard: it is empty, and the seat reads it no more
+  -- what holds after clearing the mailbox k, which comes from a shard: it is empty, and the seat
+  -- reads it no more
   abbrev pub ClearOutcome : ℕ → PartData S V → ℕ → View S V → View S V → Type 0
   ClearOutcome from p k v w = StepsTo (at_word k empty (end_read from k v)) p w
 
 module _ {S V : Type 0} (meaning : S → Algebra V) where
-  -- What a try_read of the mailbox k reports, which takes the part from p to q. True if it found it full: the batch is in the queue, the seat reads
-  -- the mailbox now, and the part, with its batch, holds its share of a state that some events lead to. False if it did not.
+  -- What a try_read of the mailbox k reports, which takes the part from p to q. True if it found it
+  -- full: the batch is in the queue, the seat reads the mailbox now, and the part, with its batch,
+  -- holds its share of a state that some events lead to. False if it did not.
   abbrev pub ReadOutcome : Bool → PartData S V → PartData S V → ℕ → View S V → View S V → Type 0
   ReadOutcome true p q k v w = ((xs : List (Item V)) × (q ≡ joined p xs)) × StepsTo (at_word k full (begin_read k v)) q w × HoldsReachedShare meaning q
   ReadOutcome false p q k v w = (q ≡ p) × (x : ℕ) × (x ≢ full) × StepsTo (at_word k x v) q w
 
-  -- what a look at the done word k reports: true if it found the end announced, and then the part holds its share of an ended state; false if it did not
+  -- what a look at the done word k reports: true if it found the end announced, and then the part
+  -- holds its share of an ended state; false if it did not
   abbrev pub LookOutcome : Bool → PartData S V → ℕ → View S V → View S V → Type 0
   LookOutcome true p k v w = StepsTo (at_word k done_now (see v)) p w × HoldsEndedShare meaning p
   LookOutcome false p k v w = (x : ℕ) × (x ≢ done_now) × StepsTo (at_word k x v) p w × HoldsReachedShare meaning p
 
-  -- what fetching the batch of the mailbox k reports: if it succeeds, the slot is out with the seat, and empty
+  -- what fetching the batch of the mailbox k reports: if it succeeds, the slot is out with the
+  -- seat, and empty
   abbrev pub BatchOutcome : Bool → PartData S V → PartData S V → ℕ → Me (Slot V) (View S V) → Me (Slot V) (View S V) → Type 0
   BatchOutcome true p q k m m' = ReadOutcome true p q k m.0 m'.0 × (m'.1 ≡ (k, empty_slot q.setup k) ∷ m.1) × Unclaimed k m.0
   BatchOutcome false p q k m m' = ReadOutcome false p q k m.0 m'.0 × (m'.1 ≡ m.1)

@@ -27,8 +27,9 @@ use shard_part::{Batch, Part, Plan, Setup, Shard};
 use std::alloc::Global;
 use std::marker::{Brand, Model};
 
-/// The mailboxes between the parts of a diffusion: four words and four slots for each ordered pair of shards, and one done word.
-/// A word says whether its slot is empty, being filled, full or being read.
+/// The mailboxes between the parts of a diffusion: four words and four slots for each ordered pair
+/// of shards, and one done word. A word says whether its slot is empty, being filled, full or being
+/// read.
 #[derive(Drop)]
 pub struct Floor<A: PathAlgebra> {
     pub(crate) table: Table<Option<Batch<A::Value>>, View<A>, Setup<A>, FloorRule<A>, Global>,
@@ -48,8 +49,9 @@ impl<A: PathAlgebra> Model for Floor<A> {
 }
 
 impl<A: PathAlgebra> Floor<A> {
-    /// A floor with empty mailboxes, and a seat for each part, in order. The parts are those of all shards of the plan, as they were opened for one diffusion from the source.
-    /// Each mailbox has room for an item on each arc between its two shards: no later call takes memory.
+    /// A floor with empty mailboxes, and a seat for each part, in order. The parts are those of all
+    /// shards of the plan, as they were opened for one diffusion from the source. Each mailbox has
+    /// room for an item on each arc between its two shards: no later call takes memory.
     pub fn open(
         alloc: Global,
         plan: &Plan,
@@ -83,15 +85,16 @@ impl<A: PathAlgebra> Floor<A> {
         ))
     }
 
-    /// From now on a shard takes no message that is worse than the best value that another one advertises, or that waits for another one there, extended by an arc
-    /// of this weight.
+    /// From now on a shard takes no message that is worse than the best value that another one
+    /// advertises, or that waits for another one there, extended by an arc of this weight.
     pub fn hold_back(&mut self, ahead: u32)
         ensures { self.new ≡ self.old }
     {
         self.hints.hold_back(ahead);
     }
 
-    /// How far a part may run ahead now, if shards are held back and another one advertises a value. Of what they advertise nothing is promised.
+    /// How far a part may run ahead now, if shards are held back and another one advertises a
+    /// value. Of what they advertise nothing is promised.
     pub fn limit(&self, part: &Part<'_, A>) -> Option<Limit<A::Value>>
         ensures order { IfSome result (λ l. IsTrue (A.order l.best l.value)) }
         ensures limit { IfSome result (λ l. (ahead : ℕ) ×
@@ -140,7 +143,8 @@ impl<A: PathAlgebra> Floor<A> {
         true
     }
 
-    /// Moves the outbox to a shard into the mailbox that is being filled for it, which is full then.
+    /// Moves the outbox to a shard into the mailbox that is being filled for it, which is full
+    /// then.
     pub fn publish(&self, seat: &mut Seat<A>, part: &mut Part<'_, A>, to: Shard)
         requires at { IsAt A.meaning self.now seat.old part.old }
         requires shard { (to ≢ seat.old.shard) × (to < self.now.setup.plan.shards) }
@@ -176,7 +180,8 @@ impl<A: PathAlgebra> Floor<A> {
         part.best_outgoing(to)
     }
 
-    /// Whether the next mailbox from a shard is full. If so, its batch goes into the queue, and the seat reads it.
+    /// Whether the next mailbox from a shard is full. If so, its batch goes into the queue, and the
+    /// seat reads it.
     pub fn try_read(&self, seat: &mut Seat<A>, part: &mut Part<'_, A>, from: Shard) -> bool
         requires at { IsAt A.meaning self.now seat.old part.old }
         requires shard { (from ≢ seat.old.shard) × (from < self.now.setup.plan.shards) }
@@ -230,7 +235,8 @@ impl<A: PathAlgebra> Floor<A> {
         announce_word::<A, Brand>(&self.table.shared, &mut seat.pass, part, done);
     }
 
-    /// Whether the end was announced. If so, the state that the floor represents has ended and is quiet, and the part holds its share of it.
+    /// Whether the end was announced. If so, the state that the floor represents has ended and is
+    /// quiet, and the part holds its share of it.
     pub fn look(&self, seat: &mut Seat<A>, part: &Part<'_, A>) -> bool
         requires at { IsAt A.meaning self.now seat.old part.now }
         ensures seat { IsSameSeat seat.old seat.new }
@@ -242,9 +248,12 @@ impl<A: PathAlgebra> Floor<A> {
         look_word::<A, Brand>(&self.table.shared, &mut seat.pass, part, done) == DONE
     }
 
-    /// Closes the floor with the seats of all its shards, whatever claims they have open. If a shard's seat is missing, floor and seats come back as they were.
+    /// Closes the floor with the seats of all its shards, whatever claims they have open. If a
+    /// shard's seat is missing, floor and seats come back as they were.
     ///
-    /// What the seats know together and what the mailboxes held at the end represent one state, which some events lead to from the opening. The seats' counts are what these events did, and the state has ended if that was announced or a seat has seen it.
+    /// What the seats know together and what the mailboxes held at the end represent one state,
+    /// which some events lead to from the opening. The seats' counts are what these events did, and
+    /// the state has ended if that was announced or a seat has seen it.
     pub fn close(self, mut seats: Vec<Seat<A>>) -> Result<Closed<A>, (Floor<A>, Vec<Seat<A>>)>
         requires seats { All (λ d. d.floor ≡ self.id) seats.items }
         ensures closed { IfOk result (λ r. AllSeated self.setup.plan.shards seats.items ×

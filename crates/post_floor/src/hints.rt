@@ -1,4 +1,5 @@
-//! What each shard advertises to the others of the best value that waits for it, and how far they may run ahead of it.
+//! What each shard advertises to the others of the best value that waits for it, and how far they
+//! may run ahead of it.
 ghost use Rattle.std.specs.Prelude.{◌≡◌, ⊤, ℕ, ◌≢◌, IsTrue, IfSome, IfNone, None, Some};
 ghost use Rattle.post_floor.specs.Hints.{StandsFor, IsShown, IsBestShown, IsLimit};
 
@@ -33,7 +34,8 @@ pub trait HintSource {
         ensures { may_show self.now shard result };
 }
 
-/// A word for each shard, on a cache line of its own, with the code of the best value that waits there, and by what weight a shard may run ahead.
+/// A word for each shard, on a cache line of its own, with the code of the best value that waits
+/// there, and by what weight a shard may run ahead.
 #[derive(Drop)]
 pub(crate) struct Hints {
     words: Vec<CachePadded<AtomicU64>>,
@@ -82,7 +84,8 @@ impl Hints {
         }
     }
 
-    /// Advertises at a shard the best value that was sent to it, unless what it advertises is no worse. At its next turn it advertises what waits there again.
+    /// Advertises at a shard the best value that was sent to it, unless what it advertises is no
+    /// worse. At its next turn it advertises what waits there again.
     pub(crate) fn lower<A: PathAlgebra>(&self, algebra: A, to: Shard, sent: A::Value) {
         if let Some(word) = self.words.get(to.0 as usize) {
             for _ in 0..TRIES {

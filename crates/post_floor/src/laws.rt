@@ -18,7 +18,9 @@ ghost use Rattle.post_floor.specs.Floor.{Slot, flat, in_transit, FloorInvariant,
 
 use path_algebra::PathAlgebra;
 
-/// If the rule of the floor holds and a view has seen the done word at 1, all is over: the state that all views and all mailboxes represent has ended and is quiet, its labels are best, and no queue, outbox or mailbox holds an item.
+/// If the rule of the floor holds and a view has seen the done word at 1, all is over: the state
+/// that all views and all mailboxes represent has ended and is quiet, its labels are best, and no
+/// queue, outbox or mailbox holds an item.
 pub fn seen_floors_are_quiet<A: PathAlgebra>(_algebra: A)
     ensures kept { (t : SetupData A) (s : State (Slot A.Value) (View A A.Value)) → IsPlanned t 0 →
         FloorInvariant A.meaning t s → (id : ℕ) (v : View A
@@ -31,9 +33,10 @@ pub fn seen_floors_are_quiet<A: PathAlgebra>(_algebra: A)
         (events : List Event) × RepresentsQuiet A.meaning t v.parts (in_transit t.plan.shards words homes) events }
 {}
 
-/// If the rule of the floor holds and nothing can be done, the diffusion has ended, and the part of the source's shard knows it. Nothing can be done if no fill
-/// and no read has begun, each queue is empty, each view that has a part has a next slot to and from each shard, no part's next mailbox from another shard is full,
-/// and each outbox is empty or waits for a mailbox that is not.
+/// If the rule of the floor holds and nothing can be done, the diffusion has ended, and the part of
+/// the source's shard knows it. Nothing can be done if no fill and no read has begun, each queue is
+/// empty, each view that has a part has a next slot to and from each shard, no part's next mailbox
+/// from another shard is full, and each outbox is empty or waits for a mailbox that is not.
 pub fn still_floors_have_ended<A: PathAlgebra>(_algebra: A)
     ensures ended { (t : SetupData A) (s : State (Slot A.Value) (View A A.Value)) → IsPlanned t 0 →
         (r : FloorInvariant A.meaning t s) → IsStill t.plan.shards s → HasEnded (core_of A.meaning t r.events) }
@@ -43,8 +46,10 @@ pub fn still_floors_have_ended<A: PathAlgebra>(_algebra: A)
         get_elem? v.parts place ≡ some p → p.shard ≡ place_in t 0 → has_ended p ≡ true }
 {}
 
-/// If the rule of the floor holds, and there is one shard, whose part takes its items best first, the events to the state that all views and mailboxes represent
-/// have sent at most one message along each arc. So the views have counted at most as many as there are arcs out of vertices with a label, and one.
+/// If the rule of the floor holds, and there is one shard, whose part takes its items best first,
+/// the events to the state that all views and mailboxes represent have sent at most one message
+/// along each arc. So the views have counted at most as many as there are arcs out of vertices with
+/// a label, and one.
 pub fn one_shard_sends_once_an_arc<A: PathAlgebra>(_algebra: A)
     ensures once { (t : SetupData A) (s : State (Slot A.Value) (View A A.Value)) → IsPlanned t 0 →
         HasOneBestFirstPart t → (r : FloorInvariant A.meaning t s) → (a : ℕ) →

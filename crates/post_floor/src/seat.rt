@@ -7,7 +7,8 @@ use path_algebra::PathAlgebra;
 use shard_part::Shard;
 use std::marker::Model;
 
-/// The place of one part at a floor: what it knows of the others, its open claims, and which slot comes next for each other shard. It may move between threads.
+/// The place of one part at a floor: what it knows of the others, its open claims, and which slot
+/// comes next for each other shard. It may move between threads.
 #[derive(Drop)]
 pub struct Seat<A: PathAlgebra> {
     pub(crate) pass: Pass<A>,

@@ -1,4 +1,5 @@
-//! The steps that a seat makes on words, each one atomic operation. The type `W` names the part that makes the step, for the proof alone.
+//! The steps that a seat makes on words, each one atomic operation. The type `W` names the part
+//! that makes the step, for the proof alone.
 ghost use Rattle.std.specs.Prelude.{◌≡◌, ◌≢◌, true, ◌<◌, [], ◌∷◌};
 ghost use Rattle.shard_part.specs.Readings.{has_ended};
 ghost use Rattle.post_floor.specs.Boxes.{box_count, dest, origin};

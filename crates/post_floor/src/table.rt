@@ -5,7 +5,8 @@ use path_algebra::PathAlgebra;
 use shard_part::{Batch, Setup};
 use std::marker::PhantomData;
 
-/// What holds between any two steps on the words of a floor, whoever makes them: some events lead from the opening to a state that all views and all mailboxes represent.
+/// What holds between any two steps on the words of a floor, whoever makes them: some events lead
+/// from the opening to a state that all views and all mailboxes represent.
 pub struct FloorRule<A> {
     of: PhantomData<A>,
 }

@@ -2,7 +2,7 @@
 use Rattle.std.specs.Prelude.{◌≡◌, ◌≢◌, ℕ, ◌⊎◌, ◌↔◌, List, [], ◌∷◌, Option, Result, IsSome, is_some, false}
 use Rattle.answer_check.specs.declared.verdict.Verdict.{Verdict}
 use Rattle.path_algebra.specs.declared.choice.AlgebraChoice.{AlgebraChoice}
-use Rattle.path_algebra.specs.Choices.{Under}
+use Rattle.path_algebra.specs.Choices.{Under, arc_cost_of}
 use Rattle.batch_run.specs.declared.faults.File.TheVariants.{Graph}
 use Rattle.batch_run.specs.declared.faults.RunFault.{RunFault}
 use Rattle.batch_run.specs.declared.settings.Settings.{Settings}
@@ -25,7 +25,7 @@ use Rattle.program.specs.Judgements.{EndsCheck, RanJudge}
 use Rattle.program.specs.Moments.{Moment}
 use Rattle.program.specs.Opening.{CannotChoose, CannotCreate, CannotOpen, CreatesIf, HasOpened, IsChosen, Tells, Tries, accounts_name, inputs_judged, inputs_solved, missing, written_names}
 use Rattle.program.specs.Refusals.{Says}
-use Rattle.program.specs.Runs.{arc_cost_of, gate_is_open}
+use Rattle.program.specs.Runs.{gate_is_open}
 use Rattle.program.specs.Times.{ShowsTimes}
 use Rattle.program.specs.Watching.{EndsWatched}
 

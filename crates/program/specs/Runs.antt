@@ -1,34 +1,21 @@
 -- What answering leaves under the algebra that was chosen, between two moments of its inputs and
 -- its output.
-use Rattle.std.specs.Prelude.{◌≡◌, ◌≢◌, ◌≤◌, ℕ, Bool, true, Option, None, Some, Result, IfErr}
+use Rattle.std.specs.Prelude.{◌≡◌, ◌≢◌, ◌≤◌, ℕ, Bool, true, Result, IfErr}
 use Rattle.road_graph.specs.GraphData.{GraphData}
 use Rattle.road_files.specs.Asked.{Asked}
 use Rattle.path_algebra.specs.declared.choice.AlgebraChoice.{AlgebraChoice}
-use Rattle.path_algebra.specs.declared.choice.AlgebraChoice.TheVariants.{Shortest, Widest, Reach, Hops, Reliable, Within}
-use Rattle.path_algebra.specs.Choices.{Under}
-use Rattle.path_algebra.specs.declared.counted_sums.Cost.{Cost}
-use Rattle.path_algebra.specs.declared.counted_sums.Cost.TheVariants.{One, Weight}
+use Rattle.path_algebra.specs.Choices.{OfChosen, Under, arc_cost_of}
 use Rattle.batch_run.specs.declared.faults.File.{File}
 use Rattle.batch_run.specs.declared.faults.RunFault.{RunFault}
 use Rattle.batch_run.specs.declared.settings.Settings.{Settings}
 use Rattle.batch_run.specs.Runs.{Output, Ran}
 use Rattle.batch_run.specs.Stopping.{Stopped}
 use Rattle.batch_run.specs.Unsuited.{IsRefusedUnsuited}
-use Rattle.program.specs.Chosen.{OfChosen}
 
 -- the gate of the program is always open: whichever worker asks before whichever turn, its answer
 -- is true
 abbrev pub gate_is_open : ℕ → ℕ → Bool → Type 0
 gate_is_open worker turn answer = answer ≡ true
-
--- what an arc costs by the algebra that was chosen, if best values are least sums of that
-abbrev pub arc_cost_of : AlgebraChoice → Option Cost
-arc_cost_of Shortest = Some Weight
-arc_cost_of Widest = None
-arc_cost_of Reach = None
-arc_cost_of Hops = Some One
-arc_cost_of Reliable = None
-arc_cost_of (Within w) = Some Weight
 
 -- the questions of an input were answered over its graph, or this fault stopped it
 pub record RanUnder {W : Type 0} (chosen : AlgebraChoice) (settings : Settings) (IsRead : GraphData → Asked → Type 0) (inputs : File → Type 0) (HasRead : Result (Unit {0}) RunFault → Type 0)

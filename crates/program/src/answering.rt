@@ -1,16 +1,15 @@
 //! Answers a batch or a service under the algebra that was chosen, and says how it ends.
 ghost use Rattle.std.specs.Prelude.{◌≡◌};
 ghost use Rattle.std.specs.Option.{option_map};
-ghost use Rattle.path_algebra.specs.Choices.{Under};
+ghost use Rattle.path_algebra.specs.Choices.{OfChosen, Under, arc_cost_of};
 ghost use Rattle.batch_run.specs.Inputs.{HasReadPair};
 ghost use Rattle.batch_run.specs.Ran.{IsPairFile, IsPairOf};
 ghost use Rattle.batch_run.specs.Reports.{Watched};
 ghost use Rattle.batch_run.specs.Runs.{Ran};
 ghost use Rattle.batch_run.specs.Stopping.{Stopped};
 ghost use Rattle.batch_run.specs.Unsuited.{IsRefusedUnsuited};
-ghost use Rattle.program.specs.Chosen.{OfChosen};
 ghost use Rattle.service.specs.Served.{RanService};
-ghost use Rattle.program.specs.Runs.{arc_cost_of, gate_is_open};
+ghost use Rattle.program.specs.Runs.{gate_is_open};
 ghost use Rattle.program.specs.Watching.{EndsAccounts, EndsWatched, outcome_of};
 
 use crate::files::FileSystem;

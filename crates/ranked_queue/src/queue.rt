@@ -62,7 +62,8 @@ impl<A: PathAlgebra, K: Rank> RankedQueue<A, K> {
         Ok(())
     }
 
-    /// Takes the first entry of the queue, if there is any: of the best value, and of the least rank among equals.
+    /// Takes the first entry of the queue, if there is any: of the best value, and of the least
+    /// rank among equals.
     pub fn pop(&mut self) -> Option<Ranked<A, K>>
         ensures items { IfSome result (λ x. IsPermutation self.old (x ∷ self.new)) }
         ensures len { IfSome result (λ x. length self.new + 1 ≡ length self.old) }

@@ -10,7 +10,8 @@ use std::cmp::Ordering;
 
 /// A value with a rank.
 ///
-/// Better values are greater, and if values tie lesser ranks are: only an entry with the same two is equal.
+/// Better values are greater, and if values tie lesser ranks are: only an entry with the same two
+/// is equal.
 #[derive(Drop)]
 pub struct Ranked<A: PathAlgebra, K: Rank> {
     pub value: A::Value,

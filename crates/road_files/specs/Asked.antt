@@ -10,7 +10,8 @@ use Rattle.road_files.specs.declared.questions.Kind.TheVariants as kinds
 use Rattle.road_files.specs.declared.questions.Questions.{Questions}
 use Rattle.road_files.specs.declared.questions.Questions.TheVariants as variants
 
--- a question: to all vertices from one source, from one vertex to another, or to all vertices from several sources
+-- a question: to all vertices from one source, from one vertex to another, or to all vertices from
+-- several sources
 pub data Question : Type 0 where
   FromSource : (source : ℕ) → Question
   BetweenPair : (source target : ℕ) → Question

@@ -1,4 +1,5 @@
--- Bundles, by their lines: a graph part and then a question part, which begins at a problem line with `aux`.
+-- Bundles, by their lines: a graph part and then a question part, which begins at a problem line
+-- with `aux`.
 use Rattle.std.specs.Prelude.{ℕ, ◌&&◌, List, length, map, if◌then◌else◌, Option, None, Result, Ok, Err, codes, bytes_eq, Bool, nat_lt, drop}
 use Rattle.road_graph.specs.GraphData.{GraphData}
 use Rattle.text_lines.specs.Rules.{◌>>=◌, Rules}
@@ -25,7 +26,8 @@ pub data BundleSoFar : Type 0 where
 unfoldable pub begins_questions : List Word → Bool
 begins_questions ws = nat_lt 1 (length ws) && (bytes_eq (word_at 0 ws).text (codes "p") && bytes_eq (word_at 1 ws).text (codes "aux"))
 
--- the line that ends the graph part: the graph is whole, and the line is the problem line of the question part
+-- the line that ends the graph part: the graph is whole, and the line is the problem line of the
+-- question part
 abbrev pub first_question_line : Option RoadsSoFar → List Word → Result BundleSoFar ℕ
 first_question_line s ws = do
   roads ← gr_whole s

@@ -1,5 +1,6 @@
--- Question files, by their lines: comments, a problem line `p aux sp KIND K`, and K lines of that kind:
--- `s SOURCE` for `ss`, `q SOURCE TARGET` for `p2p`, `m SOURCE ..` with 1 to 1,024 sources for `ms`.
+-- Question files, by their lines: comments, a problem line `p aux sp KIND K`, and K lines of that
+-- kind: `s SOURCE` for `ss`, `q SOURCE TARGET` for `p2p`, `m SOURCE ..` with 1 to 1,024 sources for
+-- `ms`.
 use Rattle.std.specs.Prelude.{ℕ, ◌==◌, ◌&&◌, not, Bool, true, false, List, [], ◌∷◌, ◌++◌, length, drop, map, slice_index, if◌then◌else◌, Option, Some, None, nat_lt, is_none, Result, Ok, Err, codes, bytes_eq}
 use Rattle.text_lines.specs.Rules.{◌>>=◌, unless, Rules}
 use Rattle.text_lines.specs.Words.{Word, word_of, word_at}
@@ -39,7 +40,8 @@ abbrev pub accepted : Option Kind → Option Kind → Result Kind ℕ
 accepted only None = Err 12
 accepted only (Some kind) = if may_be only kind then Ok kind else Err 12
 
--- a problem line: it is the first, it has five fields, the middle ones are `aux`, `sp` and the kind, then the number of questions
+-- a problem line: it is the first, it has five fields, the middle ones are `aux`, `sp` and the
+-- kind, then the number of questions
 unfoldable pub question_problem : Option Kind → Option AskedSoFar → List Word → Result (Option AskedSoFar) ℕ
 question_problem only s ws = do
   _ ← unless (is_none s) 11
@@ -79,7 +81,8 @@ pair_of_line n ws = do
   target ← vertex_in n (word_at 2 ws).number
   Ok (BetweenPair source target)
 
--- an `m` line has 2 to 1,025 fields; `count` is how many it has, `vertices` what the vertices after the first field give
+-- an `m` line has 2 to 1,025 fields; `count` is how many it has, `vertices` what the vertices after
+-- the first field give
 unfoldable pub sources_of_line : ℕ → Result (List ℕ) ℕ → Result Question ℕ
 sources_of_line count vertices = do
   _ ← unless (nat_lt 1 count && nat_lt count 1026) 14
@@ -106,8 +109,9 @@ abbrev pub begins_list : List Word → Bool
 begins_list [] = false
 begins_list (w ∷ ws) = bytes_eq w.text (codes "m")
 
--- a line: blank, a comment, a problem line, the line of a question, or unknown; `in_list` says whether it begins
--- with `m`, `count` is how many words it has, and `vertices` what the vertices after the first word give
+-- a line: blank, a comment, a problem line, the line of a question, or unknown; `in_list` says
+-- whether it begins with `m`, `count` is how many words it has, and `vertices` what the vertices
+-- after the first word give
 unfoldable pub question_line_of : ℕ → Option Kind → Option AskedSoFar → List Word → Bool → ℕ → Result (List ℕ) ℕ → Result (Option AskedSoFar) ℕ
 question_line_of n only s ws in_list count vertices =
     if length ws == 0 then Ok s

@@ -10,14 +10,14 @@ use Rattle.road_files.specs.QuestionFiles.{AskedSoFar, question_rules, question_
 abbrev pub Request : Type 0
 Request = Result Asked ReadFault
 
--- A service between two lines. It gives lines to a request, with what was read of it so far (nothing before its
--- problem line), or skips them, up to the next problem line.
+-- A service between two lines. It gives lines to a request, with what was read of it so far
+-- (nothing before its problem line), or skips them, up to the next problem line.
 pub data ServiceState : Type 0 where
   Gives : (so_far : Option AskedSoFar) → ServiceState
   Passes : ServiceState
 
--- what a line does: the requests that end with it, each with what it asks or the number of its fault,
--- and the state after it
+-- what a line does: the requests that end with it, each with what it asks or the number of its
+-- fault, and the state after it
 pub record Step : Type 0 where
   pub ended : List (Result Asked ℕ)
   pub next : ServiceState
@@ -64,7 +64,8 @@ abbrev pub service_end : ServiceState → List (Result Asked ℕ)
 service_end (Gives (Some q)) = Err 19 ∷ []
 service_end _ = []
 
--- the requests of the lines from a line number on, in this state; a text that is cut short has no end
+-- the requests of the lines from a line number on, in this state; a text that is cut short has no
+-- end
 abbrev pub requests_of : Bool → ℕ → ℕ → ServiceState → List (List ℕ) → List Request
 requests_of cut n at state [] = if cut then [] else map (at_line at) (service_end state)
 requests_of cut n at state (l ∷ ls) =
@@ -76,8 +77,8 @@ abbrev pub state_after_lines : ℕ → ServiceState → List (List ℕ) → Serv
 state_after_lines n state [] = state
 state_after_lines n state (l ∷ ls) = state_after_lines n (service_line n state (fields l)).next ls
 
--- The requests of a text over a graph with n vertices. If the text is cut short, they are those that its bytes
--- complete, whatever comes after them.
+-- The requests of a text over a graph with n vertices. If the text is cut short, they are those
+-- that its bytes complete, whatever comes after them.
 abbrev pub requests : Bool → ℕ → List ℕ → List Request
 requests cut n bytes = requests_of cut n 1 (Gives None) (lines cut bytes)
 

@@ -11,8 +11,8 @@ ghost use Rattle.road_files.specs.WrittenQuestions.{questions_text};
 
 use crate::questions::Kind;
 
-/// The text of questions over a graph with n vertices has the questions as its value, if the file may be of their
-/// kind and the text is not too long. Only lists of sources can make it too long.
+/// The text of questions over a graph with n vertices has the questions as its value, if the file
+/// may be of their kind and the text is not too long. Only lists of sources can make it too long.
 #[tactic(auto, using(crate::proofs::QuestionLaws::questions_again, crate::proofs::QuestionLaws::short_text))]
 pub fn questions_read_again()
     ensures value { (n : ℕ) (only : Option Kind) (q : Questions) → n ≤ 33554432 → may_be only (asked_of q).kind ≡ true → AreQuestionsOf n q → length (questions_text (asked_of q)) ≤ 4294967296 →
@@ -21,8 +21,8 @@ pub fn questions_read_again()
         AreQuestionsOf n q → length (questions_text (asked_of q)) ≤ 4294967296 }
 {}
 
-/// The text of a graph and then that of questions over it are a bundle of both, if it is not too long. Only lists of
-/// sources can make it too long.
+/// The text of a graph and then that of questions over it are a bundle of both, if it is not too
+/// long. Only lists of sources can make it too long.
 #[tactic(auto, using(crate::proofs::BundleAgain::bundle_again, crate::proofs::BundleAgain::short_bundle))]
 pub fn bundle_read_again()
     ensures value { (g : GraphData) (q : Questions) → IsGraph g → AreQuestionsOf g.vertices q → length (gr_text g ++ questions_text (asked_of q)) ≤ 4294967296 →

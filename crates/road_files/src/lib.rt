@@ -1,5 +1,5 @@
-//! Questions over a road graph, and bundles of a graph and questions, as files of lines. Readers return the value of a
-//! file or its first fault; writers give each value its one spelling.
+//! Questions over a road graph, and bundles of a graph and questions, as files of lines. Readers
+//! return the value of a file or its first fault; writers give each value its one spelling.
 #![tactic(auto)]
 
 mod bundle_files;

@@ -1,4 +1,5 @@
-//! What is kept of the fields of the present line: if it begins with `m`, also the vertices of its list.
+//! What is kept of the fields of the present line: if it begins with `m`, also the vertices of its
+//! list.
 ghost use Rattle.std.specs.Prelude.{◌≡◌, ℕ, ◌+◌, ◌<◌, ◌≤◌, ◌++◌, ◌∷◌, [], List, length, All, OnOk, IfOk, IfErr, MatchResult, true, None, Ok};
 ghost use Rattle.text_lines.specs.Slots.{word_in};
 ghost use Rattle.text_lines.specs.Takes.{Breaks};

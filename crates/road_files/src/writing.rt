@@ -45,7 +45,8 @@ fn write_pairs<W: RoadWrite>(to: &mut W, pairs: &[(Vertex, Vertex)]) -> Result<(
     Ok(())
 }
 
-/// Writes pairs of a source and a target as a .p2p file: the whole text, or a prefix of it if a write fails.
+/// Writes pairs of a source and a target as a .p2p file: the whole text, or a prefix of it if a
+/// write fails.
 pub fn write_p2p<W: RoadWrite>(to: &mut W, pairs: &[(Vertex, Vertex)]) -> Result<(), WriteFault>
     ensures { WritesText (W.seen to.old) (W.seen to.new)
         (questions_text (record { kind = Kind.Pairs; questions = map of_pair pairs.now })) result }
@@ -67,8 +68,8 @@ fn write_vertices<W: RoadWrite>(to: &mut W, vertices: &[Vertex]) -> Result<(), W
     write_bytes(to, b"\n")
 }
 
-/// Writes a line of a word and vertices, or a prefix of it if a write fails. It allocates no memory, however long the
-/// list is.
+/// Writes a line of a word and vertices, or a prefix of it if a write fails. It allocates no
+/// memory, however long the list is.
 #[tactic(auto, using(text_lines::proofs::ListLaws::list_then, text_lines::proofs::ListLaws::list_fell))]
 pub fn write_list<W: RoadWrite>(
     to: &mut W,

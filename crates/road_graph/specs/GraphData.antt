@@ -24,7 +24,8 @@ arc_of g a = slice_index_or g.arcs (a - 1) (record { tail = 0; head = 0; weight 
 abbrev pub JoinsVertices : ℕ → RoadArc → Type 0
 JoinsVertices n a = ((1 ≤ a.tail) × (a.tail ≤ n)) × ((1 ≤ a.head) × (a.head ≤ n))
 
--- what holds of every graph: its arcs join its vertices, weights are below 2^32, and the limits are kept
+-- what holds of every graph: its arcs join its vertices, weights are below 2^32, and the limits are
+-- kept
 pub record IsGraph (g : GraphData) : Type 0 where
   pub ends : (a : ℕ) → HasArc g a → JoinsVertices g.vertices (arc_of g a)
   pub weights : (a : ℕ) → HasArc g a → (arc_of g a).weight < 2 ^ 32

@@ -23,8 +23,9 @@ enum Ends {
 
 /// A directed graph with its arcs by number, by tail and by head.
 ///
-/// It takes 20 bytes for each arc and 8 for each vertex: heads and weights are kept once, in the order of the outgoing rows.
-/// Once indexed it takes 4 bytes more for each arc, and one load gives the tail of an arc and its index among the arcs that leave that tail.
+/// It takes 20 bytes for each arc and 8 for each vertex: heads and weights are kept once, in the
+/// order of the outgoing rows. Once indexed it takes 4 bytes more for each arc, and one load gives
+/// the tail of an arc and its index among the arcs that leave that tail.
 #[derive(Debug, Drop)]
 pub struct Graph {
     out: OutGraph,
@@ -105,7 +106,8 @@ impl Graph {
         })
     }
 
-    /// Indexes the arcs: from then on `tail` and `rank` read one entry of the index, and `head`, `road` and `arc` find their road by it, in place of a search.
+    /// Indexes the arcs: from then on `tail` and `rank` read one entry of the index, and `head`,
+    /// `road` and `arc` find their road by it, in place of a search.
     ///
     /// # Errors
     /// If memory is refused, the graph is as it was.
@@ -127,7 +129,8 @@ impl Graph {
         self.out.vertices()
     }
 
-    /// What holds of every graph: its arcs join its vertices, and it keeps the limits. Nothing is computed.
+    /// What holds of every graph: its arcs join its vertices, and it keeps the limits. Nothing is
+    /// computed.
     #[inline]
     pub fn holds(&self)
         ensures { IsGraph self.now }
@@ -196,7 +199,8 @@ impl Graph {
         }
     }
 
-    /// The index of an arc among those that leave its tail, in what `out` and `roads_from` give for that tail.
+    /// The index of an arc among those that leave its tail, in what `out` and `roads_from` give for
+    /// that tail.
     pub fn rank(&self, a: ArcNo) -> usize
         requires { HasArc self.now a }
         ensures { IsRank self.now a result }

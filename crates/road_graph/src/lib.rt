@@ -2,8 +2,8 @@
 //!
 //! Vertices and arcs are numbered from 1. For each direction one list has the numbers of the arcs,
 //! vertex by vertex, and a list of offsets says where the row of each vertex starts. Heads and
-//! weights are in the order of the outgoing rows too, for callers that go along all of them: with the
-//! offsets of these rows they are a graph by themselves, `OutGraph`.
+//! weights are in the order of the outgoing rows too, for callers that go along all of them: with
+//! the offsets of these rows they are a graph by themselves, `OutGraph`.
 #![tactic(auto)]
 
 mod bad_ends;

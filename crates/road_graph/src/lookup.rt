@@ -22,7 +22,8 @@ fn place_of(row: &[ArcNo], a: ArcNo) -> usize
     }
 }
 
-/// Where an arc is in the rows, by a search in the row of its tail. If arcs are numbered in the order of the rows, the first guess finds it.
+/// Where an arc is in the rows, by a search in the row of its tail. If arcs are numbered in the
+/// order of the rows, the first guess finds it.
 fn find_place(graph: &OutGraph, numbers: &[ArcNo], tail: Vertex, a: ArcNo) -> usize
     requires numbers { AreNumbers Tail graph.now numbers.now }
     requires arc { HasArc graph.now a }

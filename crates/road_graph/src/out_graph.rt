@@ -122,7 +122,8 @@ impl OutGraph {
         self.vertices
     }
 
-    /// What holds of every graph: its arcs join its vertices, and it keeps the limits. Nothing is computed.
+    /// What holds of every graph: its arcs join its vertices, and it keeps the limits. Nothing is
+    /// computed.
     #[inline]
     pub fn holds(&self)
         ensures { IsGraph self.now }
@@ -145,7 +146,8 @@ impl OutGraph {
         1 <= v.0 && v.0 <= self.vertices
     }
 
-    /// The heads and weights of the arcs that leave a vertex, in ascending order of the arcs' numbers.
+    /// The heads and weights of the arcs that leave a vertex, in ascending order of the arcs'
+    /// numbers.
     #[inline]
     pub fn roads_from(&self, v: Vertex) -> &[OutRoad]
         requires { HasVertex self.now v }

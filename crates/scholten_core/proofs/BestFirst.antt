@@ -1,4 +1,5 @@
--- If events take the best waiting message first, no label changes twice, and each arc out of a labelled vertex is sent one message, if its extension is not refused.
+-- If events take the best waiting message first, no label changes twice, and each arc out of a
+-- labelled vertex is sent one message, if its extension is not refused.
 use Rattle.std.proofs.Common.{◌≡◌, ◌≢◌, ℕ, suc, ◌+◌, Bool, true, false, not, ◌&&◌, is_some, eqb-true, Option, Some, None, List, [], ◌∷◌, ◌⊎◌, refl, sym, ap, ◌∙◌, subst, inl, inr, arith}
 use Rattle.std.proofs.lemmas.Bool.{cases_Bool, cond-true, cond-false, false≢true, and_parts, not-true}
 use Rattle.path_algebra.specs.Algebra.{Algebra, IsLawful}
@@ -18,7 +19,8 @@ use Rattle.scholten_core.proofs.StepCases.{step_cases, released_changes, held_pu
 use Rattle.scholten_core.proofs.Ended.{opening_kept}
 
 module _ {V : Type 0} (A : Algebra V) (N : Network) where
-  -- each label is no worse than the messages that would improve; each arc was offered the label of its tail, and none was sent anything from a vertex without a label
+  -- each label is no worse than the messages that would improve; each arc was offered the label of
+  -- its tail, and none was sent anything from a vertex without a label
   pub record LabelsLead (c : CoreState V) : Type 0 where
     pub lead : (v : ℕ) (z : V) → c.label v ≡ Some z → IsNoWorseThanWaiting A N c z
     pub told : (b : ℕ) → c.told b ≡ c.label (N.tail b)

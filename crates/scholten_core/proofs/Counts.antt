@@ -50,7 +50,8 @@ module _ {V : Type 0} (A : Algebra V) (N : Network) where
   abbrev new_signal : Token V → Token V → ℕ
   new_signal t u = one_if (is_signal u && not (is_signal t))
 
-  -- the three balances at one arc: d is 1 where this arc's message is delivered, s where its signal is accepted
+  -- the three balances at one arc: d is 1 where this arc's message is delivered, s where its signal
+  -- is accepted
   abbrev Balance : (t u : Token V) (d s : ℕ) → Type 0
   Balance t u d s = (message_if u + d ≡ message_if t + new_message t u) × (held_if u + new_signal t u ≡ held_if t + d) × (signal_if u + s ≡ signal_if t + new_signal t u)
 

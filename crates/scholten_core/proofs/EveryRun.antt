@@ -1,4 +1,5 @@
--- What is promised of every reached state and its accounts, and of every ended one, in the words of the graph.
+-- What is promised of every reached state and its accounts, and of every ended one, in the words of
+-- the graph.
 use Rattle.std.proofs.Common.{◌≡◌, ℕ, ◌<◌, ◌≤◌, ◌^◌, Option, Some, None, List, [], ◌∷◌, refl, sym, ap, subst, ◌∙◌, suc, ◌+◌, Bool, true, is_some, inl, inr, length, arith}
 use Rattle.road_graph.specs.GraphData.{GraphData, IsGraph, HasVertex, HasArc, arc_of}
 use Rattle.path_algebra.specs.Algebra.{Algebra, IsLawful}

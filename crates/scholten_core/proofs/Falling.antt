@@ -1,4 +1,5 @@
--- Each change of a vertex's label uses up one of the simple walks to it, so they are no more than these.
+-- Each change of a vertex's label uses up one of the simple walks to it, so they are no more than
+-- these.
 use Rattle.std.proofs.Common.{◌≡◌, ℕ, suc, ◌+◌, ◌≤◌, Bool, true, false, not, Option, Some, None, List, [], ◌∷◌, length, ◌⊎◌, refl, sym, ap, ◌∙◌, subst, inl, inr, arith, Contains}
 use Rattle.std.proofs.lemmas.Bool.{cases_Bool, cond-true, cond-false, false≢true, and_parts, and_from, and_right, not-true, not_from_true, not_from_false, false_from_ne_true}
 use Rattle.road_graph.specs.GraphData.{GraphData, IsGraph}

@@ -1,4 +1,5 @@
--- Where all values are the same and no extension refuses, an ended run has sent one message for each arc whose tail is reached.
+-- Where all values are the same and no extension refuses, an ended run has sent one message for
+-- each arc whose tail is reached.
 use Rattle.std.proofs.Common.{◌≡◌, ◌≢◌, ℕ, suc, ◌+◌, ◌≤◌, Bool, true, false, not, ◌&&◌, is_some, Option, Some, None, List, [], ◌∷◌, ◌⊎◌, refl, sym, ap, ◌∙◌, inl, inr, arith}
 use Rattle.std.proofs.lemmas.Bool.{cases_eq, cond-true, cond-false, and_from}
 use Rattle.scholten_core.specs.declared.token.Token.TheVariants.{Idle, Message, Held}

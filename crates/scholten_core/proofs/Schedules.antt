@@ -103,7 +103,8 @@ module _ {V : Type 0} (A : Algebra V) (N : Network) where
   nothing_done c (Deliver a) h = delivers_nothing a c (c.token a) h
   nothing_done c (Accept a) h = accepts_nothing a c (c.token a) h
 
-  -- an event that is enabled stays so until one is made, so at its own time at the latest one is made
+  -- an event that is enabled stays so until one is made, so at its own time at the latest one is
+  -- made
   made_by_then : (event : ℕ → Event) (n k : ℕ) (e : Event) → is_enabled (state_at A N event n) e ≡ true → event (k + n) ≡ e →
       (m : ℕ) × (n ≤ m) × GoesOnAt A N event m
   made_by_then event n zero e h q =

@@ -1,4 +1,5 @@
--- An event at a vertex of one shard: it depends on that shard's share alone, and leaves the other shares as they are.
+-- An event at a vertex of one shard: it depends on that shard's share alone, and leaves the other
+-- shares as they are.
 use Rattle.std.proofs.Common.{◌≡◌, ◌≢◌, ℕ, zero, suc, Bool, true, false, not, ◌&&◌, ◌||◌, eqb, eqb-true, Option, Some, None, refl, sym, ap, ◌∙◌, subst, inl, inr}
 use Rattle.std.proofs.lemmas.Bool.{cases_eq, cases_Bool, cond-true, cond-false, false≢true}
 use Rattle.scholten_core.specs.declared.token.Token.{Token}

@@ -12,8 +12,9 @@ use Rattle.scholten_core.proofs.Basics.{put_tells, put-same}
 use Rattle.scholten_core.proofs.Kept.{Kept, pumped, head_real, arrive_kept, freed_kept, pump_kept, step_kept}
 
 module _ {V : Type 0} (A : Algebra V) (N : Network) where
-  -- A message arrives and the head of its arc settles; or a signal's arc gets idle and its tail settles, unless it is the environment. With it: whether
-  -- a message was delivered, and whether a signal was accepted.
+  -- A message arrives and the head of its arc settles; or a signal's arc gets idle and its tail
+  -- settles, unless it is the environment. With it: whether a message was delivered, and whether a
+  -- signal was accepted.
   pub counted_cases : (P : CoreState V → Bool → Bool → Type 0) (c : CoreState V) (e : Event) → P c false false
       → ((a : ℕ) (x : V) → e ≡ Deliver a → c.token a ≡ Message x → P (settle A N (N.head a) (arrive A N a x c)) true false)
       → (c.token 0 ≡ Signal → P (freed A N 0 c) false true)

@@ -18,7 +18,8 @@ module _ {V : Type 0} (A : Algebra V) (N : Network) where
   Visits [] w = w ≡ N.source
   Visits (a ∷ p) w = (w ≡ N.head a) ⊎ Visits p w
 
-  -- the arcs p, the last one first, lead from the source to v with the value x and pass no vertex twice, and at each vertex the label is no worse than the value up to it
+  -- the arcs p, the last one first, lead from the source to v with the value x and pass no vertex
+  -- twice, and at each vertex the label is no worse than the value up to it
   abbrev pub IsTrail : (ℕ → Option V) → List ℕ → ℕ → V → Type 0
   IsTrail label [] v x = (v ≡ N.source) × (x ≡ A.origin) × AtMost A N label v x
   IsTrail label (a ∷ p) v x = (y : V) × IsTrail label p (N.tail a) y × (N.tail a ≢ 0) × (v ≡ N.head a) × (A.extend y (N.weight a) ≡ Some x) × (Visits p v → ⊥) × AtMost A N label v x
@@ -45,7 +46,8 @@ module _ {V : Type 0} (A : Algebra V) (N : Network) where
   trail_lasts f h m [] v x t = (t.0, t.1, m v x t.2)
   trail_lasts f h m (a ∷ p) v x t = (t.0, trail_lasts f h m p (N.tail a) t.0 t.1, t.2, t.3, t.4, t.5, m v x t.6)
 
-  -- each label is the value of a trail, and each message that of a trail to its arc's tail, extended
+  -- each label is the value of a trail, and each message that of a trail to its arc's tail,
+  -- extended
   pub record Trails (c : CoreState V) : Type 0 where
     pub label : (v : ℕ) (x : V) → c.label v ≡ Some x → (p : List ℕ) × IsTrail c.label p v x
     pub message : (b : ℕ) (x : V) → b ≢ 0 → c.token b ≡ Message x → (p : List ℕ) × (y : V) × IsTrail c.label p (N.tail b) y × (N.tail b ≢ 0) × (A.extend y (N.weight b) ≡ Some x)

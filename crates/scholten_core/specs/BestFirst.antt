@@ -24,7 +24,8 @@ module _ {V : Type 0} (A : Algebra V) (N : Network) where
   IsBestFirst c [] = Unit {0}
   IsBestFirst c (e ∷ es) = TakesBest c e × IsBestFirst (step A N c e) es
 
--- exactly those arcs are marked that some walk with a value ends in: its value extends along the arc
+-- exactly those arcs are marked that some walk with a value ends in: its value extends along the
+-- arc
 abbrev pub AreMarksOfWalkEnds : {V : Type 0} → Algebra V → GraphData → ℕ → (ℕ → Bool) → Type 0
 AreMarksOfWalkEnds {V} A g s marked = (a : ℕ) → HasArc g a → IsTrue (marked a)
     ↔ ((x : V) × (y : V) × IsWalkValue A g (s ∷ []) (arc_of g a).tail x × (A.extend x (arc_of g a).weight ≡ Some y))

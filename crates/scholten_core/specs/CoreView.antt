@@ -1,4 +1,5 @@
--- What a core is seen as: its diffusion and its tables. Each table begins with a place for the environment or for arc 0.
+-- What a core is seen as: its diffusion and its tables. Each table begins with a place for the
+-- environment or for arc 0.
 use Rattle.std.specs.Prelude.{◌≡◌, ℕ, ◌+◌, ◌≤◌, List, length, slice_index_or, Option, None}
 use Rattle.road_graph.specs.GraphData.{GraphData}
 use Rattle.path_algebra.specs.Algebra.{Algebra}

@@ -7,7 +7,8 @@ use Rattle.scholten_core.specs.declared.event.Event.TheVariants.{Deliver, Accept
 use Rattle.path_algebra.specs.Algebra.{Algebra}
 use Rattle.scholten_core.specs.Network.{Network}
 
--- labels and engagers by the vertex's number, tokens and the labels last offered by the arc's; a vertex without an engager is neutral
+-- labels and engagers by the vertex's number, tokens and the labels last offered by the arc's; a
+-- vertex without an engager is neutral
 pub record CoreState (V : Type 0) : Type 0 where
   pub label : ℕ → Option V
   pub engager : ℕ → Option ℕ
@@ -101,7 +102,8 @@ module _ {V : Type 0} (A : Algebra V) (N : Network) where
     told = λ _. None;
   }
 
-  -- the value x comes along arc a: the head's label becomes the better one, and a neutral head is engaged
+  -- the value x comes along arc a: the head's label becomes the better one, and a neutral head is
+  -- engaged
   abbrev pub arrive : ℕ → V → CoreState V → CoreState V
   arrive a x c = record {
     label = put c.label (N.head a) (better_of A x (c.label (N.head a)));
@@ -154,7 +156,8 @@ module _ {V : Type 0} (A : Algebra V) (N : Network) where
   abbrev pub settle : ℕ → CoreState V → CoreState V
   settle v c = rest v (pump v c)
 
-  -- the event of a delivery on arc a, whose token is given: the message arrives, then the head pumps and rests
+  -- the event of a delivery on arc a, whose token is given: the message arrives, then the head
+  -- pumps and rests
   abbrev pub delivered : ℕ → CoreState V → Token V → CoreState V
   delivered a c Idle = c
   delivered a c (Message x) = settle (N.head a) (arrive a x c)
@@ -169,7 +172,8 @@ module _ {V : Type 0} (A : Algebra V) (N : Network) where
   abbrev pub freed : ℕ → CoreState V → CoreState V
   freed a c = record { label = c.label; engager = c.engager; token = put c.token a Idle; told = c.told }
 
-  -- the event of an acceptance on arc a, whose token is given: the arc is idle, then its tail pumps and rests
+  -- the event of an acceptance on arc a, whose token is given: the arc is idle, then its tail pumps
+  -- and rests
   abbrev pub accepted : ℕ → CoreState V → Token V → CoreState V
   accepted a c Idle = c
   accepted a c (Message x) = c

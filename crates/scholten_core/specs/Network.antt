@@ -1,9 +1,10 @@
--- A graph with a source, seen as functions of the arc's number.
--- Arc 0 leads from the environment, which is vertex 0, to the source; the arcs of the graph are 1 to M.
+-- A graph with a source, seen as functions of the arc's number. Arc 0 leads from the environment,
+-- which is vertex 0, to the source; the arcs of the graph are 1 to M.
 use Rattle.std.specs.Prelude.{◌≡◌, ◌≢◌, ℕ, zero, suc, ◌<◌, ◌≤◌, ◌^◌, length}
 use Rattle.road_graph.specs.GraphData.{GraphData, arc_of}
 
--- a graph and a source, as functions of the arc's number; arc 0 leads from the environment to the source
+-- a graph and a source, as functions of the arc's number; arc 0 leads from the environment to the
+-- source
 pub record Network : Type 0 where
   pub arcs : ℕ
   pub source : ℕ
@@ -11,7 +12,8 @@ pub record Network : Type 0 where
   pub head : ℕ → ℕ
   pub weight : ℕ → ℕ
 
--- what holds of the network of every graph: an arc whose tail is not the environment is one of the graph's
+-- what holds of the network of every graph: an arc whose tail is not the environment is one of the
+-- graph's
 pub record WellFormed (N : Network) : Type 0 where
   pub source_in : N.source ≢ 0
   pub tail_zero : N.tail 0 ≡ 0

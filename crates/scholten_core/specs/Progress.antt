@@ -1,4 +1,5 @@
--- How a diffusion goes on: by an event that is enabled, to its end, and under events without an end.
+-- How a diffusion goes on: by an event that is enabled, to its end, and under events without an
+-- end.
 use Rattle.std.specs.Prelude.{◌≡◌, ℕ, zero, suc, ◌≤◌, ◌⊎◌, IsTrue, List, [], ◌∷◌, ◌++◌, length}
 use Rattle.scholten_core.specs.declared.event.Event.{Event}
 use Rattle.scholten_core.specs.declared.event.Event.TheVariants.{Deliver, Accept}

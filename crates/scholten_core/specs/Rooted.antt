@@ -6,7 +6,8 @@ use Rattle.scholten_core.specs.Network.{Network}
 use Rattle.scholten_core.specs.Diffusion.{CoreState}
 
 module _ {V : Type 0} (A : Algebra V) (N : Network) where
-  -- the listed vertices, the newest first, each once: the tail of each one's engager is the environment or is among the older
+  -- the listed vertices, the newest first, each once: the tail of each one's engager is the
+  -- environment or is among the older
   abbrev pub IsEngagementOrder : (ℕ → Option ℕ) → List ℕ → Type 0
   IsEngagementOrder engager [] = Unit {0}
   IsEngagementOrder engager (v ∷ older) =

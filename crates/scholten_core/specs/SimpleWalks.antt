@@ -12,7 +12,8 @@ use Rattle.scholten_core.specs.Diffusion.{CoreState}
 abbrev pub HasAtMost : {V : Type 0} → Algebra V → (ℕ → Option V) → ℕ → V → Type 0
 HasAtMost {V} A label v x = (y : V) × (label v ≡ Some y) × IsTrue (A.no_worse y x)
 
--- each prefix of p leads from u to a vertex whose label is no worse than the value of the prefix, from x on
+-- each prefix of p leads from u to a vertex whose label is no worse than the value of the prefix,
+-- from x on
 abbrev pub KeepsUp : {V : Type 0} → Algebra V → GraphData → (ℕ → Option V) → ℕ → V → List ℕ → Type 0
 KeepsUp A g label u x [] = HasAtMost A label u x
 KeepsUp {V} A g label u x (a ∷ p) = HasAtMost A label u x ×
@@ -30,7 +31,8 @@ abbrev pub LabelsAreSimpleWalkValues : {V : Type 0} → Algebra V → GraphData 
 LabelsAreSimpleWalkValues {V} A g s c =
     (v : ℕ) (x : V) → c.label v ≡ Some x → IsSimpleWalkValue A g s c.label v x
 
--- each message on an arc of the graph is the value of a simple walk to the arc's tail, extended by the arc
+-- each message on an arc of the graph is the value of a simple walk to the arc's tail, extended by
+-- the arc
 abbrev pub MessagesExtendSimpleWalks : {V : Type 0} → Algebra V → GraphData → ℕ → CoreState V → Type 0
 MessagesExtendSimpleWalks {V} A g s c = (b : ℕ) (x : V) → HasArc g b → c.token b ≡ Message x →
     (y : V) × IsSimpleWalkValue A g s c.label (arc_of g b).tail y

@@ -1,4 +1,5 @@
-//! The arcs of a diffusion: those of the graph, and before them the one from the environment to the source.
+//! The arcs of a diffusion: those of the graph, and before them the one from the environment to the
+//! source.
 ghost use Rattle.std.specs.Prelude.{◌≡◌, ◌≤◌, length};
 ghost use Rattle.road_graph.specs.GraphData.{HasVertex};
 ghost use Rattle.scholten_core.specs.Network.{tail_of as tail_in, head_of as head_in};

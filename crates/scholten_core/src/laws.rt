@@ -1,5 +1,5 @@
-//! A fact of every graph, and theorems over every run, each the contract of a function that computes nothing: a
-//! caller calls it if its own proof needs what it promises.
+//! A fact of every graph, and theorems over every run, each the contract of a function that
+//! computes nothing: a caller calls it if its own proof needs what it promises.
 ghost use Rattle.std.specs.Prelude.{◌≡◌, ℕ, ◌+◌, ◌*◌, ◌≤◌, ◌⊎◌, Bool, false, IsTrue, IsSome, List, length};
 ghost use Rattle.road_graph.specs.GraphData.{GraphData, IsGraph, HasVertex, HasArc, arc_of};
 ghost use Rattle.path_algebra.specs.Given.{reach};
@@ -17,7 +17,8 @@ ghost use Rattle.scholten_core.specs.BestFirst.{IsBestFirst, AreMarksOfWalkEnds}
 use path_algebra::{PathAlgebra, laws_hold};
 use road_graph::Graph;
 
-/// What holds of every graph: its arcs join its vertices, and it has no more of either than it may have.
+/// What holds of every graph: its arcs join its vertices, and it has no more of either than it may
+/// have.
 pub fn roads_hold(graph: &Graph)
     ensures { IsGraph graph.now }
 {
@@ -165,9 +166,9 @@ pub fn reach_sends_once_an_arc()
         (totals_of reach (network g s) events).sent ≡ 1 + count_marked g marked }
 {}
 
-/// If events take the best waiting message first, at most one message goes along an arc, and at most as
-/// many are sent as there are arcs out of labelled vertices, and one. At the end, exactly one went along
-/// each arc in which some walk with a value ends, and one into the source.
+/// If events take the best waiting message first, at most one message goes along an arc, and at
+/// most as many are sent as there are arcs out of labelled vertices, and one. At the end, exactly
+/// one went along each arc in which some walk with a value ends, and one into the source.
 pub fn best_first_sends_once_an_arc<A: PathAlgebra>(algebra: A)
     ensures once { (g : GraphData) (s : ℕ) → IsGraph g → HasVertex g s → (events : List Event) →
         IsBestFirst (A.meaning algebra) (network g s)

@@ -1,8 +1,9 @@
 //! One diffusing computation over a list of events, after Dijkstra and Scholten.
 //!
-//! A `Core` holds the state of a diffusion: labels of vertices, and on each arc nothing, a message, an engagement or a
-//! signal. Messages are delivered and signals accepted in any order; when the signal on arc 0 has been accepted the
-//! diffusion has ended, and each label is the best value of a walk. An event costs the arcs that it sends along.
+//! A `Core` holds the state of a diffusion: labels of vertices, and on each arc nothing, a message,
+//! an engagement or a signal. Messages are delivered and signals accepted in any order; when the
+//! signal on arc 0 has been accepted the diffusion has ended, and each label is the best value of a
+//! walk. An event costs the arcs that it sends along.
 #![tactic(auto)]
 
 mod arcs;

@@ -47,7 +47,8 @@ impl<'g, A: PathAlgebra> Model for Core<'g, A> {
 }
 
 impl<'g, A: PathAlgebra> Core<'g, A> {
-    /// A fresh core: a message with the origin on arc 0, and nothing else. Makes all tables, so no later call takes memory.
+    /// A fresh core: a message with the origin on arc 0, and nothing else. Makes all tables, so no
+    /// later call takes memory.
     pub fn open(
         alloc: Global,
         algebra: A,
@@ -68,7 +69,8 @@ impl<'g, A: PathAlgebra> Core<'g, A> {
         Ok(Core { tables })
     }
 
-    /// The message on an arc is handled at the arc's head. Refused, with nothing changed, if no message is there.
+    /// The message on an arc is handled at the arc's head. Refused, with nothing changed, if no
+    /// message is there.
     pub fn deliver(&mut self, a: ArcNo) -> Result<(), NoMessage>
         ensures same { self.new.diffusion ≡ self.old.diffusion }
         ensures done { IfOk result (λ _. (is_enabled (state_of self.old) (Deliver a) ≡ true) ×
@@ -89,7 +91,8 @@ impl<'g, A: PathAlgebra> Core<'g, A> {
         }
     }
 
-    /// The signal on an arc is handled at the arc's tail. Refused, with nothing changed, if no signal is there.
+    /// The signal on an arc is handled at the arc's tail. Refused, with nothing changed, if no
+    /// signal is there.
     pub fn accept(&mut self, a: ArcNo) -> Result<(), NoSignal>
         ensures same { self.new.diffusion ≡ self.old.diffusion }
         ensures done { IfOk result (λ _. (is_enabled (state_of self.old) (Accept a) ≡ true) ×

@@ -1,4 +1,5 @@
--- The items that the one part of a plan takes, best first, are events that take the best waiting message first.
+-- The items that the one part of a plan takes, best first, are events that take the best waiting
+-- message first.
 use Rattle.std.proofs.Common.{◌≡◌, ◌≢◌, ◌⊎◌, ℕ, suc, ◌+◌, ◌<◌, ◌≤◌, Bool, cond, List, [], ◌∷◌, ◌++◌, map, set, get_or, refl, sym, ap, ◌∙◌, subst, inl, inr, arith, eq-eqb, ne_eqb, get_or-set_other}
 use Rattle.std.specs.Prelude.{IsTrue, IsSome, All as AllOf}
 use Rattle.std.proofs.lemmas.Bool.{cases_eq, cases_lt, false≢true}

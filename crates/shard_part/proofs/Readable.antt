@@ -87,7 +87,8 @@ module _ {V : Type 0} (N : Network) (place : ℕ → ℕ) where
       same Signal = ap (λ (z : Bool). cond z (g (place (N.tail b)) (SignalOn b)) 0 + 0) (eq-eqb b b refl)
 
 module _ {S V : Type 0} (A : Algebra V) (N : Network) (place : ℕ → ℕ) where
-  -- on each arc, the items in all places together, each with the shard that it is at or going to, are just what the arc's token represents
+  -- on each arc, the items in all places together, each with the shard that it is at or going to,
+  -- are just what the arc's token represents
   pub places_read : Lawful A → (parts : List (PartData S V)) (ms : List (ℕ × List (Item V))) (c : CoreState V) → RepresentsIn A N place parts (mail_weight ms) c → (b : ℕ) → b < suc N.arcs →
       on b (parts_places parts ++ mail_places ms) ≡ place_of_token N place b (c.token b)
   places_read L parts ms c H b lt = go (c.token b) refl

@@ -1,4 +1,5 @@
--- A queue with a place for each arc of its shard, and a ring with one for each arc of its pair of shards, are never too small.
+-- A queue with a place for each arc of its shard, and a ring with one for each arc of its pair of
+-- shards, are never too small.
 use Rattle.std.proofs.Common.{◌≡◌, ◌≢◌, ℕ, zero, suc, ◌+◌, ◌≤◌, Bool, true, false, ◌||◌, eqb, Some, List, [], ◌∷◌, length, get_or, refl, sym, ap, ◌∙◌, inl, inr, arith, ne_eqb}
 use Rattle.std.proofs.lemmas.Bool.{cases_eq}
 use Rattle.scholten_core.specs.declared.token.Token.{Token}
@@ -67,7 +68,8 @@ module _ {V : Type 0} (N : Network) (place : ℕ → ℕ) where
   on_arc a r j = is a (item_arc j)
 
 module _ {S V : Type 0} (A : Algebra V) (N : Network) (place : ℕ → ℕ) where
-  -- the queue never outgrows its capacity. With the queue joined by a batch: what `receive` asks as room
+  -- the queue never outgrows its capacity. With the queue joined by a batch: what `receive` asks as
+  -- room
   pub queue_fits : (c : CoreState V) (p : PartData S V) → HoldsShareIn A N place c p → length p.queue ≤ queue_bound N place p.shard
   queue_fits c p H =
       let w = H.weighs (at_shard N place p.shard) in

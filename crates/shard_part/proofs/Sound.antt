@@ -45,7 +45,8 @@ module _ {V : Type 0} (N : Network) (place : ℕ → ℕ) (s : ℕ) where
         )
   ]
 
--- One item more, on an arc of which nothing is known: the part stays sound. So do the moves of the running code, each by itself.
+-- One item more, on an arc of which nothing is known: the part stays sound. So do the moves of the
+-- running code, each by itself.
 pub put_sound : {S V : Type 0} (A : Algebra V) (N : Network) (place : ℕ → ℕ) → WellFormed N → (p : PartData S V) (i : Item V)
     → LocalInvariant N place p → IsArc N (item_arc i) → place (maker_of N i) ≡ p.shard →
     part_weight (λ _ j. is (item_arc i) (item_arc j)) p + engages N place p.shard (state_in p) (item_arc i) + idles N place p.shard (state_in p) (item_arc i) ≡ 0 →

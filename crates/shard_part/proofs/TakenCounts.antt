@@ -1,4 +1,5 @@
--- Items that a part takes are events of each state of which it holds its share, and its counters count what these events do.
+-- Items that a part takes are events of each state of which it holds its share, and its counters
+-- count what these events do.
 use Rattle.std.proofs.Common.{◌≡◌, ℕ, suc, ◌+◌, ◌≤◌, true, List, [], ◌∷◌, ◌++◌, length, map, length-append, refl, sym, ap, ◌∙◌, subst, arith}
 use Rattle.std.proofs.lemmas.Bool.{cond-true}
 use Rattle.scholten_core.specs.declared.token.Token.{Token}

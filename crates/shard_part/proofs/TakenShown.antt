@@ -1,4 +1,5 @@
--- Parts and mailboxes show a state: where one part takes items, they show the state after the events of these.
+-- Parts and mailboxes show a state: where one part takes items, they show the state after the
+-- events of these.
 use Rattle.std.proofs.Common.{◌≡◌, ℕ, List, [], ◌∷◌, ◌++◌, length, map, refl, sym, ◌∙◌, subst, arith}
 use Rattle.std.proofs.lemmas.Bool.{cond-true}
 use Rattle.std.proofs.lemmas.List.{length-map}

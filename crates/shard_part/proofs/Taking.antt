@@ -1,4 +1,5 @@
--- How a part finds the item whose turn it is: none that is ranked goes before the newest has been looked at.
+-- How a part finds the item whose turn it is: none that is ranked goes before the newest has been
+-- looked at.
 use Rattle.std.proofs.Common.{◌≡◌, ◌⊎◌, ℕ, ◌+◌, ◌-◌, ◌<◌, ◌≤◌, Option, Some, None, List, [], ◌∷◌, ◌++◌, length, get_or, refl, sym, ap, ◌∙◌, subst, arith, inl, inr, Contains, Bool, length-append}
 use Rattle.std.specs.Prelude.{IfSome, IfNone}
 use Rattle.std.specs.List.Sorted.{IsPermutation, IsStrictlyIncreasing}

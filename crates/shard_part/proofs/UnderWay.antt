@@ -1,4 +1,5 @@
--- A reached state has ended exactly where no item waits; until then one waits in a queue, an outbox or a mailbox.
+-- A reached state has ended exactly where no item waits; until then one waits in a queue, an outbox
+-- or a mailbox.
 use Rattle.std.proofs.Common.{◌≡◌, ◌≢◌, ℕ, zero, suc, ◌-◌, ◌<◌, Bool, true, false, List, [], ◌∷◌, ◌++◌, get_or, refl, sym, ap, ◌∙◌, subst, arith, append_assoc, length-append, eq-eqb, ◌≤◌, ◌↔◌, ◌⊎◌, length, inl, inr}
 use Rattle.scholten_core.specs.declared.token.Token.{Token}
 use Rattle.scholten_core.specs.declared.token.Token.TheVariants.{Idle, Message, Held, Signal}

@@ -1,4 +1,5 @@
--- The arcs in which some walk with a value ends are those along which the best value of the tail extends.
+-- The arcs in which some walk with a value ends are those along which the best value of the tail
+-- extends.
 use Rattle.std.proofs.Common.{◌≡◌, ℕ, Option, Some, None, List, [], ◌∷◌, Bool, is_some, refl, sym, subst}
 use Rattle.std.specs.Prelude.{◌↔◌, IsTrue}
 use Rattle.road_graph.specs.GraphData.{GraphData, IsGraph, HasVertex, HasArc, arc_of}

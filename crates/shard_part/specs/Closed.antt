@@ -7,7 +7,8 @@ use Rattle.shard_store.specs.Queue.{Room}
 use Rattle.shard_store.specs.Rows.{Rows}
 use Rattle.shard_part.specs.Moves.{RepInvariant}
 
--- the part was stored in some rows, whose vertices and labels are these, and the shard and the counts are its own
+-- the part was stored in some rows, whose vertices and labels are these, and the shard and the
+-- counts are its own
 pub record IsClosedPart {S V : Type 0} (p : PartData S V) (shard : ℕ) (own : List ℕ) (labels : List (Option V)) (tally : Tally) : Type 0 where
   pub rows : Rows V
   pub queue_room : Room

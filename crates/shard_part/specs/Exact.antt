@@ -38,7 +38,8 @@ module _ {S V : Type 0} (meaning : S → Algebra V) where
   done_by (i ∷ is) p q (m, T, rest) =
       plus (record { sent = total message_weight (made (meaning p.setup.diffusion.algebra) (network_of p.setup) i (state_in p)); delivered = message_weight i; signalled = total signal_weight (made (meaning p.setup.diffusion.algebra) (network_of p.setup) i (state_in p)); accepted = signal_weight i }) (done_by is m q rest)
 
-  -- parts and mailboxes represent the state after the events of the items, and n is what these events do
+  -- parts and mailboxes represent the state after the events of the items, and n is what these
+  -- events do
   pub record RepresentsMoved (t : SetupData S) (c : CoreState V) (items : List (Item V)) (parts : List (PartData S V)) (mail : (ℕ → Item V → ℕ) → ℕ) (n : Totals) : Type 0 where
     pub shown : Represents meaning t parts mail (run_from (meaning t.diffusion.algebra) (network_of t) c (map event_of items))
     pub did : n ≡ totals_from (meaning t.diffusion.algebra) (network_of t) c (map event_of items)

@@ -19,12 +19,14 @@ abbrev pub Awaits : {S V : Type 0} → PartData S V → ℕ → Type 0
 Awaits p a = (place_in p.setup ((network_of p.setup).tail a) ≡ p.shard) × (place_in p.setup ((network_of p.setup).head a) ≢ p.shard) × (get_or p.busy a false ≡ true)
 
 module _ {S V : Type 0} (A : Algebra V) (p : PartData S V) where
-  -- a message brings a value along an arc of the graph that may engage here, a signal comes back on one that awaits it
+  -- a message brings a value along an arc of the graph that may engage here, a signal comes back on
+  -- one that awaits it
   abbrev pub FitsAlone : Item V → Type 0
   FitsAlone (MessageOn a x) = IsTrue (A.is_value x) × HasArc p.setup.diffusion.roads a × MayEngage p a
   FitsAlone (SignalOn a) = HasArc p.setup.diffusion.roads a × Awaits p a
 
-  -- the item is alone on its arc among those after it and those of the part, and may be received by itself
+  -- the item is alone on its arc among those after it and those of the part, and may be received by
+  -- itself
   abbrev pub FitsBefore : Item V → List (Item V) → Type 0
   FitsBefore i rest = (counted (item_arc i) rest ≡ 0) × (part_weight (λ _ j. is (item_arc i) (item_arc j)) p ≡ 0) × FitsAlone i
 

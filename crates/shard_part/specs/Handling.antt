@@ -19,7 +19,8 @@ use Rattle.shard_part.specs.Weights.{message_weight, signal_weight, Channels, ch
 use Rattle.shard_store.specs.Outgoing.{outgoing}
 
 module _ {V : Type 0} (A : Algebra V) (N : Network) where
-  -- A part knows the idle flags of its own outgoing arcs alone, and no token: an arc with an item on it, and an arc that engages, is busy already.
+  -- A part knows the idle flags of its own outgoing arcs alone, and no token: an arc with an item
+  -- on it, and an arc that engages, is busy already.
   abbrev pub arrive_here : ℕ → V → CoreState V → CoreState V
   arrive_here a x d = record {
     label = put d.label (N.head a) (better_of A x (d.label (N.head a)));
@@ -59,7 +60,8 @@ module _ {V : Type 0} (A : Algebra V) (N : Network) where
   made (SignalOn a) d = back_made a (N.tail a) (freed A N a d)
 
 module _ {V : Type 0} (N : Network) (place : ℕ → ℕ) where
-  -- an item for the shard s itself goes to the back of the queue, another to the back of that outbox
+  -- an item for the shard s itself goes to the back of the queue, another to the back of that
+  -- outbox
   abbrev pub route : ℕ → Item V → Channels V → Channels V
   route s i l = cond (eqb (place (vertex_of N i)) s)
       (record { queue = l.queue ++ i ∷ []; outs = l.outs })
@@ -76,7 +78,8 @@ module _ {V : Type 0} (A : Algebra V) (N : Network) where
   GoesAtOnce d (MessageOn a x) = improves A x (d.label (N.head a)) ≡ false
   GoesAtOnce d (SignalOn a) = Unit {0}
 
-  -- of the items that wait it is the turn of i, and the rest goes on waiting: i came first, or it is the best message unless it goes at once
+  -- of the items that wait it is the turn of i, and the rest goes on waiting: i came first, or it
+  -- is the best message unless it goes at once
   abbrev pub IsInTurn : QueueOrder → CoreState V → List (Item V) → Item V → List (Item V) → Type 0
   IsInTurn Arrival d waiting i rest = waiting ≡ i ∷ rest
   IsInTurn BestFirst d waiting i rest = GoesAtOnce d i ⊎ IsBestMessage A.no_worse i rest

@@ -24,7 +24,8 @@ module _ {V : Type 0} (N : Network) (place : ℕ → ℕ) where
   idles s d b = one_if (eqb (place (N.tail b)) s && is_idle (d.token b))
 
 module _ {S V : Type 0} (N : Network) (place : ℕ → ℕ) where
-  -- What a part can know by itself. At most one of these holds of each arc: it has an item on it, it engages here, or it is idle here.
+  -- What a part can know by itself. At most one of these holds of each arc: it has an item on it,
+  -- it engages here, or it is idle here.
   pub record LocalInvariant (p : PartData S V) : Type 0 where
     pub once : (b : ℕ) → part_weight (λ _ j. is b (item_arc j)) p + engages N place p.shard (state_in p) b + idles N place p.shard (state_in p) b ≤ 1
     pub leads : (v e : ℕ) → eqb (place v) p.shard ≡ true → (state_in p).engager v ≡ Some e → (N.head e ≡ v) × IsArc N e

@@ -20,7 +20,8 @@ use Rattle.shard_part.specs.Handling.{route, IsInTurn}
 use Rattle.shard_part.specs.LocalInvariant.{LocalInvariant, IsClear}
 use Rattle.shard_store.specs.Capacities.{queue_bound, outbox_bound}
 
--- the part that the tables and rings of a shard are seen as: each value is at the number that it belongs to
+-- the part that the tables and rings of a shard are seen as: each value is at the number that it
+-- belongs to
 abbrev pub abstraction : {S V : Type 0} → SetupData S → ℕ → Rows V → List (Item V) → List (List (Item V)) → ℕ → ℕ → ℕ → ℕ → PartData S V
 abstraction t s r queue outs sent delivered signalled accepted = record {
   setup = t;
@@ -55,7 +56,8 @@ pub record IsSeen {S V : Type 0} (p : PartData S V) (r : Rows V) : Type 0 where
   pub busy : p.busy ≡ scatter (arcs_out (network_of p.setup) (local_vertices p.setup p.shard)) r.busy false (suc (length p.setup.diffusion.roads.arcs))
   pub told : p.told ≡ scatter (arcs_out (network_of p.setup) (local_vertices p.setup p.shard)) r.told None (suc (length p.setup.diffusion.roads.arcs))
 
--- the queue is in the order of the setup and has a place for every arc with an end in the shard, each outbox one for every arc between the two shards
+-- the queue is in the order of the setup and has a place for every arc with an end in the shard,
+-- each outbox one for every arc between the two shards
 pub record IsRoomy {S V : Type 0} (p : PartData S V) (queue_room : Room) (out_capacities : List ℕ) : Type 0 where
   pub order : queue_room.order ≡ p.setup.order
   pub queue : queue_room.capacity ≡ queue_bound (network_of p.setup) (place_in p.setup) p.shard
@@ -167,7 +169,8 @@ module _ {S V : Type 0} (A : Algebra V) where
   abbrev pub rested : ℕ → PartData S V → PartData S V
   rested v p = rested_by v ((state_in p).engager v) (out_idle A (network_of p.setup) v (state_in p)) p
 
-  -- what a message does: the label, the engager or the answer, then the arcs if the label improved, then rest
+  -- what a message does: the label, the engager or the answer, then the arcs if the label improved,
+  -- then rest
   abbrev pub with_value : ℕ → V → ℕ → PartData S V → PartData S V
   with_value a x v p = rested v (cond (improves A x ((state_in p).label v))
       (offered_all v (outgoing (network_of p.setup) v) (engaged_or_answered a v ((state_in p).engager v) (labelled x v p)))

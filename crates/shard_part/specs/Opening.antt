@@ -13,7 +13,8 @@ abbrev pub first_items : {V : Type 0} → Algebra V → Bool → List (Item V)
 first_items A true = MessageOn 0 A.origin ∷ []
 first_items A false = []
 
--- a part as it is opened: no label, no engager, no arc offered a label, every arc idle but arc 0, and nothing on the way but its message
+-- a part as it is opened: no label, no engager, no arc offered a label, every arc idle but arc 0,
+-- and nothing on the way but its message
 abbrev pub opened_part : {S V : Type 0} → Algebra V → SetupData S → ℕ → PartData S V
 opened_part A t s = record {
   setup = t;

@@ -20,7 +20,8 @@ use Rattle.shard_part.specs.Moves.{IsTallied}
 use Rattle.shard_part.specs.Handling.{GoesAtOnce, HandledItem, HandledAll}
 use Rattle.shard_part.specs.Represents.{HoldsShare, Represents, core_of}
 
--- what holds of every part: it is planned, it has the local invariant, and no counter is past its top
+-- what holds of every part: it is planned, it has the local invariant, and no counter is past its
+-- top
 pub record PartInvariant {S V : Type 0} (p : PartData S V) : Type 0 where
   pub planned : IsPlanned p.setup p.shard
   pub sound : LocalInvariant (network_of p.setup) (place_in p.setup) p
@@ -44,7 +45,8 @@ IsOutgoingTo to x p = (a : ℕ) × Contains (get_or p.outs to []) (MessageOn a x
 abbrev pub IsOutgoing : {S V : Type 0} → V → PartData S V → Type 0
 IsOutgoing x p = (to : ℕ) × (to ≢ p.shard) × IsOutgoingTo to x p
 
--- a message waits for another shard, and all that waits to be handled is messages worse than that one after one more arc of the weight w
+-- a message waits for another shard, and all that waits to be handled is messages worse than that
+-- one after one more arc of the weight w
 abbrev pub IsAheadOfSent : {S V : Type 0} → Algebra V → ℕ → PartData S V → Type 0
 IsAheadOfSent {S} {V} A w p = (x y : V) × IsOutgoing x p × (A.extend x w ≡ Some y) × IsHeldBy A.no_worse y p.queue
 
@@ -59,7 +61,8 @@ module _ {V : Type 0} (A : Algebra V) (N : Network) where
   IsNoWorseMessage x (MessageOn a y) = IsTrue (A.no_worse y x)
   IsNoWorseMessage x (SignalOn a) = ⊥
 
-  -- the item may be taken, best first, under a limit, if there is one: it goes at once, or it is a message no worse than the limit
+  -- the item may be taken, best first, under a limit, if there is one: it goes at once, or it is a
+  -- message no worse than the limit
   abbrev pub IsWithin : QueueOrder → Option V → CoreState V → Item V → Type 0
   IsWithin Arrival limit d i = Unit {0}
   IsWithin BestFirst None d i = Unit {0}
@@ -84,9 +87,10 @@ module _ {S V : Type 0} (meaning : S → Algebra V) where
   abbrev pub HandledWithin : Option V → PartData S V → ℕ → PartData S V → Type 0
   HandledWithin limit p n q = (items : List (Item V)) × (length items ≡ n) × HandledAllWithin limit p items q
 
-  -- n items were taken, and they are n events after the given ones, each enabled in its turn: the part holds its share of the state
-  -- after all of them, its queue and outboxes have gained and lost what that state has gained and lost,
-  -- and it has counted what the events sent, delivered, signalled and accepted
+  -- n items were taken, and they are n events after the given ones, each enabled in its turn: the
+  -- part holds its share of the state after all of them, its queue and outboxes have gained and
+  -- lost what that state has gained and lost, and it has counted what the events sent, delivered,
+  -- signalled and accepted
   pub record IsRunOn (events : List Event) (p : PartData S V) (n : ℕ) (q : PartData S V) : Type 0 where
     pub items : List (Item V)
     pub count : length items ≡ n
@@ -100,11 +104,13 @@ module _ {S V : Type 0} (meaning : S → Algebra V) where
     pub signalled : q.signalled ≡ counted_on (signalled_total (meaning p.setup.diffusion.algebra) (network_of p.setup) (core_of meaning p.setup events) (map event_of items)) p.signalled
     pub accepted : q.accepted ≡ counted_on (accepted_total (meaning p.setup.diffusion.algebra) (network_of p.setup) (core_of meaning p.setup events) (map event_of items)) p.accepted
 
-  -- whatever events led to the state of which the part held its share, n items were taken that are n events after these
+  -- whatever events led to the state of which the part held its share, n items were taken that are
+  -- n events after these
   abbrev pub RunsOn : PartData S V → ℕ → PartData S V → Type 0
   RunsOn p n q = (events : List Event) → HoldsShare meaning (core_of meaning p.setup events) p → IsRunOn events p n q
 
-  -- after these events and n more, each enabled in its turn, parts and mailboxes represent the state
+  -- after these events and n more, each enabled in its turn, parts and mailboxes represent the
+  -- state
   pub record IsShownOn (t : SetupData S) (events : List Event) (parts : List (PartData S V)) (mail : (ℕ → Item V → ℕ) → ℕ) (n : ℕ) : Type 0 where
     pub more : List Event
     pub count : length more ≡ n

@@ -10,7 +10,8 @@ use Rattle.scholten_core.specs.Network.{Network}
 use Rattle.scholten_core.specs.Diffusion.{CoreState}
 use Rattle.shard_store.specs.Setup.{SetupData}
 
--- a part: its tables by number of vertex and arc, its queue, an outbox for each shard, and what it has counted
+-- a part: its tables by number of vertex and arc, its queue, an outbox for each shard, and what it
+-- has counted
 pub record PartData (S V : Type 0) : Type 0 where
   pub setup : SetupData S
   pub shard : ℕ

@@ -12,7 +12,8 @@ use Rattle.shard_store.specs.Totals.{total, is}
 use Rattle.shard_part.specs.Weights.{All, part_weight, in_flight}
 
 module _ {S V : Type 0} (A : Algebra V) (N : Network) (place : ℕ → ℕ) where
-  -- labels and engagers of the part's vertices, the labels last offered to their arcs, and the idle flags of these are those of c
+  -- labels and engagers of the part's vertices, the labels last offered to their arcs, and the idle
+  -- flags of these are those of c
   pub record HoldsTables (c : CoreState V) (p : PartData S V) : Type 0 where
     pub agree : Agree A N (mine place p.shard) c (state_in p)
     pub wide : (v : ℕ) → place v < length p.outs

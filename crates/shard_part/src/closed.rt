@@ -11,7 +11,8 @@ use shard_store::{LocalVertices, Shard, Tables, Tally, VertexTable};
 use std::marker::Model;
 use std::snapshot::Snapshot;
 
-/// What is left of a part whose diffusion is over: the labels of its vertices, and what it counted. The tables of arcs, the queue and the outboxes are freed.
+/// What is left of a part whose diffusion is over: the labels of its vertices, and what it counted.
+/// The tables of arcs, the queue and the outboxes are freed.
 #[derive(Drop)]
 pub struct ClosedPart<'g, A: PathAlgebra> {
     /// The part as it was, for contracts.
@@ -68,7 +69,8 @@ impl<'g, A: PathAlgebra> ClosedPart<'g, A> {
         self.vertices.label(self.own.find(v))
     }
 
-    /// What the part counted, the environment's message and the acceptance of its signal at the source's part.
+    /// What the part counted, the environment's message and the acceptance of its signal at the
+    /// source's part.
     pub fn tally(&self) -> Tally
         ensures { result ≡ tally_in self.now }
     {

@@ -1,5 +1,5 @@
-//! Facts of every plan and part, and theorems over parts and mailboxes, each the contract of a function that computes
-//! nothing: a caller calls it if its own proof needs what it promises.
+//! Facts of every plan and part, and theorems over parts and mailboxes, each the contract of a
+//! function that computes nothing: a caller calls it if its own proof needs what it promises.
 ghost use Rattle.std.specs.Prelude.{◌≡◌, ◌↔◌, ◌⊎◌, ◌+◌, ◌<◌, ◌≤◌, suc, ℕ, Bool, true, IsTrue, IsSome, List, [], ◌++◌, ◌∷◌, map, set, get_or};
 ghost use Rattle.road_graph.specs.GraphData.{GraphData, HasArc, HasVertex, IsGraph, arc_of};
 ghost use Rattle.scholten_core.specs.declared.item.Item.{Item};
@@ -27,7 +27,8 @@ use path_algebra::PathAlgebra;
 use scholten_core::{ended_runs_are_best, every_diffusion_can_end};
 use shard_store::Plan;
 
-/// What holds of every plan: it has at least one shard and at most 64, and each of its entries is one of them.
+/// What holds of every plan: it has at least one shard and at most 64, and each of its entries is
+/// one of them.
 pub fn plan_holds(plan: &Plan)
     ensures within { (1 ≤ plan.now.shards) × (plan.now.shards ≤ 64) }
     ensures plan { IsPlan plan.now }
@@ -35,7 +36,8 @@ pub fn plan_holds(plan: &Plan)
     plan.shards();
 }
 
-/// What holds of every part: it is planned, it has the local invariant, and no counter is past 2^64 - 1.
+/// What holds of every part: it is planned, it has the local invariant, and no counter is past 2^64
+/// - 1.
 pub fn part_holds<A: PathAlgebra>(part: &Part<'_, A>)
     ensures { PartInvariant part.now }
 {
@@ -56,27 +58,31 @@ pub fn closed_part_holds<A: PathAlgebra>(part: &ClosedPart<'_, A>)
     part.shard();
 }
 
-/// If all parts and mailboxes represent a reached state and one part takes one item, they represent what its event leads to.
+/// If all parts and mailboxes represent a reached state and one part takes one item, they represent
+/// what its event leads to.
 pub fn item_is_event<A: PathAlgebra>(_algebra: A)
     ensures { (t : SetupData A) (events : List Event) (before after : List (PartData A A.Value)) (p q : PartData A A.Value) (i : Item A.Value) (mail : (ℕ → Item A.Value → ℕ) → ℕ) → WellFormed (network_of t) →
         Represents A.meaning t (before ++ p ∷ after) mail (core_of A.meaning t events) → HandledItem A.meaning p i q →
         (is_enabled (core_of A.meaning t events) (event_of i) ≡ true) × Represents A.meaning t (before ++ q ∷ after) mail (step (A.meaning t.diffusion.algebra) (network_of t) (core_of A.meaning t events) (event_of i)) }
 {}
 
-/// Whatever the others hold: the items that a part takes are as many enabled events of every reached state of which it holds its share.
+/// Whatever the others hold: the items that a part takes are as many enabled events of every
+/// reached state of which it holds its share.
 pub fn items_are_events<A: PathAlgebra>(_algebra: A)
     ensures { (events : List Event) (items : List (Item A.Value)) (p q : PartData A A.Value) → WellFormed (network_of p.setup) →
         HoldsShare A.meaning (core_of A.meaning p.setup events) p → HandledAll A.meaning p items q →
         (d : CoreState A.Value) × HoldsShare A.meaning d q × (q.setup ≡ p.setup) × AllEnabled A.meaning p.setup (core_of A.meaning p.setup events) items d }
 {}
 
-/// If all parts and mailboxes represent a reached state and one part takes items, one after the other, they represent the state after that many further events, each enabled in its turn.
+/// If all parts and mailboxes represent a reached state and one part takes items, one after the
+/// other, they represent the state after that many further events, each enabled in its turn.
 pub fn items_are_shown<A: PathAlgebra>(_algebra: A)
     ensures { (t : SetupData A) (events : List Event) (before after : List (PartData A A.Value)) (p q : PartData A A.Value) (n : ℕ) (mail : (ℕ → Item A.Value → ℕ) → ℕ) → WellFormed (network_of t) →
         Represents A.meaning t (before ++ p ∷ after) mail (core_of A.meaning t events) → HandledMany A.meaning p n q → IsShownOn A.meaning t events (before ++ q ∷ after) mail n }
 {}
 
-/// How to read what parts and mailboxes represent: on each arc the items in all places, each with the shard that it is at or going to, are exactly what its token stands for.
+/// How to read what parts and mailboxes represent: on each arc the items in all places, each with
+/// the shard that it is at or going to, are exactly what its token stands for.
 pub fn places_are_read<A: PathAlgebra>(_algebra: A)
     ensures { (t : SetupData A) (parts : List (PartData A A.Value)) (ms : List (ℕ × List (Item A.Value))) (c : CoreState A.Value) → Represents A.meaning t parts (mail_weight ms) c → (b : ℕ) → b < suc (network_of t).arcs →
         on b (parts_places parts ++ mail_places ms) ≡ place_of_token (network_of t) (place_in t) b (c.token b) }
@@ -89,7 +95,8 @@ pub fn publishing_shows_the_same<A: PathAlgebra>(_algebra: A)
         Represents A.meaning t (before ++ record p { outs = set p.outs to [] } ∷ after) (mail_weight (boxes ++ (to, get_or p.outs to []) ∷ behind)) c }
 {}
 
-/// A batch moves from a mailbox into the queue of the part that it leads to: all represent the same state.
+/// A batch moves from a mailbox into the queue of the part that it leads to: all represent the same
+/// state.
 pub fn receiving_shows_the_same<A: PathAlgebra>(_algebra: A)
     ensures { (t : SetupData A) (before after : List (PartData A A.Value)) (p : PartData A A.Value) (batch : List (Item A.Value)) (boxes behind : List (ℕ × List (Item A.Value))) (c : CoreState A.Value) →
         Represents A.meaning t (before ++ p ∷ after) (mail_weight (boxes ++ (p.shard, batch) ∷ behind)) c →
@@ -124,8 +131,8 @@ pub fn an_item_waits_until_the_end<A: PathAlgebra>(_algebra: A)
 {}
 
 /// If a plan has one shard, whose part takes its items best first, the items that it takes from its
-/// opening on are events that take the best waiting message first. So whenever it is looked at, it has
-/// sent at most one message along each arc out of a vertex that has a label, and one.
+/// opening on are events that take the best waiting message first. So whenever it is looked at, it
+/// has sent at most one message along each arc out of a vertex that has a label, and one.
 pub fn one_part_takes_the_best<A: PathAlgebra>(_algebra: A)
     ensures best { (t : SetupData A) (items : List (Item A.Value)) (q : PartData A A.Value) →
         IsPlanned t 0 → HasOneBestFirstPart t →

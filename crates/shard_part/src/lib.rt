@@ -1,4 +1,5 @@
-//! One shard's part of a diffusing computation: how it is opened, handles items one by one, exchanges batches, and is closed.
+//! One shard's part of a diffusing computation: how it is opened, handles items one by one,
+//! exchanges batches, and is closed.
 #![tactic(auto)]
 
 mod closed;

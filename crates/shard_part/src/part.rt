@@ -22,7 +22,8 @@ use shard_store::{Batch, Plan, QueueOrder, Shard};
 use std::alloc::Global;
 use std::marker::Model;
 
-/// One shard's part of a diffusing computation: labels and engagers of its vertices, a queue of items to be handled, and an outbox for each other shard.
+/// One shard's part of a diffusing computation: labels and engagers of its vertices, a queue of
+/// items to be handled, and an outbox for each other shard.
 #[derive(Drop)]
 pub struct Part<'g, A: PathAlgebra> {
     state: PartState<'g, A>,
@@ -40,8 +41,10 @@ impl<'g, A: PathAlgebra> Model for Part<'g, A> {
 }
 
 impl<'g, A: PathAlgebra> Part<'g, A> {
-    /// The part of one shard before any event. At the source's part the message of the environment waits, with the origin as its value.
-    /// Its items will be taken in this order. Its queue has a place for each arc with an end in the shard, each outbox one for each arc between the two shards: no later call takes memory.
+    /// The part of one shard before any event. At the source's part the message of the environment
+    /// waits, with the origin as its value. Its items will be taken in this order. Its queue has a
+    /// place for each arc with an end in the shard, each outbox one for each arc between the two
+    /// shards: no later call takes memory.
     pub fn open(
         alloc: Global,
         algebra: A,
@@ -71,7 +74,8 @@ impl<'g, A: PathAlgebra> Part<'g, A> {
         self.state.handle_next()
     }
 
-    /// As `handle_within` without a limit: it goes on until the budget is used up or the queue is empty.
+    /// As `handle_within` without a limit: it goes on until the budget is used up or the queue is
+    /// empty.
     pub fn handle(&mut self, budget: u32) -> u32
         ensures budget { result ≤ budget }
         ensures all { (result ≡ budget) ⊎ (self.new.queue ≡ []) }
@@ -83,13 +87,17 @@ impl<'g, A: PathAlgebra> Part<'g, A> {
         self.handle_within(budget, None, None)
     }
 
-    /// Takes items off the queue in its order and handles them, one after the other, until the budget is used up, the queue is empty or, best first, all that waits
-    /// is held back, and says how many. Held back are messages worse than the limit, and those worse than a message for another shard will be after one more arc
-    /// of the weight `ahead`. So best first no message that improves a label is worse than the limit.
+    /// Takes items off the queue in its order and handles them, one after the other, until the
+    /// budget is used up, the queue is empty or, best first, all that waits is held back, and says
+    /// how many. Held back are messages worse than the limit, and those worse than a message for
+    /// another shard will be after one more arc of the weight `ahead`. So best first no message
+    /// that improves a label is worse than the limit.
     ///
-    /// What an item makes goes to the back of the queue if it belongs to this shard, else to the back of the outbox to its shard.
-    /// Whatever the other parts hold: if this part held its share of a state that some events lead to, the items are that many further events, each enabled in its turn,
-    /// and the part holds its share of the state that they lead to. Its counters have grown by what these events sent, delivered, signalled and accepted, up to 2^64 - 1.
+    /// What an item makes goes to the back of the queue if it belongs to this shard, else to the
+    /// back of the outbox to its shard. Whatever the other parts hold: if this part held its share
+    /// of a state that some events lead to, the items are that many further events, each enabled in
+    /// its turn, and the part holds its share of the state that they lead to. Its counters have
+    /// grown by what these events sent, delivered, signalled and accepted, up to 2^64 - 1.
     pub fn handle_within(&mut self, budget: u32, limit: Option<A::Value>, ahead: Option<u32>) -> u32
         ensures budget { result ≤ budget }
         ensures all { (result ≡ budget) ⊎ ((self.new.queue ≡ []) ⊎
@@ -179,7 +187,8 @@ impl<'g, A: PathAlgebra> Part<'g, A> {
         self.state.receive(batch)
     }
 
-    /// Frees the tables of arcs, the queue and the outboxes, and keeps the labels of the vertices and the counts.
+    /// Frees the tables of arcs, the queue and the outboxes, and keeps the labels of the vertices
+    /// and the counts.
     pub fn close(self) -> ClosedPart<'g, A>
         ensures { result ≡ self.entry }
     {

@@ -32,7 +32,8 @@ pub(crate) struct PartState<'g, A: PathAlgebra> {
     pub(crate) tables: Tables<A::Value>,
     pub(crate) queue: Queue<A>,
     pub(crate) outs: Vec<Batch<A::Value>>,
-    /// No worse than what waits for other shards, since it was last noted: it spares most looks through the outboxes.
+    /// No worse than what waits for other shards, since it was last noted: it spares most looks
+    /// through the outboxes.
     best_sent: Option<A::Value>,
     sent: u64,
     delivered: u64,
@@ -73,7 +74,8 @@ impl<'g, A: PathAlgebra> PartState<'g, A> {
         self.shard
     }
 
-    /// What has been counted, the environment's message and the acceptance of its signal at the source's part.
+    /// What has been counted, the environment's message and the acceptance of its signal at the
+    /// source's part.
     pub(crate) fn tally(&self) -> Tally
         ensures { result ≡ tally_in self.now }
     {

@@ -11,7 +11,8 @@ use Rattle.shard_store.specs.Layout.{reversed_network, leading_to, coming_from}
 use Rattle.shard_store.proofs.Counting.{total_same, total_both, sum_swap, total_swap, total_out, placed_none, placed_once}
 use Rattle.scholten_core.proofs.Basics.{one_if-most, sum_same, sum_zero, sum_ones, sum_add, sum_most, sum_term, sum_one}
 
--- an arc between the shards s and t, seen from s: by its head where it leaves s, by its tail where it only enters s
+-- an arc between the shards s and t, seen from s: by its head where it leaves s, by its tail where
+-- it only enters s
 abbrev pub seen_from : ℕ → ℕ → ℕ → ℕ → ℕ
 seen_from s t a h = cond (eqb a s) (one_if (eqb h t)) (cond (eqb h s) (one_if (eqb a t)) 0)
 

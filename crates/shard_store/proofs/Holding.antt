@@ -1,4 +1,5 @@
--- What is worse than a limit: all that is no better than something worse, and what is on top of what is.
+-- What is worse than a limit: all that is no better than something worse, and what is on top of
+-- what is.
 use Rattle.std.proofs.Common.{◌≡◌, ℕ, ◌<◌, List, [], ◌∷◌, ◌++◌, length, map, Bool, false, sym, ◌∙◌, subst, inl, inr, arith}
 use Rattle.std.proofs.lemmas.Bool.{cases_Bool, false≢true}
 use Rattle.path_algebra.specs.Algebra.{IsOrder}

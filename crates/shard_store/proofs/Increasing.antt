@@ -1,4 +1,5 @@
--- The place of a number in an increasing list: a binary search finds it, or it follows from the first number if all follow one another.
+-- The place of a number in an increasing list: a binary search finds it, or it follows from the
+-- first number if all follow one another.
 use Rattle.std.proofs.Common.{◌≡◌, ℕ, zero, suc, ◌+◌, ◌-◌, ◌<◌, ◌≤◌, ◌⊎◌, Result, Ok, Err, List, ◌∷◌, length, get_or, refl, sym, ap, ◌∙◌, arith}
 use Rattle.std.specs.Prelude.{Contains}
 use Rattle.std.specs.List.{range_with_len}
@@ -21,7 +22,8 @@ climbs xs h i (suc d) zero e l = absurd (omega (arith, e))
 climbs xs h i (suc d) (suc j) e l =
     let r = climbs xs h i d j (omega (arith, e)) (omega (arith, l)) in let s = AllPairs-from_increasing xs h j (suc j) 0 (omega arith) l in omega (arith, r, s)
 
--- where the first and the last are as far apart as there are places between, the numbers follow one another
+-- where the first and the last are as far apart as there are places between, the numbers follow one
+-- another
 pub follow_first : (xs : List ℕ) (first last : ℕ) → IsStrictlyIncreasing xs → first ≡ get_or xs 0 1 → last ≡ get_or xs (length xs - 1) 0
     → first + length xs ≡ last + 1 → xs ≡ range_with_len first (length xs)
 follow_first xs first last h low high far = same_number_lists xs (range_with_len first (length xs)) (sym (length-range_with_len first (length xs))) (λ k l.
@@ -31,7 +33,8 @@ follow_first xs first last h low high far = same_number_lists xs (range_with_len
     let d = get_or-range_with_len first (length xs) k 0 l in
     omega (arith, a, b, c, d, low, high, far, l))
 
--- a number of a run is as far after the first place as it is above the number before the first; 0 is first
+-- a number of a run is as far after the first place as it is above the number before the first; 0
+-- is first
 pub run_found : (first count v at : ℕ) → 1 ≤ first → Contains (0 ∷ range_with_len first count) v → (first ≤ v → at ≡ v - first + 1) → (v < first → at ≡ 0) →
     (at < length (0 ∷ range_with_len first count)) × (get_or (0 ∷ range_with_len first count) at 0 ≡ v)
 run_found first count v at low (zero, l, e) behind before = let z = before (omega (arith, e, low)) in ((omega (arith, z)), ap (λ i. get_or (0 ∷ range_with_len first count) i 0) z ∙ e)

@@ -14,7 +14,8 @@ module _ {X Y : Type 0} (f : X → Y) where
   map_replicate zero x = refl
   map_replicate (suc n) x = ap (λ ys. f x ∷ ys) (map_replicate n x)
 
--- two lists side by side: the same write to both, and a write to the first that does not depend on the second
+-- two lists side by side: the same write to both, and a write to the first that does not depend on
+-- the second
 module _ {X Y Z : Type 0} (f : X → Y → Z) where
   zip2_replicate : (n : ℕ) (x : X) (y : Y) → zip2 f (replicate n x) (replicate n y) ≡ replicate n (f x y)
   zip2_replicate zero x y = refl

@@ -57,6 +57,7 @@ abbrev pub CountsInto : ShardLayoutData → ℕ → List ℕ → List ℕ → Ty
 CountsInto w v old new = (length new ≡ length old)
     × ((t : ℕ) → t < w.setup.plan.shards → get_or new t 0 ≡ get_or old t 0 + coming_from (network_of w.setup) (place_in w.setup) w.shard t (outgoing (reversed_network (network_of w.setup)) v))
 
--- for each shard the number of arcs between it and the own one; for the own one, the number of those within it
+-- for each shard the number of arcs between it and the own one; for the own one, the number of
+-- those within it
 abbrev pub CountsAll : ShardLayoutData → List ℕ → Type 0
 CountsAll w capacities = (length capacities ≡ w.setup.plan.shards) × ((t : ℕ) → t < w.setup.plan.shards → get_or capacities t 0 ≡ outbox_bound (network_of w.setup) (place_in w.setup) w.shard t)

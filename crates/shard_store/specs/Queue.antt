@@ -13,7 +13,8 @@ pub record Room : Type 0 where
   pub capacity : ℕ
   pub order : QueueOrder
 
--- the items that wait, how many of them are ranked by value (they are the first), and the room for all
+-- the items that wait, how many of them are ranked by value (they are the first), and the room for
+-- all
 pub record Line (X : Type 0) : Type 0 where
   pub items : List X
   pub ranked : ℕ
@@ -34,7 +35,8 @@ abbrev pub IsNewest : {X : Type 0} → Line X → X → Type 0
 IsNewest {X} l i = (before : List X) × (l.items ≡ before ++ i ∷ []) × (l.ranked ≤ length before)
 
 module _ {V : Type 0} (no_worse : V → V → Bool) where
-  -- the value x on arc a is no worse than that of a message, and on no greater arc if the two are equal
+  -- the value x on arc a is no worse than that of a message, and on no greater arc if the two are
+  -- equal
   abbrev pub IsNoWorseOn : ℕ → V → Item V → Type 0
   IsNoWorseOn a x (MessageOn b y) = IsTrue (no_worse x y) × (IsTrue (no_worse y x) → a ≤ b)
   IsNoWorseOn a x (SignalOn b) = ⊥
@@ -53,8 +55,9 @@ module _ {V : Type 0} (no_worse : V → V → Bool) where
   IsBestMessage (MessageOn a x) rest = All (IsNoWorseOn a x) rest
   IsBestMessage (SignalOn a) rest = ⊥
 
--- The items taken are in the front list. First come, first served: nothing is ranked, and there is room in the front and the back list for all that may wait.
--- Best first: the front list is empty, and there is room among those ranked and in the back list.
+-- The items taken are in the front list. First come, first served: nothing is ranked, and there is
+-- room in the front and the back list for all that may wait. Best first: the front list is empty,
+-- and there is room among those ranked and in the back list.
 pub record IsItemQueue {X Y Z : Type 0} (cmp : Y → Y → Ordering) (order : QueueOrder) (ranked : List Y) (room : ℕ) (front : Vec X Z) (taken : ℕ) (back : Vec X Z) (capacity : ℕ) : Type 0 where
   pub taken_stood : taken ≤ length front.items
   pub waiting : length ranked + length front.items + length back.items ≤ taken + capacity

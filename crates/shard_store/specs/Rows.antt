@@ -32,7 +32,8 @@ idle_rows own offsets arcs entry = record {
   told = replicate arcs None;
 }
 
--- the rows are those of the shard's tables before any event, for some offsets that say where the arcs of each vertex begin
+-- the rows are those of the shard's tables before any event, for some offsets that say where the
+-- arcs of each vertex begin
 pub record AreIdle {V : Type 0} (w : ShardLayoutData) (rows : Rows V) : Type 0 where
   pub offsets : List ℕ
   pub arcs : ℕ

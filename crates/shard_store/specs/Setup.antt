@@ -1,4 +1,5 @@
--- What all parts of a diffusion share: the diffusion, the plan that says which shard each vertex is in, and the order in which parts take their items.
+-- What all parts of a diffusion share: the diffusion, the plan that says which shard each vertex is
+-- in, and the order in which parts take their items.
 use Rattle.std.specs.Prelude.{◌≡◌, ℕ, ◌-◌, ◌<◌, ◌∷◌, length, get_or}
 use Rattle.road_graph.specs.GraphData.{GraphData, HasVertex, IsGraph}
 use Rattle.scholten_core.specs.Network.{Network}

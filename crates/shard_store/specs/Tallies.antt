@@ -23,7 +23,8 @@ more_signalled k t = record { sent = t.sent; delivered = t.delivered; signalled 
 abbrev pub more_accepted : ℕ → Tally → Tally
 more_accepted k t = record { sent = t.sent; delivered = t.delivered; signalled = t.signalled; accepted = counted_on k t.accepted; full = t.full || leb top (t.accepted + k) }
 
--- the counts of both: each counter is the sum, held at the top; full if one of them reaches the top, or if one of the two was full
+-- the counts of both: each counter is the sum, held at the top; full if one of them reaches the
+-- top, or if one of the two was full
 abbrev pub together : Tally → Tally → Tally
 together o t = record {
   sent = counted_on o.sent t.sent;
@@ -33,7 +34,8 @@ together o t = record {
   full = t.full || leb top (t.sent + o.sent) || leb top (t.delivered + o.delivered) || leb top (t.signalled + o.signalled) || leb top (t.accepted + o.accepted) || o.full;
 }
 
--- the tally that shows these totals: each counter is the lesser of its total and the top, and it is full exactly if a total reaches the top
+-- the tally that shows these totals: each counter is the lesser of its total and the top, and it is
+-- full exactly if a total reaches the top
 abbrev pub tally_of : Totals → Tally
 tally_of n = record {
   sent = min n.sent top;

@@ -8,7 +8,8 @@ use crate::local_vertices::LocalVertices;
 use crate::tables::{ArcTable, Tables, VertexTable};
 use std::alloc::{AllocError, Global};
 
-/// Tables in which nothing has happened, except that arc 0 may be busy. The value fills the places of those that are not there yet.
+/// Tables in which nothing has happened, except that arc 0 may be busy. The value fills the places
+/// of those that are not there yet.
 pub fn idle_tables<V: Copy>(
     alloc: Global,
     layout: &ShardLayout,

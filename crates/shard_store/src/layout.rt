@@ -15,7 +15,8 @@ use road_graph::{Graph, Vertex};
 use std::alloc::{AllocError, Global};
 use std::marker::Model;
 
-/// The first and the last vertex of a shard, and how many it has. If it has none, these are 1 and 0.
+/// The first and the last vertex of a shard, and how many it has. If it has none, these are 1 and
+/// 0.
 #[derive(Clone, Copy)]
 struct Extent {
     first: Vertex,
@@ -74,7 +75,8 @@ impl<'g> ShardLayout<'g> {
         self.plan.shard_of(self.source) == self.shard
     }
 
-    /// What holds of every layout: the plan is for the graph and has the shard, and the source is a vertex of the graph.
+    /// What holds of every layout: the plan is for the graph and has the shard, and the source is a
+    /// vertex of the graph.
     fn holds(&self)
         ensures { IsPlanned self.now.setup self.now.shard }
     {
@@ -146,7 +148,8 @@ impl<'g> ShardLayout<'g> {
         if v.0 == 0 { 1 } else { self.graph.out(v).len() }
     }
 
-    /// Writes where the arcs out of each own vertex begin, and returns how many arcs there are in all.
+    /// Writes where the arcs out of each own vertex begin, and returns how many arcs there are in
+    /// all.
     pub fn write_starts<V: Copy>(&self, own: &LocalVertices, vertices: &mut VertexTable<V>) -> usize
         requires own { own.now ≡ local_vertices self.now.setup self.now.shard }
         requires long { length vertices.old.offsets ≡ length own.now }
@@ -208,7 +211,8 @@ impl<'g> ShardLayout<'g> {
         }
     }
 
-    /// How many arcs there are between the shard and each shard; for the shard itself, how many are within it.
+    /// How many arcs there are between the shard and each shard; for the shard itself, how many are
+    /// within it.
     pub fn capacities(&self, alloc: Global, own: &LocalVertices) -> Result<Vec<usize>, AllocError>
         requires { own.now ≡ local_vertices self.now.setup self.now.shard }
         ensures { IfOk result (λ capacities. CountsAll self.now capacities.items) }

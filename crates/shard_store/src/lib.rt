@@ -1,4 +1,5 @@
-//! What one shard's part of a diffusing computation is stored in: its vertices and their tables, its queue, and the batches for other shards.
+//! What one shard's part of a diffusing computation is stored in: its vertices and their tables,
+//! its queue, and the batches for other shards.
 #![tactic(auto)]
 
 mod batch;

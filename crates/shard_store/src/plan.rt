@@ -32,7 +32,8 @@ pub enum PlanFault {
 }
 
 impl Plan {
-    /// Blocks of vertices of about the same size: vertex v of n is in shard (v - 1) * s / n, rounded down.
+    /// Blocks of vertices of about the same size: vertex v of n is in shard (v - 1) * s / n,
+    /// rounded down.
     pub fn blocks(alloc: Global, n: u32, s: u8) -> Result<Plan, Memory>
         requires vertices { n ≤ 2 ^ 25 }
         requires shards { (1 ≤ s) × (s ≤ 64) }
@@ -42,7 +43,8 @@ impl Plan {
         Ok(Plan { shards: s, list })
     }
 
-    /// The plan that a list gives: entry i is the shard of vertex i + 1. Refused at the first entry that is s or more; the list comes back.
+    /// The plan that a list gives: entry i is the shard of vertex i + 1. Refused at the first entry
+    /// that is s or more; the list comes back.
     pub fn table(s: u8, list: Vec<u8>) -> Result<Plan, (PlanFault, Vec<u8>)>
         requires vertices { length list.items ≤ 2 ^ 25 }
         requires shards { (1 ≤ s) × (s ≤ 64) }

@@ -24,9 +24,10 @@ pub type RankedMessage<A> = Ranked<A, ArcNo>;
 
 /// The items that wait at a part: a queue of a fixed capacity.
 ///
-/// First come, first served: items enter at the back of one list and leave from the front of another; when that is used up, the two are swapped.
-/// So each list touches memory for as many items as ever waited at once, not for the whole capacity.
-/// Best first: they enter at the back of one list, and leave from there at once or are ranked in a heap, the best on top.
+/// First come, first served: items enter at the back of one list and leave from the front of
+/// another; when that is used up, the two are swapped. So each list touches memory for as many
+/// items as ever waited at once, not for the whole capacity. Best first: they enter at the back of
+/// one list, and leave from there at once or are ranked in a heap, the best on top.
 #[derive(Drop)]
 pub struct Queue<A: PathAlgebra> {
     order: QueueOrder,
@@ -134,7 +135,8 @@ impl<A: PathAlgebra> Queue<A> {
     }
 }
 
-/// Best first: what came is looked at from the newest on, and is taken at once or ranked by its value.
+/// Best first: what came is looked at from the newest on, and is taken at once or ranked by its
+/// value.
 impl<A: PathAlgebra> Queue<A> {
     /// The item that came last, if not all items are ranked.
     pub fn newest(&self) -> Option<Item<A::Value>>

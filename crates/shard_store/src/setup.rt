@@ -8,7 +8,8 @@ use road_graph::{Graph, Vertex};
 use std::marker::Model;
 use std::snapshot::Snapshot;
 
-/// A diffusion and its plan, for contracts. It has the graph and the plan as snapshots alone, so it may outlive both.
+/// A diffusion and its plan, for contracts. It has the graph and the plan as snapshots alone, so it
+/// may outlive both.
 #[derive(Drop)]
 pub struct Setup<A> {
     algebra: A,

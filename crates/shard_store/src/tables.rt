@@ -37,13 +37,15 @@ pub struct ArcMarks {
     pub busy: bool,
 }
 
-/// What is known of the vertices. The fields of one vertex are together, since handling an item reads most of them.
+/// What is known of the vertices. The fields of one vertex are together, since handling an item
+/// reads most of them.
 #[derive(Drop)]
 pub struct VertexTable<V> {
     rows: Vec<VertexRow<V>>,
 }
 
-/// What is known of the arcs. The marks of many arcs are close in memory, and a label is loaded only if the arc was offered one.
+/// What is known of the arcs. The marks of many arcs are close in memory, and a label is loaded
+/// only if the arc was offered one.
 #[derive(Drop)]
 pub struct ArcTable<V> {
     marks: Vec<ArcMarks>,
@@ -71,7 +73,8 @@ impl<V> Model for ArcTable<V> {
 }
 
 impl<V: Copy> VertexTable<V> {
-    /// The rows of `n` vertices without a label or an engager, none of whose arcs is busy. The value fills the places of labels, and 0 says where their arcs begin.
+    /// The rows of `n` vertices without a label or an engager, none of whose arcs is busy. The
+    /// value fills the places of labels, and 0 says where their arcs begin.
     pub fn idle(alloc: Global, n: usize, value: V) -> Result<VertexTable<V>, AllocError>
         ensures { IfOk result (λ t. t ≡ record {
           labels = replicate n None;

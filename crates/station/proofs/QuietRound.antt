@@ -190,7 +190,8 @@ module _ {S V : Type 0} (meaning : S → Algebra V) (f : FloorData S) (budget : 
     low : t.before.seat.shard < n
     low = subst (λ z. z < n) (sym q.was.shard) q.shard
 
-    -- the next mailbox from another shard is not full, and no next mailbox to one for which something waits is empty
+    -- the next mailbox from another shard is not full, and no next mailbox to one for which
+    -- something waits is empty
     not_full : (now : List ℕ) → IsSameMail n s.words now → (j : ℕ) → j < n → j ≢ t.before.part.shard → words_between n now j t.before.part.shard (get_or t.before.seat.knows.next_read j 0) ≢ full
     not_full now mail j l ne = subst (λ z. words_between n now j z (get_or t.before.seat.knows.next_read j 0) ≢ full) q.was.shard
         (not_wanted n s.words now reads_missed.more 2 (read_box f t.before.seat) j found_all.0 mail
@@ -354,7 +355,8 @@ module _ {S V : Type 0} (meaning : S → Algebra V) (f : FloorData S) (budget : 
     turn_reports t c knows = let T = turn_of s end round.turns round.quiet t c in
         reports T.at_state t T.quiet (knows T.view T.is_there (ap (λ (ps : List (PartData S V)). get_elem? ps 0) T.parts))
 
-    -- a turn of the round by the station of a shard, which has not reported the end, and where its part was before
+    -- a turn of the round by the station of a shard, which has not reported the end, and where its
+    -- part was before
     pub record TurnOfShard (j : ℕ) : Type 0 where
       pub t : TurnAt S V
       pub among : Contains round.turns t

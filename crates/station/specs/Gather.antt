@@ -47,14 +47,17 @@ module _ {S V : Type 0} where
   abbrev pub IsFirstMissing : ℕ → List (StationData S V) → ℕ → Type 0
   IsFirstMissing n stations j = (j < n) × IsMissing stations j × AllThere j stations
 
-  -- why the answer was not gathered: a shard's station is missing, the least such shard; or all are there, and memory was refused
+  -- why the answer was not gathered: a shard's station is missing, the least such shard; or all are
+  -- there, and memory was refused
   abbrev pub IsGatherFault : ℕ → List (StationData S V) → GatherFault → Type 0
   IsGatherFault n stations (Missing j) = IsFirstMissing n stations j
   IsGatherFault n stations Memory = AllThere n stations
 
--- The diffusion is about a graph, from one of its vertices. Labels are best. Some events, counted in full, lead to a state that has ended
--- and is quiet; each counter of the tally is the lesser of its total and its top, full exactly if a total reaches that, and all totals
--- are the same. If there is one shard, whose part takes its items best first, the events take the best waiting message first.
+-- The diffusion is about a graph, from one of its vertices. Labels are best. Some events, counted
+-- in full, lead to a state that has ended and is quiet; each counter of the tally is the lesser of
+-- its total and its top, full exactly if a total reaches that, and all totals are the same. If
+-- there is one shard, whose part takes its items best first, the events take the best waiting
+-- message first.
 pub record IsGathered {S V : Type 0} (meaning : S → Algebra V) (t : SetupData S) (g : Gathered V) : Type 0 where
   pub roads : IsGraph t.diffusion.roads
   pub source : HasVertex t.diffusion.roads t.diffusion.source

@@ -10,8 +10,8 @@ use Rattle.post_floor.specs.declared.view.View.{View}
 use Rattle.station.specs.Gather.{counts_of}
 use Rattle.station.specs.Station.{StationData}
 
--- seats of one floor that have seen the end; together with the stations that are left they are those of all stations, by shards and by what they counted, and the tally
--- counts what they did
+-- seats of one floor that have seen the end; together with the stations that are left they are
+-- those of all stations, by shards and by what they counted, and the tally counts what they did
 pub record AreHanded {S V : Type 0} (id : TableId) (all left : List (StationData S V)) (seats : List (SeatData S V)) (tally : Tally) : Type 0 where
   pub own : All (λ d. d.floor ≡ id) seats
   pub seen : All (λ d. d.knows.seen ≡ true) seats

@@ -18,7 +18,8 @@ station_of id n p = record { part = p; seat = seat_of id n p; ended = false }
 abbrev pub IsFreshPart : {S V : Type 0} → (S → Algebra V) → FloorData S → PartData S V → Type 0
 IsFreshPart meaning f p = (p.setup ≡ f.setup) × IsViewOf (knows f.setup.plan.shards (p ∷ [])) p × HoldsReachedShare meaning p
 
--- the floor is that of the diffusion, and there is one station of it for each shard, in order, with its part as it is opened
+-- the floor is that of the diffusion, and there is one station of it for each shard, in order, with
+-- its part as it is opened
 pub record AreOpened {S V : Type 0} (meaning : S → Algebra V) (t : SetupData S) (f : FloorData S) (stations : List (StationData S V)) : Type 0 where
   pub setup : f.setup ≡ t
   pub stations_are : stations ≡ map (station_of f.id t.plan.shards) (first_parts meaning t t.plan.shards)

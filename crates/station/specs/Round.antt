@@ -47,8 +47,9 @@ pub record TurnAt (S V : Type 0) : Type 0 where
   pub left : State (Slot V) (View S V)
 
 module _ {S V : Type 0} (meaning : S → Algebra V) (f : FloorData S) (budget : ℕ) where
-  -- A quiet turn of a station that has not reported the end: it does nothing, its steps find the mailboxes as they are, and the floor stays the same, but for
-  -- the station's view and the done word.
+  -- A quiet turn of a station that has not reported the end: it does nothing, its steps find the
+  -- mailboxes as they are, and the floor stays the same, but for the station's view and the done
+  -- word.
   pub record IsQuietTurn (s : State (Slot V) (View S V)) (t : TurnAt S V) : Type 0 where
     pub view : get_elem? s.views t.id ≡ some t.before.seat.knows
     pub shard : t.before.part.shard < f.setup.plan.shards

@@ -37,7 +37,8 @@ abbrev pub IsFree : {S V : Type 0} → View S V → Type 0
 IsFree v = (v.fills ≡ []) × (v.reads ≡ [])
 
 module _ {S V : Type 0} (meaning : S → Algebra V) where
-  -- nothing is under way in the part, and each label of its vertices is best: none exactly if no walk has a value
+  -- nothing is under way in the part, and each label of its vertices is best: none exactly if no
+  -- walk has a value
   pub record IsOverPart (p : PartData S V) : Type 0 where
     pub best : (v : ℕ) → IsOwn p v → IsBestFor meaning p.setup v ((state_in p).label v)
     pub neutral : (v : ℕ) → IsOwn p v → (state_in p).engager v ≡ None
@@ -45,15 +46,17 @@ module _ {S V : Type 0} (meaning : S → Algebra V) where
     pub queue : p.queue ≡ []
     pub outs : (j : ℕ) → get_or p.outs j [] ≡ []
 
-  -- The diffusion has ended, as the station knows: its view has seen the done word at 1, its part holds its share of an ended state,
-  -- each label of its vertices is best, and nothing is under way in it.
+  -- The diffusion has ended, as the station knows: its view has seen the done word at 1, its part
+  -- holds its share of an ended state, each label of its vertices is best, and nothing is under way
+  -- in it.
   pub record IsOver (s : StationData S V) : Type 0 where
     pub seen : s.seat.knows.seen ≡ true
     pub ended : HoldsEndedShare meaning s.part
     pub part : IsOverPart s.part
 
-  -- What holds of every station between two turns: its view has its part, it is filling no mailbox and reading none, the part holds its share
-  -- of a state that some events lead to, and if the last turn reported the end, the diffusion is over.
+  -- What holds of every station between two turns: its view has its part, it is filling no mailbox
+  -- and reading none, the part holds its share of a state that some events lead to, and if the last
+  -- turn reported the end, the diffusion is over.
   pub record IsStation (s : StationData S V) : Type 0 where
     pub shard : s.seat.shard ≡ s.part.shard
     pub shows : IsViewOf s.seat.knows s.part

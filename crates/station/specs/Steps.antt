@@ -12,7 +12,8 @@ use Rattle.station.specs.Tries.{at, if_found, IsTry, AreTries, used}
 use Rattle.station.specs.Turn.{received, SentOff}
 
 module _ {S V : Type 0} where
-  -- the seat is one of the floor's, and its view has the part, which is of the floor's diffusion; it is filling no mailbox and reading none
+  -- the seat is one of the floor's, and its view has the part, which is of the floor's diffusion;
+  -- it is filling no mailbox and reading none
   pub record AreReady (f : FloorData S) (d : SeatData S V) (p : PartData S V) : Type 0 where
     pub floor : d.floor ≡ f.id
     pub setup : p.setup ≡ f.setup
@@ -38,7 +39,8 @@ module _ {S V : Type 0} where
     pub next_read : e.knows.next_read ≡ used (if_found found from) d.knows.next_read
     pub next_fill : e.knows.next_fill ≡ d.knows.next_fill
 
-  -- the next mailbox from each other one of the first n shards was tried, and `count` were found full
+  -- the next mailbox from each other one of the first n shards was tried, and `count` were found
+  -- full
   pub record AllTriedFrom (f : FloorData S) (n count : ℕ) (d e : SeatData S V) : Type 0 where
     pub shard : e.shard ≡ d.shard
     pub full : List ℕ
@@ -47,14 +49,16 @@ module _ {S V : Type 0} where
     pub next_read : e.knows.next_read ≡ used full d.knows.next_read
     pub next_fill : e.knows.next_fill ≡ d.knows.next_fill
 
-  -- the next mailbox to a shard was tried, if it is another one and something waits for it in the part
+  -- the next mailbox to a shard was tried, if it is another one and something waits for it in the
+  -- part
   pub record TriedTo (f : FloorData S) (to : ℕ) (found : Bool) (p : PartData S V) (d e : SeatData S V) : Type 0 where
     pub shard : e.shard ≡ d.shard
     pub try : IsTry 0 2 ((to ≢ d.shard) × (get_or p.outs to [] ≢ [])) (fill_box f d to) found d.knows.steps e.knows.steps
     pub next_fill : e.knows.next_fill ≡ used (if_found found to) d.knows.next_fill
     pub next_read : e.knows.next_read ≡ d.knows.next_read
 
-  -- the next mailbox to each other one of the first n shards for which something waits was tried, and `count` outboxes were published
+  -- the next mailbox to each other one of the first n shards for which something waits was tried,
+  -- and `count` outboxes were published
   pub record AllTriedTo (f : FloorData S) (n count : ℕ) (p q : PartData S V) (d e : SeatData S V) : Type 0 where
     pub shard : e.shard ≡ d.shard
     pub outboxes : List ℕ

@@ -21,8 +21,10 @@ abbrev pub StaysOrImproves : {V : Type 0} → Algebra V → Option V → Option 
 StaysOrImproves {V} A before after = (x : V) → before ≡ Some x → (y : V) × (after ≡ Some y) × IsTrue (A.no_worse y x)
 
 module _ {S V : Type 0} where
-  -- The limit holds back all that waits at the part. It is the best value that is shown of the other shards, after one more arc of some weight, and all that
-  -- waits is worse than that best value: no signal waits there, and no message that is no worse. Which values may be shown of a shard is not promised.
+  -- The limit holds back all that waits at the part. It is the best value that is shown of the
+  -- other shards, after one more arc of some weight, and all that waits is worse than that best
+  -- value: no signal waits there, and no message that is no worse. Which values may be shown of a
+  -- shard is not promised.
   pub record IsBehindOthers (A : Algebra V) (limit : Option V) (p : PartData S V) : Type 0 where
     pub held : IsHeldBack A.no_worse limit p
     pub best : V
@@ -31,8 +33,9 @@ module _ {S V : Type 0} where
     pub limit_is : A.extend best ahead ≡ limit
     pub behind : IsHeldBy A.no_worse best p.queue
 
-  -- Of the items of a part, which is p then, as many were handled as the budget allows, or all, or what is left is held back: by the limit, or since the part
-  -- is ahead of what it has sent by more than `ahead`.
+  -- Of the items of a part, which is p then, as many were handled as the budget allows, or all, or
+  -- what is left is held back: by the limit, or since the part is ahead of what it has sent by more
+  -- than `ahead`.
   abbrev pub IsAsFar : Algebra V → (budget handled : ℕ) → Bool → (limit : Option V) → (ahead : Option ℕ) → PartData S V → Type 0
   IsAsFar A budget handled held limit ahead p = (handled ≡ budget) ⊎ ((p.queue ≡ []) ⊎ (IsTrue held × (IsBehindOthers A limit p ⊎ RunsAhead A ahead p)))
 
@@ -41,14 +44,17 @@ module _ {S V : Type 0} where
   received p [] = p
   received p (batch ∷ batches) = received (joined p batch) batches
 
-  -- the outboxes to these shards, each other than the part's own, were published one after the other, and none was empty
+  -- the outboxes to these shards, each other than the part's own, were published one after the
+  -- other, and none was empty
   abbrev pub SentOff : List ℕ → PartData S V → PartData S V → Type 0
   SentOff [] p q = p ≡ q
   SentOff (to ∷ shards) p q = (to ≢ p.shard) × (get_or p.outs to [] ≢ []) × SentOff shards (published_to to p) q
 
-  -- The steps of one turn on words, where p is the part when its items were handled. The next mailbox from each other shard was tried, in order, and if it was
-  -- found full (2), it was emptied and 0 stored; then the next one to each other shard for which something waited in p, and if it was found free (0), the
-  -- outbox went into it and 2 was stored; then one step was made at the done word. There were no others.
+  -- The steps of one turn on words, where p is the part when its items were handled. The next
+  -- mailbox from each other shard was tried, in order, and if it was found full (2), it was emptied
+  -- and 0 stored; then the next one to each other shard for which something waited in p, and if it
+  -- was found free (0), the outbox went into it and 2 was stored; then one step was made at the
+  -- done word. There were no others.
   pub record Tried (f : FloorData S) (before : SeatData S V) (p : PartData S V) (r : Report) (outboxes : List ℕ) (after : SeatData S V) : Type 0 where
     pub full : List ℕ  -- the shards whose mailbox was found full
     pub taken : length full ≡ r.taken
@@ -63,8 +69,10 @@ module _ {S V : Type 0} where
     pub next_fill : after.knows.next_fill ≡ used outboxes before.knows.next_fill
 
 module _ {S V : Type 0} (meaning : S → Algebra V) where
-  -- The part took batches, handled items of its queue one after the other, and published outboxes. With the batches it held its share of a state that some events
-  -- lead to. Handling the items is that many core events: in that state, and in every state of which the part held its share, they are enabled, each in its turn.
+  -- The part took batches, handled items of its queue one after the other, and published outboxes.
+  -- With the batches it held its share of a state that some events lead to. Handling the items is
+  -- that many core events: in that state, and in every state of which the part held its share, they
+  -- are enabled, each in its turn.
   pub record Worked (budget : ℕ) (p : PartData S V) (r : Report) (q : PartData S V) : Type 0 where
     pub batches : List (List (Item V))
     pub taken : length batches ≡ r.taken

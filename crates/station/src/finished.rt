@@ -10,7 +10,8 @@ use shard_part::laws::closed_part_holds;
 use shard_part::{ClosedPart, Plan, Shard};
 use std::marker::Model;
 
-/// A station whose last turn reported the end. It keeps the labels and the counts of its part; the tables of arcs, the queue and the outboxes were freed.
+/// A station whose last turn reported the end. It keeps the labels and the counts of its part; the
+/// tables of arcs, the queue and the outboxes were freed.
 #[derive(Drop)]
 pub struct Finished<'g, A: PathAlgebra> {
     pub(crate) part: ClosedPart<'g, A>,

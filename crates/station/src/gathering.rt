@@ -17,7 +17,8 @@ use shard_part::laws::plan_holds;
 use shard_part::{Plan, Shard, Tally};
 use std::alloc::{AllocError, Global};
 
-/// The answer of a diffusion: for each vertex the best value, or none if no walk has one, and what was counted.
+/// The answer of a diffusion: for each vertex the best value, or none if no walk has one, and what
+/// was counted.
 #[derive(Drop)]
 pub struct Gathered<V: Copy> {
     pub labels: Labels<V>,
@@ -181,7 +182,8 @@ fn collect<A: PathAlgebra>(
     Ok((labels, seats))
 }
 
-/// The answer of a diffusion from the stations of all its shards, each of which has ended. If a shard's station is missing, or memory is refused, floor and stations come back.
+/// The answer of a diffusion from the stations of all its shards, each of which has ended. If a
+/// shard's station is missing, or memory is refused, floor and stations come back.
 pub fn gather<'g, A: PathAlgebra>(
     alloc: Global,
     floor: Floor<A>,

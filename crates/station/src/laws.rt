@@ -1,4 +1,5 @@
-//! Theorems on rounds of turns, and on what was gathered: a caller calls one if its own proof needs what it promises.
+//! Theorems on rounds of turns, and on what was gathered: a caller calls one if its own proof needs
+//! what it promises.
 ghost use Rattle.std.specs.Prelude.{◌≡◌, ℕ, ◌+◌, ◌<◌, Bool, true, Contains};
 ghost use Rattle.atomic_table.specs.Table.{State};
 ghost use Rattle.path_algebra.specs.declared.reach.Reach.{Reach};
@@ -21,15 +22,17 @@ ghost use Rattle.station.specs.Round.{HasNoClaim, TurnAt, IsQuietRound};
 use path_algebra::PathAlgebra;
 use post_floor::laws::still_floors_have_ended;
 
-/// For reachability, whatever the schedule: each counter of the answer is one, and one more for each arc whose tail is reached.
+/// For reachability, whatever the schedule: each counter of the answer is one, and one more for
+/// each arc whose tail is reached.
 pub fn reach_counts_each_arc_once()
     ensures { (t : SetupData Reach) (g : Gathered (Unit {0})) → IsGathered (λ _. reach) t g →
         (marked : ℕ → Bool) → AreMarksOfReached reach t.diffusion.roads t.diffusion.source marked →
         g.tally ≡ each_shows (1 + count_marked t.diffusion.roads marked) }
 {}
 
-/// With one shard, best first, under every algebra: each counter of the answer is one, and one more for each arc in which some walk with a value ends. These arcs
-/// can be marked (`walk_ends_can_be_marked` of `shard_part`).
+/// With one shard, best first, under every algebra: each counter of the answer is one, and one more
+/// for each arc in which some walk with a value ends. These arcs can be marked
+/// (`walk_ends_can_be_marked` of `shard_part`).
 pub fn best_first_counts_each_arc_once<A: PathAlgebra>(_algebra: A)
     ensures { (t : SetupData A) (g : Gathered A.Value) → HasOneBestFirstPart t →
         IsGathered A.meaning t g → (marked : ℕ → Bool) →
@@ -37,11 +40,13 @@ pub fn best_first_counts_each_arc_once<A: PathAlgebra>(_algebra: A)
         marked → g.tally ≡ each_shows (1 + count_marked t.diffusion.roads marked) }
 {}
 
-/// Until the end is reported no round is quiet (`goes_on`): if the rule of the floor holds, no fill and no read has begun, and each station whose part knows of
-/// the end has reported it, as it has when it is opened and after each turn, then in a round of turns of stations that have not, each part's among them,
-/// something is handled, taken, published or held back.
+/// Until the end is reported no round is quiet (`goes_on`): if the rule of the floor holds, no fill
+/// and no read has begun, and each station whose part knows of the end has reported it, as it has
+/// when it is opened and after each turn, then in a round of turns of stations that have not, each
+/// part's among them, something is handled, taken, published or held back.
 ///
-/// For a quiet round leaves the floor still, so the diffusion has ended, and the station of the source's shard reports it.
+/// For a quiet round leaves the floor still, so the diffusion has ended, and the station of the
+/// source's shard reports it.
 pub fn quiet_rounds_are_still<A: PathAlgebra>(algebra: A)
     ensures still { (f : FloorData A) (budget : ℕ)
         (s end : State (Slot A.Value) (View A A.Value)) → 0 < budget → IsPlanned f.setup 0 →

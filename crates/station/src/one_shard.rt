@@ -1,4 +1,5 @@
-//! With one shard a station has all of its diffusion: theorems that a caller calls if its own proof needs what they promise.
+//! With one shard a station has all of its diffusion: theorems that a caller calls if its own proof
+//! needs what they promise.
 ghost use Rattle.std.specs.Prelude.{◌≡◌, ℕ, ◌<◌, false, List, [], length};
 ghost use Rattle.atomic_table.specs.Seated.{TableId};
 ghost use Rattle.scholten_core.specs.declared.event.Event.{Event};
@@ -16,9 +17,10 @@ use path_algebra::PathAlgebra;
 use scholten_core::every_run_is_finite;
 use shard_part::laws::an_item_waits_until_the_end;
 
-/// If the plan has one shard, each turn before the end goes on: it handles as many items as its budget allows, each an enabled event of the
-/// diffusion, or it reports the end. There are fewer such events than `turns_suffice`, so that many turns end it. Best first, there are fewer
-/// than `best_first_turns_suffice` too, a number linear in the arcs of the graph.
+/// If the plan has one shard, each turn before the end goes on: it handles as many items as its
+/// budget allows, each an enabled event of the diffusion, or it reports the end. There are fewer
+/// such events than `turns_suffice`, so that many turns end it. Best first, there are fewer than
+/// `best_first_turns_suffice` too, a number linear in the arcs of the graph.
 pub fn one_shard_goes_on<A: PathAlgebra>(algebra: A)
     ensures opened { (t : SetupData A) (id : TableId) → HasOneShard t → HasAll A.meaning t []
         (station_of id t.plan.shards (opened_part (A.meaning t.diffusion.algebra) t 0)) }

@@ -74,7 +74,8 @@ fn pair<'g, A: PathAlgebra>(
     Ok(stations)
 }
 
-/// A floor with empty mailboxes, and one station for each shard of the plan, in order. Their parts take items in the order of their queues.
+/// A floor with empty mailboxes, and one station for each shard of the plan, in order. Their parts
+/// take items in the order of their queues.
 pub fn open_diffusion<'g, A: PathAlgebra>(
     alloc: Global,
     algebra: A,

@@ -50,8 +50,10 @@ impl<'g, A: PathAlgebra> Station<'g, A> {
         }
     }
 
-    /// Takes what the other shards have sent, handles items, at most `budget`, and publishes what is for the others; last it looks whether the diffusion has ended.
-    /// If the floor holds shards back, messages that are worse than it allows go on waiting. After a turn that reported the end, a turn does nothing.
+    /// Takes what the other shards have sent, handles items, at most `budget`, and publishes what
+    /// is for the others; last it looks whether the diffusion has ended. If the floor holds shards
+    /// back, messages that are worse than it allows go on waiting. After a turn that reported the
+    /// end, a turn does nothing.
     pub fn turn(&mut self, floor: &Floor<A>, budget: u32) -> Report
         requires { BelongsTo floor.now self.old }
         ensures turned { Turned A.meaning floor.now budget self.old result self.new }
@@ -79,7 +81,8 @@ impl<'g, A: PathAlgebra> Station<'g, A> {
         }
     }
 
-    /// What `gather` takes of a station whose last turn reported the end: the tables of arcs, the queue and the outboxes are freed. Any other station comes back as it was.
+    /// What `gather` takes of a station whose last turn reported the end: the tables of arcs, the
+    /// queue and the outboxes are freed. Any other station comes back as it was.
     pub fn finish(self) -> Result<Finished<'g, A>, Station<'g, A>>
         ensures finished { IfOk result (λ f. ReportedEnd self.entry × (f ≡ self.entry)) }
         ensures back { IfErr result (λ s. (ReportedEnd self.entry → ⊥) × (s ≡ self.entry)) }

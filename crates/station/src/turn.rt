@@ -104,7 +104,8 @@ fn ahead_of<A: PathAlgebra>(floor: &Floor<A>, plan: &Plan) -> Option<u32>
     }
 }
 
-/// Handles items, at most `budget`, as far as the floor lets the part run ahead. Says how many, and whether others are held back.
+/// Handles items, at most `budget`, as far as the floor lets the part run ahead. Says how many, and
+/// whether others are held back.
 pub(crate) fn handle_all<A: PathAlgebra>(
     floor: &Floor<A>,
     plan: &Plan,
@@ -142,7 +143,8 @@ fn is_held_back<A: PathAlgebra>(part: &Part<'_, A>, handled: u32, budget: u32) -
     handled < budget && part.queued() > 0
 }
 
-/// Publishes what waits for a shard, if it is another one, something waits, and the next mailbox is free.
+/// Publishes what waits for a shard, if it is another one, something waits, and the next mailbox is
+/// free.
 fn fill_to<A: PathAlgebra>(
     floor: &Floor<A>,
     seat: &mut Seat<A>,

@@ -1,4 +1,5 @@
--- A fault of a text is the first one: that of the least line that breaks a rule, else that of the end.
+-- A fault of a text is the first one: that of the least line that breaks a rule, else that of the
+-- end.
 use Rattle.std.proofs.Common.{◌≡◌, ℕ, ◌+◌, ◌≤◌, List, [], ◌∷◌, ◌++◌, length, take, Bool, true, false, cond, nat_lt, Ok, Err, Result, inl, inr, refl, sym, ap, ◌∙◌, subst, arith}
 use Rattle.std.specs.Bool.{MatchBool}
 use Rattle.text_lines.specs.declared.faults.ReadFault.{ReadFault}

@@ -9,7 +9,8 @@ use Rattle.text_lines.specs.Streams.{Output}
 use Rattle.text_lines.specs.Written.{WrotePrefix, FailedAfterPrefix, WritesText}
 use Rattle.text_lines.proofs.WriteLaws.{wrote_then, left_step, fell_step, fell_first}
 
--- what words give from left to right, where `one` is what each gives, and `all` what they give together
+-- what words give from left to right, where `one` is what each gives, and `all` what they give
+-- together
 module _ (one : Word → Result ℕ ℕ) (all : List Word → Result (List ℕ) ℕ) (none : all [] ≡ Ok [])
     (first : (w : Word) (ws : List Word) → all (w ∷ ws) ≡ (one w >>= λ v. all ws >>= λ vs. Ok (v ∷ vs))) where
   -- one word more at the end

@@ -142,7 +142,8 @@ module _ {S V T R : Type 0} (rules : Rules S V) (view : R → V) (meaning : Mean
   runs_out_unbroken left rest r h = IfErr-weaker r _ _ (λ f p e. let q = p e in record
       { before = q.before; last = q.last; taken = q.taken; unbroken = unbroken_by q.before q.unbroken; one_read = q.one_read; fits = q.fits }) h
 
-  -- What `read_whole` promises, said by the rules, which tell faults of these numbers alone. Its clauses go in as they are.
+  -- What `read_whole` promises, said by the rules, which tell faults of these numbers alone. Its
+  -- clauses go in as they are.
   pub reads_text : {X : Type 0} (old new : Input X) (least greatest : ℕ)
       → ((s : S) (fs : List (List ℕ)) → IsOwn least greatest (rules.line s fs)) → ((s : S) → IsOwn least greatest (rules.end s)) → (r : Result R ReadFault)
       → IfOk r (λ v. IfSome old.left (λ all. TextGives meaning parser all (Ok v))) → IfOk r (λ v. SomeTextGives meaning parser (Ok v))
@@ -172,7 +173,8 @@ module _ {S V T R : Type 0} (rules : Rules S V) (view : R → V) (meaning : Mean
         before_memory = runs_out_unbroken old.left new.left r before_memory;
       }
 
--- what is read stays read where the value is a part of another, and a fault is one whatever the value is
+-- what is read stays read where the value is a part of another, and a fault is one whatever the
+-- value is
 module _ {S V A B X : Type 0} (old new : Input X) (rules : Rules S V) (least greatest : ℕ) (view : A → V) (whole : B → A) where
   pub reads_part : (x : B) → ReadsText old new rules view least greatest (Ok (whole x)) → ReadsText old new rules (λ b. view (whole b)) least greatest (Ok x)
   reads_part x h = record {

@@ -1,4 +1,5 @@
--- What is kept of a field, and of a line, is enough for rules that look at short words and at numbers with limits.
+-- What is kept of a field, and of a line, is enough for rules that look at short words and at
+-- numbers with limits.
 use Rattle.std.proofs.Common.{◌≡◌, ℕ, zero, suc, ◌<◌, min, List, [], ◌∷◌, length, take, map, Bool, false, eqb, nat_lt, Option, Some, None, option_map, refl, sym, ap, ◌∙◌, subst, arith, inl, inr, get_or}
 use Rattle.std.proofs.lemmas.Grind.{common_steps}
 use Rattle.std.proofs.lemmas.Bool.{cases_lt, ne_eqb, lt-ltb}

@@ -10,7 +10,8 @@ use Rattle.text_lines.specs.Words.{held_word}
 abbrev pub ends_in_return : List ℕ → Bool
 ends_in_return line = slice_index line (length line - 1) == 13
 
--- these are the bytes since the last line's end: whether there are any, whether a CR is pending, and the scan of them
+-- these are the bytes since the last line's end: whether there are any, whether a CR is pending,
+-- and the scan of them
 pub record Holds (told_of : List (List ℕ) → Type 0) (any late : Bool) (scan : Scan) (present : List ℕ) : Type 0 where
   pub begun : any ≡ has_bytes present
   pub pending : late ≡ ends_in_return present
@@ -21,7 +22,8 @@ pub record Holds (told_of : List (List ℕ) → Type 0) (any late : Bool) (scan 
 abbrev pub IsPresent : {T : Type 0} → (T → List (List ℕ) → Type 0) → LineCutter T → List ℕ → Type 0
 IsPresent so_far s present = Holds (so_far s.taker) s.begun s.pending (scan_of s.scanner) present
 
--- this is the line that has ended: its first six fields are kept, and the taker was given all of them
+-- this is the line that has ended: its first six fields are kept, and the taker was given all of
+-- them
 pub record IsLine {T : Type 0} (so_far : T → List (List ℕ) → Type 0) (s : LineCutter T) (line : List ℕ) : Type 0 where
   pub shown : (scan_of s.scanner).0 ≡ take 6 (map held_word (fields line))
   pub told : so_far s.taker (fields line)

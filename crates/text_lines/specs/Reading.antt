@@ -87,7 +87,8 @@ SomeTextGives meaning parser r = (all : List ℕ) × TextGives meaning parser al
 abbrev pub HasTaken : {T V : Type 0} → Meaning T V → T → List ℕ → LineReader T → Type 0
 HasTaken {V = V} meaning parser done s = (s.count ≡ length done) × ((cut : Bool) (more : List ℕ) (r : Result V ReadFault) → RestGives cut meaning s more r → meaning.gives cut parser 1 (lines cut (done ++ more)) r)
 
--- the reader has taken what was left of the text at first and is not left now, if these bytes are known
+-- the reader has taken what was left of the text at first and is not left now, if these bytes are
+-- known
 abbrev pub HasRead : {T V : Type 0} → Meaning T V → T → Option (List ℕ) → Option (List ℕ) → LineReader T → Type 0
 HasRead meaning parser None now s = (done : List ℕ) × HasTaken meaning parser done s
 HasRead meaning parser (Some all) None s = ⊥
@@ -107,11 +108,13 @@ SomeTextStops meaning parser TooLong = SomeTextGives meaning parser (Err too_lon
 SomeTextStops meaning parser Memory = ⊤
 SomeTextStops meaning parser (Broken f) = SomeTextGives meaning parser (Err f)
 
--- no line of these bytes has a fault: a text that is cut short after them has no other fault than that it is too long
+-- no line of these bytes has a fault: a text that is cut short after them has no other fault than
+-- that it is too long
 abbrev pub IsUnbroken : {T V : Type 0} → Meaning T V → T → List ℕ → Type 0
 IsUnbroken meaning parser bytes = meaning.gives true parser 1 (lines true bytes) (Err too_long)
 
--- what was read before reading stopped for what is no fault of the text: one failed read, or running out of memory
+-- what was read before reading stopped for what is no fault of the text: one failed read, or
+-- running out of memory
 abbrev pub StopsAfter : {T V : Type 0} → Meaning T V → T → Option (List ℕ) → Option (List ℕ) → ℕ → ℕ → Halt → Type 0
 StopsAfter meaning parser left rest before after Read = (after ≡ before + 1) × FailsAfter (IsUnbroken meaning parser) left rest
 StopsAfter meaning parser left rest before after TooLong = ⊤

@@ -1,5 +1,5 @@
--- What a reader of whole texts promises. It depends on the bytes that are left to read, if they are known, and on how
--- many reads have failed and how many were asked for, each before and after.
+-- What a reader of whole texts promises. It depends on the bytes that are left to read, if they are
+-- known, and on how many reads have failed and how many were asked for, each before and after.
 use Rattle.std.specs.Prelude.{◌≡◌, ◌≢◌, ℕ, ◌+◌, ◌<◌, ◌≤◌, ◌⊎◌, List, ◌++◌, length, true, Option, IfSome, Result, Ok, Err, IfOk, IfErr, OnOk}
 use Rattle.std.specs.Io.KnownBytes.{Consumes, IsAtEnd}
 use Rattle.text_lines.specs.declared.faults.ReadFault.{ReadFault}
@@ -39,7 +39,8 @@ BreaksNone {S = S} rules bytes = (reached : S) × (state_after rules rules.start
 abbrev pub FailsAfter : (List ℕ → Type 0) → Option (List ℕ) → Option (List ℕ) → Type 0
 FailsAfter Unbroken left rest = (taken : List ℕ) × Consumes left rest taken × Unbroken taken
 
--- the bytes that were taken before memory ran out are unbroken, but for those of the last read, and they all fit
+-- the bytes that were taken before memory ran out are unbroken, but for those of the last read, and
+-- they all fit
 pub record RunsOutAfter (Unbroken : List ℕ → Type 0) (left rest : Option (List ℕ)) : Type 0 where
   pub before : List ℕ
   pub last : List ℕ
@@ -52,7 +53,8 @@ pub record RunsOutAfter (Unbroken : List ℕ → Type 0) (left rest : Option (Li
 abbrev pub FailsUnbroken : {S V A : Type 0} → Rules S V → Option (List ℕ) → Option (List ℕ) → Result A ReadFault → Type 0
 FailsUnbroken rules left rest result = IfErr result (λ f. f.number ≡ 1 → FailsAfter (BreaksNone rules) left rest)
 
--- fault 3 comes after such bytes and within the first 2 ^ 32, so it is never reported because a text is too long
+-- fault 3 comes after such bytes and within the first 2 ^ 32, so it is never reported because a
+-- text is too long
 abbrev pub RunsOutUnbroken : {S V A : Type 0} → Rules S V → Option (List ℕ) → Option (List ℕ) → Result A ReadFault → Type 0
 RunsOutUnbroken rules left rest result = IfErr result (λ f. f.number ≡ 3 → RunsOutAfter (BreaksNone rules) left rest)
 
@@ -68,7 +70,8 @@ HasLineIfInText result = IfErr result (λ f. f.number ≤ 3 → f.line ≡ 0)
 abbrev pub ReadsSomeFault : {S V A : Type 0} → Rules S V → Result A ReadFault → Type 0
 ReadsSomeFault rules result = IfErr result (λ f. 2 ≤ f.number → f.number ≢ 3 → (all : List ℕ) × (text_read rules all ≡ Err f))
 
--- a number that reading stops with: 1 a failed read, 2 too long, 3 memory, or one of the kind's own, which are these
+-- a number that reading stops with: 1 a failed read, 2 too long, 3 memory, or one of the kind's
+-- own, which are these
 abbrev pub IsNumberFrom : ℕ → ℕ → ℕ → Type 0
 IsNumberFrom least greatest number = ((1 ≤ number) × (number ≤ 3)) ⊎ ((least ≤ number) × (number ≤ greatest))
 
@@ -76,7 +79,8 @@ IsNumberFrom least greatest number = ((1 ≤ number) × (number ≤ 3)) ⊎ ((le
 abbrev pub IsReadNumber : {A : Type 0} → ℕ → ℕ → Result A ReadFault → Type 0
 IsReadNumber least greatest result = IfErr result (λ f. IsNumberFrom least greatest f.number)
 
--- what a reader of whole texts promises by these rules, between two moments of its input: `view` is the value of a result
+-- what a reader of whole texts promises by these rules, between two moments of its input: `view` is
+-- the value of a result
 pub record ReadsText {S V A X : Type 0} (old new : Input X) (rules : Rules S V) (view : A → V) (least greatest : ℕ) (result : Result A ReadFault) : Type 0 where
   pub value : ReadsValue rules view old.left result
   pub some_text : ReadsSome rules view result

@@ -13,8 +13,8 @@ abbrev pub ◌>>=◌ : {A B E : Type 0} → Result A E → (A → Result B E) �
 abbrev pub unless : Bool → ℕ → Result (Unit {0}) ℕ
 unless b fault = if b then Ok tt else Err fault
 
--- A kind of text: the state before the first line, the state after a line with these fields, and the value at the end.
--- A line or an end that breaks a rule gives the number of the fault.
+-- A kind of text: the state before the first line, the state after a line with these fields, and
+-- the value at the end. A line or an end that breaks a rule gives the number of the fault.
 pub record Rules (State Value : Type 0) : Type 0 where
   pub start : State
   pub line : State → List (List ℕ) → Result State ℕ
@@ -43,7 +43,8 @@ value_of_lines cut rules at s (l ∷ ls) = at_line at (rules.line s (fields l)) 
 abbrev pub text_value : {S V : Type 0} → Rules S V → List ℕ → Result V ReadFault
 text_value rules bytes = value_of_lines false rules 1 rules.start (lines false bytes)
 
--- the same for a text of any length: beyond 2 ^ 32 bytes it is the fault of a line that ends within them, else that the text is too long
+-- the same for a text of any length: beyond 2 ^ 32 bytes it is the fault of a line that ends within
+-- them, else that the text is too long
 abbrev pub text_read : {S V : Type 0} → Rules S V → List ℕ → Result V ReadFault
 text_read rules bytes = if nat_lt 4294967296 (length bytes) then value_of_lines true rules 1 rules.start (lines true (take 4294967296 bytes)) else text_value rules bytes
 
@@ -63,7 +64,8 @@ pub record FaultAtLine {S V : Type 0} (rules : Rules S V) (at : ℕ) (s : S) (ls
   pub broken : rules.line reached (fields here) ≡ Err f.number
   pub place : f.line ≡ at + length before
 
--- the end breaks a rule as the fault says; if the text is cut short, the fault is that it is too long
+-- the end breaks a rule as the fault says; if the text is cut short, the fault is that it is too
+-- long
 abbrev pub EndsIn : {S V : Type 0} → Bool → Rules S V → ℕ → S → ReadFault → Type 0
 EndsIn true rules at s f = f ≡ too_long
 EndsIn false rules at s f = (rules.end s ≡ Err f.number) × (f.line ≡ at)
@@ -74,7 +76,8 @@ pub record FaultAtEnd {S V : Type 0} (cut : Bool) (rules : Rules S V) (at : ℕ)
   pub taken : state_after rules s ls ≡ Ok reached
   pub broken : EndsIn cut rules (at + length ls) reached f
 
--- the first fault of the lines from a line number on: that of the first line that breaks a rule, else that of the end
+-- the first fault of the lines from a line number on: that of the first line that breaks a rule,
+-- else that of the end
 abbrev pub FaultIn : {S V : Type 0} → Bool → Rules S V → ℕ → S → List (List ℕ) → ReadFault → Type 0
 FaultIn cut rules at s ls f = FaultAtLine rules at s ls f ⊎ FaultAtEnd cut rules at s ls f
 

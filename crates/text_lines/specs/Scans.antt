@@ -28,7 +28,8 @@ word_with w bytes = record { text = w.text ++ take (9 - length w.text) bytes; nu
 abbrev pub is_plain : ℕ → Bool
 is_plain b = not ((is_gap b || (b == 10)) || (b == 13))
 
--- the words of those of a line's first six fields that have ended, and that of the present field, which may go on
+-- the words of those of a line's first six fields that have ended, and that of the present field,
+-- which may go on
 abbrev pub Scan : Type 0
 Scan = List Word × Word
 
@@ -44,7 +45,8 @@ past (words, now) = if (length now.text == 0) || not (nat_lt (length words) 6) t
 unfoldable pub scan_on : Scan → ℕ → Scan
 scan_on s b = if is_gap b then (past s, no_word) else (s.0, word_on s.1 b)
 
--- the scan shows the line: the fields among the parts before the last, which the taker was given, and the last part
+-- the scan shows the line: the fields among the parts before the last, which the taker was given,
+-- and the last part
 pub record Shows (told_of : List (List ℕ) → Type 0) (s : Scan) (line : List ℕ) : Type 0 where
   pub done : List (List ℕ)
   pub run : List ℕ

@@ -1,4 +1,5 @@
--- The one written spelling of a text: lines of words, with one space between them and an LF at each line's end.
+-- The one written spelling of a text: lines of words, with one space between them and an LF at each
+-- line's end.
 use Rattle.std.specs.Prelude.{ℕ, ◌<◌, List, [], ◌∷◌, ◌++◌, length, decimal, flat_map, map, All}
 use Rattle.std.specs.List.{join_with_byte, AllByRecursion}
 

@@ -23,7 +23,8 @@ no_word = record { text = []; number = Some 0 }
 abbrev pub word_at : ℕ → List Word → Word
 word_at i ws = get_or ws i no_word
 
--- a number up to a limit: the first fault if there is no number, the second if it is above the limit
+-- a number up to a limit: the first fault if there is no number, the second if it is above the
+-- limit
 abbrev pub number_up_to : ℕ → ℕ → ℕ → Option ℕ → Result ℕ ℕ
 number_up_to none large limit None = Err none
 number_up_to none large limit (Some n) = if nat_lt limit n then Err large else Ok n

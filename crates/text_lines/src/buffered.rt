@@ -8,7 +8,8 @@ use std::alloc::{AllocError, Global};
 /// How many bytes are buffered before they are passed on.
 pub const BUFFERED: usize = 65_536;
 
-/// A writer with a buffer before it. Flush it before it is dropped: what is still buffered then is lost.
+/// A writer with a buffer before it. Flush it before it is dropped: what is still buffered then is
+/// lost.
 #[derive(Drop)]
 pub struct Buffered<W> {
     inner: W,

@@ -17,8 +17,8 @@ pub struct WriteFault;
 
 /// What texts are read from.
 pub trait RoadRead {
-    // The state, the bytes that later reads will give, if they are known, how many reads have failed, and how many
-    // were asked for.
+    // The state, the bytes that later reads will give, if they are known, how many reads have
+    // failed, and how many were asked for.
     ghost seen: { Self → Input Self };
 
     /// Reads some bytes into the start of the buffer and returns how many: none only at the end.
@@ -35,8 +35,8 @@ pub trait RoadRead {
 
 /// What texts are written to.
 pub trait RoadWrite: Drop {
-    // The state, the bytes that were taken so far, if they are known, the last of them, which are still buffered
-    // here, and how many writes and flushes have failed.
+    // The state, the bytes that were taken so far, if they are known, the last of them, which are
+    // still buffered here, and how many writes and flushes have failed.
     ghost seen: { Self → Output Self };
 
     /// Takes a prefix of the bytes and returns its length: at least 1 if there are any bytes.

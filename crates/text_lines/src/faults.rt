@@ -16,14 +16,15 @@ pub const MEMORY: u8 = 3;
 #[derive(Clone, Copy, Debug, PartialEq, Eq, Error)]
 #[error("fault {number} in line {line}")]
 pub struct ReadFault {
-    /// 1 for a failed read, 2 for a text that is too long, 3 for out of memory, from 10 on for a rule of the kind of
-    /// text.
+    /// 1 for a failed read, 2 for a text that is too long, 3 for out of memory, from 10 on for a
+    /// rule of the kind of text.
     pub number: u8,
     /// The line, counted from 1, or 0.
     pub line: u64,
 }
 
-/// A rule that a line or the end of a text breaks, by the number that reports it. Each kind of text has its own rules.
+/// A rule that a line or the end of a text breaks, by the number that reports it. Each kind of text
+/// has its own rules.
 #[derive(Clone, Copy, Debug, PartialEq, Eq)]
 pub struct Rule {
     /// At least 10: the lower numbers are shared by all texts.

@@ -5,7 +5,8 @@ ghost use Rattle.text_lines.specs.Words.{held_word};
 
 use crate::slots::Slot;
 
-/// Takes the fields of the present line, one by one. If memory runs out, it reports that at the end of the line.
+/// Takes the fields of the present line, one by one. If memory runs out, it reports that at the end
+/// of the line.
 pub trait FieldTaker: Drop {
     // Whether these may be the fields of the present line so far.
     ghost so_far: { Self → List (List ℕ) → Type 0 };

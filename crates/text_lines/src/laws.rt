@@ -1,4 +1,5 @@
-//! Theorems about the definitions: what is written is read back, and the fault of a text is its first one.
+//! Theorems about the definitions: what is written is read back, and the fault of a text is its
+//! first one.
 ghost use Rattle.std.specs.Prelude.{◌≡◌, ℕ, ◌<◌, ◌^◌, List, Some, map, decimal, false, Err};
 ghost use Rattle.std.specs.List.{AllByRecursion, join_with_byte};
 ghost use Rattle.text_lines.specs.Lines.{lines, fields, number};
@@ -22,8 +23,8 @@ pub fn numbers_read_again()
     ensures word { (n : ℕ) → n < 2 ^ 64 → IsWord (decimal n) }
 {}
 
-/// The fault of a text is its first one, and the first one is found: that of the first line that breaks a rule, else
-/// that of the end. `State` and `Value` are those of the rules.
+/// The fault of a text is its first one, and the first one is found: that of the first line that
+/// breaks a rule, else that of the end. `State` and `Value` are those of the rules.
 #[tactic(auto, using(crate::proofs::FirstFault::first_fault, crate::proofs::FirstFault::found_fault))]
 pub fn finds_first_fault<State, Value>()
     ensures first { (rules : Rules State Value) (text : List ℕ) (f : ReadFault) → text_read rules

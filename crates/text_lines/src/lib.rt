@@ -1,5 +1,6 @@
-//! Texts of lines: what they are read from and written to, their lines, fields and numbers, one reader for every kind
-//! of text, and writers of lines. The kinds of texts are defined in the crates above.
+//! Texts of lines: what they are read from and written to, their lines, fields and numbers, one
+//! reader for every kind of text, and writers of lines. The kinds of texts are defined in the
+//! crates above.
 #![tactic(auto)]
 
 mod buffered;

@@ -81,8 +81,8 @@ impl<T: FieldTaker> LineCutter<T> {
         self.scanner.go_on(byte);
     }
 
-    /// Takes the first bytes that continue the present field, and returns how many they are. If a CR is pending it takes
-    /// none: `present_byte` does then.
+    /// Takes the first bytes that continue the present field, and returns how many they are. If a
+    /// CR is pending it takes none: `present_byte` does then.
     #[inline(always)]
     fn prefix_run(&mut self, bytes: &[u8]) -> usize
         ensures bound { result ≤ length bytes.now }
@@ -122,7 +122,8 @@ impl<T: FieldTaker> LineCutter<T> {
         self.scanner.close();
     }
 
-    /// Takes the bytes up to the first line's end, or all if none ends. Returns how many, and whether a line has ended.
+    /// Takes the bytes up to the first line's end, or all if none ends. Returns how many, and
+    /// whether a line has ended.
     pub fn to_line_end(&mut self, bytes: &[u8]) -> (usize, bool)
         ensures bound { result.0 ≤ length bytes.now }
         ensures some { 0 < length bytes.now → 0 < result.0 }

@@ -13,16 +13,18 @@ ghost use Rattle.text_lines.specs.Words.{held_word};
 use crate::faults::LineFault;
 use crate::slots::Slot;
 
-/// Takes the lines of one text, in order. Its clauses are about what the lines to come give, so a kind of text is one
-/// such type and a rule for each line.
+/// Takes the lines of one text, in order. Its clauses are about what the lines to come give, so a
+/// kind of text is one such type and a rule for each line.
 pub trait LineParser: Drop {
     /// What a whole text gives.
     type Value;
 
-    // What the lines from a line number on give, and whether these are the fields of the present line so far.
+    // What the lines from a line number on give, and whether these are the fields of the present
+    // line so far.
     ghost meaning: { Meaning Self Self.Value };
 
-    /// Takes the next field of the present line. Only kinds whose lines have any number of fields need it.
+    /// Takes the next field of the present line. Only kinds whose lines have any number of fields
+    /// need it.
     fn field(&mut self, slot: &Slot) -> Result<(), LineFault>
         ensures same { OnOk result ((cut : Bool) (at : ℕ) (ls : List (List ℕ))
             (r : Result Self.Value ReadFault) → meaning.gives cut self.new at ls r → meaning.gives
@@ -39,8 +41,8 @@ pub trait LineParser: Drop {
         ensures broken { (rule : Rule) → result ≡ Err (LineFault.Broken rule) → (cut : Bool) (at : ℕ) (l : List ℕ) (rest : List (List ℕ)) →
             ShowsLine slots.now l → meaning.so_far self.old (fields l) → meaning.gives cut self.old at (l ∷ rest) (Err (fault_at at rule.number)) };
 
-    /// Takes a whole line of a letter and three numbers, each below 2 ^ 64, if it can do so fast. Else it changes
-    /// nothing, and the line is taken field by field.
+    /// Takes a whole line of a letter and three numbers, each below 2 ^ 64, if it can do so fast.
+    /// Else it changes nothing, and the line is taken field by field.
     fn short_line(&mut self, letter: u8, numbers: (u64, u64, u64)) -> bool
         ensures left { result ≡ false → self.new ≡ self.old }
         ensures taken { result ≡ true → (cut : Bool) (at : ℕ) (l : List ℕ) (rest : List (List ℕ)) (r : Result Self.Value ReadFault) →

@@ -5,7 +5,8 @@ use crate::ends::{ReadFailed, RoadRead, RoadWrite, WriteFault};
 use ghost_count::Count;
 use std::io::{Read, Write};
 
-/// A reader or writer of std. Each of its errors is a failure, and so is a write of some bytes that takes none.
+/// A reader or writer of std. Each of its errors is a failure, and so is a write of some bytes that
+/// takes none.
 #[derive(Drop)]
 pub struct Plain<T> {
     inner: T,

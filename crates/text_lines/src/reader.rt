@@ -89,8 +89,8 @@ impl<T: LineParser> LineReader<T> {
         Ok(())
     }
 
-    /// Takes the next line if it is a letter and three numbers and the parser takes it whole. Returns how many bytes
-    /// were taken.
+    /// Takes the next line if it is a letter and three numbers and the parser takes it whole.
+    /// Returns how many bytes were taken.
     #[inline(always)]
     fn short_line(&mut self, bytes: &[u8]) -> usize
         ensures bound { result ≤ length bytes.now }
@@ -143,7 +143,8 @@ impl<T: LineParser> LineReader<T> {
         at
     }
 
-    /// Takes the bytes up to the first line's end, or all if none ends, as far as they fit. Returns how many.
+    /// Takes the bytes up to the first line's end, or all if none ends, as far as they fit. Returns
+    /// how many.
     fn next_line(&mut self, bytes: &[u8]) -> Result<usize, Halt>
         requires given { self.old.cutter.taker.refused ≡ false }
         requires some { 0 < length bytes.now }

@@ -48,7 +48,8 @@ fn digit_on(number: u64, digit: u8) -> u64
     number * 10 + u64::from(digit - b'0')
 }
 
-/// How many digits come first, as long as the number with them is small, and that number: one register holds it.
+/// How many digits come first, as long as the number with them is small, and that number: one
+/// register holds it.
 #[inline(always)]
 fn digits(bytes: &[u8], number: u64) -> (usize, u64)
     ensures bound { result.0 ≤ length bytes.now }
@@ -81,7 +82,8 @@ fn leading_digits(bytes: &[u8], number: Option<u128>) -> (usize, Option<u128>)
     }
 }
 
-/// How many of the first bytes continue a field, and its number with them. Digits are taken first, then other bytes.
+/// How many of the first bytes continue a field, and its number with them. Digits are taken first,
+/// then other bytes.
 #[inline(always)]
 pub fn run(bytes: &[u8], number: Option<u128>) -> (usize, Option<u128>)
     ensures bound { result.0 ≤ length bytes.now }

@@ -17,8 +17,8 @@ pub fn is_gap(byte: u8) -> bool
 /// How many slots there are: one for each field that is kept, and one for the present field.
 const SLOTS: usize = 7;
 
-/// The first six fields of the present line that have ended, and the present field, which may go on. Each has a slot,
-/// so that none is moved.
+/// The first six fields of the present line that have ended, and the present field, which may go
+/// on. Each has a slot, so that none is moved.
 #[derive(Drop)]
 pub struct Scanner {
     /// The fields that have ended, then the present one, then free slots.

@@ -18,7 +18,8 @@ pub struct ShortLine {
 /// How many digits a number of 64 bits always has room for.
 const MOST_DIGITS: usize = 19;
 
-/// How many digits come first, and their number, read eight bytes at a time. None if there are too many.
+/// How many digits come first, and their number, read eight bytes at a time. None if there are too
+/// many.
 #[inline(always)]
 fn leading_number(bytes: &[u8]) -> (usize, u64)
     ensures bound { result.0 ≤ length bytes.now }

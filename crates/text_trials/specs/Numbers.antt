@@ -1,4 +1,5 @@
--- A small kind of text, for the tests: each line is `n NUMBER`, and the value is the list of the numbers.
+-- A small kind of text, for the tests: each line is `n NUMBER`, and the value is the list of the
+-- numbers.
 use Rattle.std.specs.Prelude.{ℕ, ◌==◌, List, [], ◌∷◌, ◌++◌, length, map, if◌then◌else◌, Option, Some, None, nat_lt, Result, Ok, Err, codes, bytes_eq}
 use Rattle.text_lines.specs.Rules.{◌>>=◌, unless, Rules}
 use Rattle.text_lines.specs.Words.{Word, word_of, word_at}

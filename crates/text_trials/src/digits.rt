@@ -53,7 +53,8 @@ fn behind_comment(alloc: Global, comment: usize, weight: &str) -> Result<Vec<u8>
     Ok(text)
 }
 
-/// The graph file that is written after a text was read in pieces of this many bytes; empty if it has a fault.
+/// The graph file that is written after a text was read in pieces of this many bytes; empty if it
+/// has a fault.
 fn again(alloc: Global, text: &[u8], piece: usize) -> Vec<u8>
     requires { 0 < piece }
 {

@@ -1,4 +1,5 @@
-//! A reader that gives pieces and then may fail, and a writer that takes a byte at a time and then fails.
+//! A reader that gives pieces and then may fail, and a writer that takes a byte at a time and then
+//! fails.
 ghost use Rattle.std.specs.Prelude.{◌≡◌, ◌<◌, ◌≤◌, Some, refl, []};
 
 use ghost_count::Count;

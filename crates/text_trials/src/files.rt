@@ -41,7 +41,8 @@ fn write_questions(to: &mut Plain<Vec<u8>>, questions: &Questions) {
     };
 }
 
-/// What is written after a question file over five vertices was read, with 0 and 0, or the fault's number and line.
+/// What is written after a question file over five vertices was read, with 0 and 0, or the fault's
+/// number and line.
 fn questions(alloc: Global, bytes: &[u8]) -> (Vec<u8>, u8, u64) {
     let mut to = Plain::new(Vec::new(alloc));
     match read_questions(alloc, &mut Pieces::new(bytes, 3, false), 5) {

@@ -1,4 +1,5 @@
-//! A small kind of text, read in pieces and with failures, and the writers over an output that fills up.
+//! A small kind of text, read in pieces and with failures, and the writers over an output that
+//! fills up.
 ghost use Rattle.std.specs.Prelude.{◌≡◌, ◌<◌, ◌≤◌, ◌+◌, ◌^◌, ℕ, List, Some, Ok, length, map, refl, IfOk, IfErr, IfSome, []};
 ghost use Rattle.text_trials.specs.Numbers.{below_top, numbers_line, numbers_rules};
 ghost use Rattle.text_lines.specs.Reads.{ReadsValue, ReadsFault, TellsFailure, TellsNoOther, IsReadNumber};
@@ -121,7 +122,8 @@ fn a_reader_that_fails(rt: HostRuntime) {
     }
 }
 
-/// Asserts what texts give, read in pieces of this many bytes: the sum of the numbers, or the fault's number and line.
+/// Asserts what texts give, read in pieces of this many bytes: the sum of the numbers, or the
+/// fault's number and line.
 fn assert_outcomes(
     rt: &(impl Abort + AllocGlobal),
     piece: usize,

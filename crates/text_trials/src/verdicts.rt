@@ -1,4 +1,5 @@
-//! Verdicts on answers under the algebra that is asked for; `system_tests/worked` has those on answers with one place changed.
+//! Verdicts on answers under the algebra that is asked for; `system_tests/worked` has those on
+//! answers with one place changed.
 
 ghost use Rattle.road_files.specs.Asked.{AskWithin};
 

@@ -1,4 +1,5 @@
--- The next station that has not ended, of two looks: from a place on, and then from the first up to it.
+-- The next station that has not ended, of two looks: from a place on, and then from the first up to
+-- it.
 use Rattle.std.proofs.Common.{ℕ, ◌<◌, ◌≤◌, Option, Some, None, IfSome, List, length, inl, inr, arith}
 use Rattle.std.specs.Prelude.{IfNone}
 use Rattle.std.specs.List.{All, AllWithin, HoldsAt}

@@ -17,7 +17,8 @@ module _ {X Z : Type 0} (i : ℕ) (x : X) (old new : List (Vec X Z)) (low : i < 
       let at : get_or (set old i p.list) w d ≡ get_or old w d = grind (arith, common_steps) in
       rw p.set_there at
 
-  -- Each list followed by what is still to come of it stays the same: the first of what was still to come went to the back of its list.
+  -- Each list followed by what is still to come of it stays the same: the first of what was still
+  -- to come went to the back of its list.
   pub push_keeps : (w : ℕ) (d : Vec X Z) (rest : List X) → (get_or new w d).items ++ rest ≡ (get_or old w d).items ++ (if nat_eq i w then x ∷ rest else rest)
   push_keeps w d rest = elim (cases_eq w i) as (λ _. (get_or new w d).items ++ rest ≡ (get_or old w d).items ++ (if nat_eq i w then x ∷ rest else rest)) [
     | inl e ↦

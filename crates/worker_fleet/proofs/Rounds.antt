@@ -9,7 +9,8 @@ use Rattle.worker_fleet.specs.Moves.{MovesEach}
 use Rattle.worker_fleet.specs.Turns.{StationHasEnded, StationIsOpen, IsNextOpen, TookTurns}
 use Rattle.worker_fleet.proofs.Moved.{zeros, zeros-at, more_at, more-here, more-there, MovesEach-none, MovesEach-read, MovesEach-length, sum-zeros, sum-more}
 
--- in this round the stations before the place `at` have had their turn, as far as they had not ended
+-- in this round the stations before the place `at` have had their turn, as far as they had not
+-- ended
 pub record InRound {A V : Type 0} (round at : ℕ) (counts : List ℕ) (stations : List (ℕ × StationData A V)) : Type 0 where
   pub most : (i : ℕ) → get_or counts i 0 ≤ round + 1
   pub later : (i : ℕ) → at ≤ i → get_or counts i 0 ≤ round

@@ -7,12 +7,14 @@ use Rattle.worker_fleet.specs.declared.dealing.Dealing.TheVariants.{Shards, Ques
 abbrev pub following : ℕ → ℕ → ℕ
 following n at = if nat_lt (at + 1) n then at + 1 else 0
 
--- what worker w of n is dealt of the things of a group, each with the number of the group; the first goes to the worker `at`
+-- what worker w of n is dealt of the things of a group, each with the number of the group; the
+-- first goes to the worker `at`
 unfoldable pub dealt : {X : Type 0} → (n w at group : ℕ) → List X → List (ℕ × X)
 dealt n w at group [] = []
 dealt n w at group (x ∷ xs) = if nat_eq at w then (group, x) ∷ dealt n w (following n at) group xs else dealt n w (following n at) group xs
 
--- the worker of n to whom the first thing of group q goes: by shards worker 0, whatever the group; by questions worker q modulo n
+-- the worker of n to whom the first thing of group q goes: by shards worker 0, whatever the group;
+-- by questions worker q modulo n
 abbrev pub begins_at : Dealing → (n q : ℕ) → ℕ
 begins_at Shards n q = 0
 begins_at Questions n q = q % n

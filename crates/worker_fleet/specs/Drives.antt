@@ -20,8 +20,10 @@ pub record WasCalledOff (answers : ℕ → ℕ → Bool → Type 0) (worker limi
   pub asked : LetsTurn answers worker turns
   pub closed : answers worker (turns + 1) false
 
--- Each station was moved by some number of its own turns, in place and in rotation, and r says how many these were together and why they stopped. `answers` says
--- what a gate may answer to a worker before a turn: it answered true to this worker before each turn that was made, and false before the next if it stopped there.
+-- Each station was moved by some number of its own turns, in place and in rotation, and r says how
+-- many these were together and why they stopped. `answers` says what a gate may answer to a worker
+-- before a turn: it answered true to this worker before each turn that was made, and false before
+-- the next if it stopped there.
 pub record Drives {A V : Type 0} (meaning : A → Algebra V) (floors : List (FloorData A)) (budget limit : ℕ) (answers : ℕ → ℕ → Bool → Type 0) (worker : ℕ) (before : List (ℕ × StationData A V)) (r : Driven A V) : Type 0 where
   pub counts : List ℕ
   pub moved : MovesEach (NextOn meaning floors budget) counts before r.stations.items

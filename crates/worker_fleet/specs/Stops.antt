@@ -28,15 +28,17 @@ pub record IsFirstStop {A V : Type 0} (all : List (Driven A V)) (fault : GroupFa
   pub stopped : HoldsAt (StopsBy fault) all worker
   pub earlier : AllWithin (λ r. r.outcome ≡ outcomes.Ended) all 0 worker
 
--- each worker drove the stations that it was dealt of the diffusions, by this rule, and the least numbered that stopped before the end did so by this fault
+-- each worker drove the stations that it was dealt of the diffusions, by this rule, and the least
+-- numbered that stopped before the end did so by this fault
 pub record IsStop {A V Z : Type 0} (meaning : A → Algebra V) (floors : List (FloorData A)) (rule : Dealing) (budget limit workers : ℕ) (answers : ℕ → ℕ → Bool → Type 0) (diffusions : List (Vec (StationData A V) Z)) (fault : GroupFault) : Type 0 where
   pub all : List (Driven A V)
   pub count : length all ≡ workers
   pub drove : (w : ℕ) (d : Driven A V) → w < workers → Drives meaning floors budget limit answers w (share_of rule workers w 0 diffusions) (slice_index_or all w d)
   pub first : IsFirstStop all fault
 
--- Some diffusions of these setups, at most `width`, were opened together, each worker drove the stations that it was dealt of them, by this rule, and the least
--- numbered that stopped before the end did so by this fault.
+-- Some diffusions of these setups, at most `width`, were opened together, each worker drove the
+-- stations that it was dealt of them, by this rule, and the least numbered that stopped before the
+-- end did so by this fault.
 pub record StopsGroup {A V : Type 0} (meaning : A → Algebra V) (IsOne : SetupData A → Type 0) (rule : Dealing) (workers width budget limit : ℕ) (answers : ℕ → ℕ → Bool → Type 0) (fault : GroupFault) : Type 0 where
   pub count : ℕ
   pub few : count ≤ width
@@ -65,7 +67,8 @@ pub record Closes (answers : ℕ → ℕ → Bool → Type 0) (workers limit : �
   pub asked : LetsTurn answers worker turns
   pub closed : answers worker (turns + 1) false
 
--- what such a fault says of the workers and their gate; out of memory, or of threads, says nothing of them
+-- what such a fault says of the workers and their gate; out of memory, or of threads, says nothing
+-- of them
 abbrev pub Says : (ℕ → ℕ → Bool → Type 0) → (workers limit : ℕ) → GroupFault → Type 0
 Says answers workers limit Memory = Unit {0}
 Says answers workers limit Stalled = Stalls answers workers limit

@@ -29,14 +29,16 @@ StationHasEnded p = p.1.ended ≡ true
 abbrev pub StationIsOpen : {A V : Type 0} → ℕ × StationData A V → Type 0
 StationIsOpen p = p.1.ended ≡ false
 
--- the station at place k is the next that has not ended: from the place `at` on, and if there is none, from the first
+-- the station at place k is the next that has not ended: from the place `at` on, and if there is
+-- none, from the first
 pub record IsNextOpen {A V : Type 0} (stations : List (ℕ × StationData A V)) (at k : ℕ) : Type 0 where
   pub inside : k < length stations
   pub here : HoldsAt StationIsOpen stations k
   pub nearest : ((at ≤ k) × AllWithin StationHasEnded stations at k) ⊎ ((k < at) × AllWithin StationHasEnded stations at (length stations) × AllWithin StationHasEnded stations 0 k)
 
--- Stations took these numbers of turns, in rotation in the order of the list: none has made two turns more than one that has not ended, and none has made
--- more than an earlier one that has not ended.
+-- Stations took these numbers of turns, in rotation in the order of the list: none has made two
+-- turns more than one that has not ended, and none has made more than an earlier one that has not
+-- ended.
 pub record TookTurns {A V : Type 0} (counts : List ℕ) (stations : List (ℕ × StationData A V)) : Type 0 where
   pub fair : (i j : ℕ) → j < length stations → HoldsAt StationIsOpen stations j → slice_index counts i ≤ slice_index counts j + 1
   pub in_order : (i j : ℕ) → i < j → i < length stations → HoldsAt StationIsOpen stations i → slice_index counts j ≤ slice_index counts i

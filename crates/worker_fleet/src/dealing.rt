@@ -5,13 +5,15 @@ ghost use Rattle.worker_fleet.specs.Dealt.{begins_at, following, dealt, share_of
 
 use std::alloc::{AllocError, Global};
 
-/// To which workers the stations of a group of diffusions are dealt. Those of one diffusion go to the workers in turn.
+/// To which workers the stations of a group of diffusions are dealt. Those of one diffusion go to
+/// the workers in turn.
 #[derive(Clone, Copy, PartialEq, Eq, Debug)]
 pub enum Dealing {
-    /// The first station of each diffusion goes to worker 0, so that a worker has the same shards of all.
+    /// The first station of each diffusion goes to worker 0, so that a worker has the same shards
+    /// of all.
     Shards,
-    /// The first station of diffusion q goes to worker q modulo their number, so that with one shard a worker has whole
-    /// diffusions.
+    /// The first station of diffusion q goes to worker q modulo their number, so that with one
+    /// shard a worker has whole diffusions.
     Questions,
 }
 
@@ -60,7 +62,8 @@ fn next_of(at: usize, count: usize) -> usize
     if at + 1 < count { at + 1 } else { 0 }
 }
 
-/// Deals the things of a group to the shares in turn, from this one on, each with the number of its group.
+/// Deals the things of a group to the shares in turn, from this one on, each with the number of its
+/// group.
 fn deal<T: Drop>(
     shares: &mut Vec<Vec<(usize, T)>>,
     first: usize,

@@ -83,7 +83,8 @@ fn turn_one<A: PathAlgebra>(
     is_busy(station.turn(&floors[*place], budget))
 }
 
-/// Turns stations as `drive` does, and says why it stopped and how many turns that were; none if a second gate, which is asked before each turn too, called the worker off.
+/// Turns stations as `drive` does, and says why it stopped and how many turns that were; none if a
+/// second gate, which is asked before each turn too, called the worker off.
 fn turn_until<'g, A: PathAlgebra, G: Gate, C: Gate>(
     floors: &[Floor<A>],
     stations: &mut Vec<(usize, Station<'g, A>)>,
@@ -152,8 +153,8 @@ pub(crate) fn drive_unless<'g, A: PathAlgebra, G: Gate, C: Gate>(
 
 /// Turns stations in rotation, in the order of the list, and passes over those that have ended.
 ///
-/// It stops when all have ended, before a turn above the limit, or if the gate answers `false`. After a whole
-/// round in which no station did anything it lets other threads run.
+/// It stops when all have ended, before a turn above the limit, or if the gate answers `false`.
+/// After a whole round in which no station did anything it lets other threads run.
 pub fn drive<'g, A: PathAlgebra, G: Gate>(
     floors: &[Floor<A>],
     stations: Vec<(usize, Station<'g, A>)>,

@@ -16,7 +16,8 @@ pub trait Assignment<J, T> {
     /// That its workers were called off.
     ghost called_off: { Self → Type 0 };
 
-    /// Tells the workers that run that nothing is made of what they return, so that they need not go on.
+    /// Tells the workers that run that nothing is made of what they return, so that they need not
+    /// go on.
     fn call_off(&self)
         ensures { called_off self.now };
 }
@@ -70,7 +71,8 @@ fn start_one<
     }
 }
 
-/// Starts a worker for each job, and says whether all were started. It stops at the first that is refused.
+/// Starts a worker for each job, and says whether all were started. It stops at the first that is
+/// refused.
 fn start_all<
     's,
     E,
@@ -119,7 +121,8 @@ fn join_and_drop<'s, J: Drop, T: Drop, K: Assignment<J, T>, R: Threads>(
     }
 }
 
-/// Joins all workers. If one was not started, or memory is refused, they are called off, and what they return is dropped.
+/// Joins all workers. If one was not started, or memory is refused, they are called off, and what
+/// they return is dropped.
 fn join_all<'s, J: Drop, T: Drop, K: Assignment<J, T>, R: Threads>(
     rt: &R,
     assignment: &K,
@@ -144,10 +147,12 @@ fn join_all<'s, J: Drop, T: Drop, K: Assignment<J, T>, R: Threads>(
     Err(AllocError)
 }
 
-/// Does each job on a thread of its own, and waits for all of them; what they return comes in the order of the jobs.
+/// Does each job on a thread of its own, and waits for all of them; what they return comes in the
+/// order of the jobs.
 ///
-/// The work is given the number of its job. The error is out of memory: if a thread could not be started, and then those that
-/// were started are called off, or if the list of results could not grow. All that were started have been joined by then.
+/// The work is given the number of its job. The error is out of memory: if a thread could not be
+/// started, and then those that were started are called off, or if the list of results could not
+/// grow. All that were started have been joined by then.
 pub fn run_each<
     J: Send + Drop,
     T: Send + Drop,

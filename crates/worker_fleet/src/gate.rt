@@ -6,7 +6,8 @@ pub trait Gate: Sync {
     /// The answers that it may give to the worker of this number before the turn of this number.
     ghost may_answer: { Self → ℕ → ℕ → Bool → Type 0 };
 
-    /// Whether the worker may make the turn. Both are numbered: workers from 0, the turns of each from 1.
+    /// Whether the worker may make the turn. Both are numbered: workers from 0, the turns of each
+    /// from 1.
     fn before(&self, worker: u64, turn: u64) -> bool
         ensures { may_answer self.now worker turn result };
 }

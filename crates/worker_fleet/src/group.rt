@@ -1,4 +1,5 @@
-//! The stations of a group of diffusions, dealt to workers, run to their end, and put together again.
+//! The stations of a group of diffusions, dealt to workers, run to their end, and put together
+//! again.
 ghost use Rattle.std.specs.Prelude.{◌≡◌, ◌⊎◌, ℕ, ◌<◌, length, map, IfOk, IfErr, IfNone, IfSome, Some, ⊤, vec_len, slice_index_or};
 ghost use Rattle.std.specs.List.{All};
 ghost use Rattle.worker_fleet.specs.Turns.{IsOnItsFloor};
@@ -171,7 +172,8 @@ fn regroup<'g, A: PathAlgebra>(
     Ok(lists)
 }
 
-/// The stations of each diffusion, if all workers came to the end; else why the least numbered of the others stopped.
+/// The stations of each diffusion, if all workers came to the end; else why the least numbered of
+/// the others stopped.
 fn end_group<'g, A: PathAlgebra>(
     alloc: Global,
     answers: Vec<Driven<'g, A>>,
@@ -192,11 +194,13 @@ fn end_group<'g, A: PathAlgebra>(
     Ok(regroup(alloc, answers, width)?)
 }
 
-/// Runs the stations of a group of diffusions to their end, dealt to workers on threads of their own.
+/// Runs the stations of a group of diffusions to their end, dealt to workers on threads of their
+/// own.
 ///
-/// Of n workers, worker w has the station of shard k of diffusion q if k is w modulo n, or, dealt by questions, if q + k is:
-/// diffusion by diffusion, and in their order. A lack of memory, or of a thread, is reported first; then why the least
-/// numbered worker of those that stopped before the end stopped.
+/// Of n workers, worker w has the station of shard k of diffusion q if k is w modulo n, or, dealt
+/// by questions, if q + k is: diffusion by diffusion, and in their order. A lack of memory, or of a
+/// thread, is reported first; then why the least numbered worker of those that stopped before the
+/// end stopped.
 pub fn run_group<'g, A: PathAlgebra, G: Gate, R: Threads + Wait>(
     rt: &R,
     alloc: Global,

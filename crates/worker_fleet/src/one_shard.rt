@@ -1,4 +1,5 @@
-//! With one shard no scheduler is involved: a theorem that a caller calls if its own proof needs what it promises.
+//! With one shard no scheduler is involved: a theorem that a caller calls if its own proof needs
+//! what it promises.
 ghost use Rattle.std.specs.Prelude.{◌≢◌, ℕ, ◌*◌, ◌<◌, ◌≤◌, List, length};
 ghost use Rattle.std.specs.List.{All};
 ghost use Rattle.post_floor.specs.Data.{FloorData};
@@ -15,9 +16,11 @@ use crate::gate::Gate;
 use path_algebra::PathAlgebra;
 use station::one_shard_goes_on;
 
-/// A worker whose stations are those of diffusions with one shard each stalls only if its limit is below the turns that are enough for each
-/// of them, times how many they are. So a group of such diffusions, by whatever rule and to however many workers it is dealt, stalls only if
-/// the limit is below that number for its width. Best first, twice the number of arcs, and three, are enough for each.
+/// A worker whose stations are those of diffusions with one shard each stalls only if its limit is
+/// below the turns that are enough for each of them, times how many they are. So a group of such
+/// diffusions, by whatever rule and to however many workers it is dealt, stalls only if the limit
+/// is below that number for its width. Best first, twice the number of arcs, and three, are enough
+/// for each.
 pub fn one_shard_never_stalls<A: PathAlgebra, G: Gate>(algebra: A, _gate: &G)
     ensures drives { (floors : List (FloorData A)) (budget limit turns worker : ℕ)
         (before : List (ℕ × StationData A A.Value)) (r : Driven A A.Value) → 0 < budget →

@@ -42,7 +42,8 @@ fn send_waiting<A: PathAlgebra>(
     }
 }
 
-/// Takes what has come, handles what waits, sends what is for others, and says whether the end is known.
+/// Takes what has come, handles what waits, sends what is for others, and says whether the end is
+/// known.
 fn turn<A: PathAlgebra>(
     floor: &Floor<A>,
     plan: &Plan,

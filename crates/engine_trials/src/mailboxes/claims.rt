@@ -7,7 +7,8 @@ use path_algebra::{PathAlgebra, Shortest};
 use post_floor::{Floor, Seat};
 use shard_part::{Part, Shard};
 
-/// Claims the next mailbox to a shard and the next one from it, and ends the claims in the order in which they were made.
+/// Claims the next mailbox to a shard and the next one from it, and ends the claims in the order in
+/// which they were made.
 pub fn swap<A: PathAlgebra>(
     floor: &Floor<A>,
     seat: &mut Seat<A>,

@@ -23,7 +23,8 @@ impl<'a, 'g, A: PathAlgebra> Promise<Place<'g, A>> for Errand<'a, A> {
     ghost kept_by = { λ p x. IsAt A.meaning p.floor.now x.0 x.1 };
 }
 
-/// The second shard waits for a batch, each handles what waits, and the first sends the result to the second.
+/// The second shard waits for a batch, each handles what waits, and the first sends the result to
+/// the second.
 fn take_part<'g, A: PathAlgebra>(
     floor: &Floor<A>,
     mut seat: Seat<A>,
@@ -105,7 +106,8 @@ fn on_two_threads<'g, A: PathAlgebra, R: Threads + Wait + Abort>(
     )
 }
 
-/// Asserts that the first part sent two messages, the opening's among them, and that the second took one.
+/// Asserts that the first part sent two messages, the opening's among them, and that the second
+/// took one.
 fn assert_passed<A: PathAlgebra<Value = u64>>(
     rt: &impl Abort,
     first: &Part<'_, A>,

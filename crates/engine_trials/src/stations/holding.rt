@@ -12,7 +12,8 @@ use shard_part::QueueOrder;
 use station::{Gathered, Report, Station};
 use std::process::Abort;
 
-/// What a turn reports that takes this many batches and handles and publishes as much as is said, before the end.
+/// What a turn reports that takes this many batches and handles and publishes as much as is said,
+/// before the end.
 fn report_of(handled: u32, taken: u32, published: u32, held: bool) -> Report {
     Report {
         handled,
@@ -77,7 +78,8 @@ fn assert_sums(rt: &impl Abort, gathered: &Gathered<u64>, wanted: &[Option<u64>]
     }
 }
 
-/// Asserts whether the dear arc is held back if a shard may run ahead by this weight, and what each counter comes to. The labels are the same.
+/// Asserts whether the dear arc is held back if a shard may run ahead by this weight, and what each
+/// counter comes to. The labels are the same.
 fn assert_ahead(rt: &(impl Abort + AllocGlobal), ahead: Option<u32>, held: bool, count: u64) {
     let first = report_of(1, 0, 1, false);
     let second = report_of(u32::from(!held), 1, 0, held);
@@ -95,7 +97,8 @@ fn assert_ahead(rt: &(impl Abort + AllocGlobal), ahead: Option<u32>, held: bool,
 
 #[test]
 fn holds_back_what_runs_ahead(rt: HostRuntime) {
-    // The value 10 arrives while 1 waits elsewhere. Held back until 3 is there, it improves nothing, and each of the five arcs is taken once.
+    // The value 10 arrives while 1 waits elsewhere. Held back until 3 is there, it improves
+    // nothing, and each of the five arcs is taken once.
     assert_ahead(&rt, Some(0), true, 6);
     assert_ahead(&rt, Some(8), true, 6);
     // Else 11 goes over the arc to 4, and 12 over that to 5, before 4 and 5 do.
@@ -106,7 +109,8 @@ fn holds_back_what_runs_ahead(rt: HostRuntime) {
 /// The least sums from vertex 1 if the way to 3 leads through 5.
 const THROUGH_FIVE: [Option<u64>; 6] = [Some(0), None, Some(2), Some(3), Some(1), None];
 
-/// Asserts what first turns report and what each counter comes to if the way to 3 leads through 5 and a shard may run ahead by this weight.
+/// Asserts what first turns report and what each counter comes to if the way to 3 leads through 5
+/// and a shard may run ahead by this weight.
 fn assert_through_five(
     rt: &(impl Abort + AllocGlobal),
     shards: u8,
@@ -123,7 +127,8 @@ fn assert_through_five(
 
 #[test]
 fn waits_for_what_it_has_sent(rt: HostRuntime) {
-    // In the first of two shards 10 waits at 3, and 1 is in the outbox to 5. Once 2 has come back, 10 improves nothing.
+    // In the first of two shards 10 waits at 3, and 1 is in the outbox to 5. Once 2 has come back,
+    // 10 improves nothing.
     assert_through_five(&rt, 2, 0, &[report_of(1, 0, 1, true)], 5);
     assert_through_five(&rt, 2, 8, &[report_of(1, 0, 1, true)], 5);
     // Else 11 goes to 4, and 3 after it.
@@ -133,15 +138,18 @@ fn waits_for_what_it_has_sent(rt: HostRuntime) {
 #[test]
 fn waits_for_what_is_in_a_mailbox(rt: HostRuntime) {
     let first = report_of(1, 0, 2, false);
-    // The second of three shards takes 10 at 3, and 1 is in a mailbox of the third, which has had no turn.
+    // The second of three shards takes 10 at 3, and 1 is in a mailbox of the third, which has had
+    // no turn.
     assert_through_five(&rt, 3, 0, &[first, report_of(0, 1, 0, true)], 5);
     assert_through_five(&rt, 3, 8, &[first, report_of(0, 1, 0, true)], 5);
-    // Within 10 it takes 10 at 3, and 11 waits at 4. Within 11 it takes both, and the signal that answers 11, and signals to the first.
+    // Within 10 it takes 10 at 3, and 11 waits at 4. Within 11 it takes both, and the signal that
+    // answers 11, and signals to the first.
     assert_through_five(&rt, 3, 9, &[first, report_of(1, 1, 0, true)], 6);
     assert_through_five(&rt, 3, 10, &[first, report_of(3, 1, 1, false)], 6);
 }
 
-/// Asserts that a walk along eight vertices sends one message along each of the fourteen arcs, and one to its first vertex, if no shard may run ahead.
+/// Asserts that a walk along eight vertices sends one message along each of the fourteen arcs, and
+/// one to its first vertex, if no shard may run ahead.
 fn assert_once_an_arc(rt: &(impl Abort + AllocGlobal), walk: [u32; 8], shards: u8) {
     for budget in [1, 3, 1000] {
         let ground = ground_of(rt, two_chains(rt, walk), shards);
@@ -158,7 +166,8 @@ fn assert_once_an_arc(rt: &(impl Abort + AllocGlobal), walk: [u32; 8], shards: u
 
 #[test]
 fn one_message_an_arc_in_a_zip(rt: HostRuntime) {
-    // The cheap chain changes the block with each arc, and a dear arc leads from each vertex to the next in its block.
+    // The cheap chain changes the block with each arc, and a dear arc leads from each vertex to the
+    // next in its block.
     assert_once_an_arc(&rt, [1, 5, 2, 6, 3, 7, 4, 8], 2);
     assert_once_an_arc(&rt, [1, 3, 5, 7, 2, 4, 6, 8], 4);
     // Against the order in which the stations have their turns.

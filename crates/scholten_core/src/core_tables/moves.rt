@@ -11,7 +11,8 @@ use path_algebra::PathAlgebra;
 use road_graph::{ArcNo, Vertex};
 
 impl<'g, A: PathAlgebra> CoreTables<'g, A> {
-    /// A message is taken: the label becomes the better one, and a neutral vertex is engaged. Says whether the label changed.
+    /// A message is taken: the label becomes the better one, and a neutral vertex is engaged. Says
+    /// whether the label changed.
     pub fn arrive(&mut self, a: ArcNo, v: Vertex, value: A::Value) -> bool
         requires head { v ≡ (network_of self.old).head a }
         requires within { v ≤ self.old.diffusion.roads.vertices }
@@ -73,7 +74,8 @@ impl<'g, A: PathAlgebra> CoreTables<'g, A> {
         self.token(b).is_idle() && !is_same(self.algebra, self.last_offer(b), self.label(v))
     }
 
-    /// Offers the label to an arc if it is due: sends it, extended, unless the extension is refused.
+    /// Offers the label to an arc if it is due: sends it, extended, unless the extension is
+    /// refused.
     pub fn offer(&mut self, v: Vertex, b: ArcNo)
         requires low { 1 ≤ b }
         requires high { b ≤ length self.old.diffusion.roads.arcs }

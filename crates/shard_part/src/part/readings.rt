@@ -45,14 +45,16 @@ impl<'g, A: PathAlgebra> Part<'g, A> {
         self.state.shard()
     }
 
-    /// Whether a shard is another than this one: the test of what `capacity` and `swap_outbox` require.
+    /// Whether a shard is another than this one: the test of what `capacity` and `swap_outbox`
+    /// require.
     pub fn is_other(&self, to: Shard) -> bool
         ensures { IsTrue result ↔ (to ≢ self.now.shard) × (to < self.now.setup.plan.shards) }
     {
         to != self.state.shard && to.0 < self.state.plan.shards()
     }
 
-    /// How many items an outbox may hold: one for each arc between the two shards, in both directions.
+    /// How many items an outbox may hold: one for each arc between the two shards, in both
+    /// directions.
     pub fn capacity(&self, to: Shard) -> usize
         requires other { to ≢ self.now.shard }
         requires shard { to < self.now.setup.plan.shards }
@@ -69,7 +71,8 @@ impl<'g, A: PathAlgebra> Part<'g, A> {
         self.state.queue.len()
     }
 
-    /// For how many more items the queue has a place. In all it has one for each arc with an end in the shard.
+    /// For how many more items the queue has a place. In all it has one for each arc with an end in
+    /// the shard.
     pub fn room(&self) -> usize
         ensures { result + length self.now.queue ≡ queue_bound (network_of self.now.setup)
             (place_in self.now.setup) self.now.shard }
@@ -138,16 +141,18 @@ impl<'g, A: PathAlgebra> Part<'g, A> {
         self.state.deficit_at(self.state.place(v))
     }
 
-    /// What has been counted, the environment's message and the acceptance of its signal at the source's part.
+    /// What has been counted, the environment's message and the acceptance of its signal at the
+    /// source's part.
     pub fn tally(&self) -> Tally
         ensures { result ≡ tally_in self.now }
     {
         self.state.tally()
     }
 
-    /// Whether a batch may be received: no arc occurs twice in it, or both in it and in the queue or an outbox, each message has a
-    /// value of the algebra and comes on an arc from another shard into this one that is no engager here, and each signal comes
-    /// back on an arc from this shard into another that is busy here.
+    /// Whether a batch may be received: no arc occurs twice in it, or both in it and in the queue
+    /// or an outbox, each message has a value of the algebra and comes on an arc from another shard
+    /// into this one that is no engager here, and each signal comes back on an arc from this shard
+    /// into another that is busy here.
     pub fn fits(&self, batch: &Batch<A::Value>) -> bool
         ensures { IsTrue result ↔ Fits (A.meaning self.now.setup.diffusion.algebra) self.now
             batch.now.items }

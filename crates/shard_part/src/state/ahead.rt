@@ -16,7 +16,8 @@ impl<'g, A: PathAlgebra> PartState<'g, A> {
         self.best_sent = self.best_for_others();
     }
 
-    /// Whether all that waits to be handled is messages worse than one for another shard will be after one more arc of this weight.
+    /// Whether all that waits to be handled is messages worse than one for another shard will be
+    /// after one more arc of this weight.
     pub(crate) fn is_ahead_of_sent(&self, ahead: u32) -> bool
         ensures { IsTrue result → IsAheadOfSent (A.meaning self.now.setup.diffusion.algebra)
             ahead self.now }
@@ -27,7 +28,8 @@ impl<'g, A: PathAlgebra> PartState<'g, A> {
         self.is_held_after(self.best_for_others(), ahead)
     }
 
-    /// Whether all that waits to be handled is messages worse than this value, if there is one, after one more arc of this weight.
+    /// Whether all that waits to be handled is messages worse than this value, if there is one,
+    /// after one more arc of this weight.
     fn is_held_after(&self, sent: Option<A::Value>, ahead: u32) -> bool
         ensures { IsTrue result → IfSome sent (λ x. IsOutgoing x self.now) →
             IsAheadOfSent (A.meaning self.now.setup.diffusion.algebra) ahead self.now }

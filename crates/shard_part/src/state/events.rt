@@ -107,7 +107,8 @@ impl<'g, A: PathAlgebra> PartState<'g, A> {
         }
     }
 
-    /// Sets the label of the vertex at a place to the value, if that is better. Says whether it was.
+    /// Sets the label of the vertex at a place to the value, if that is better. Says whether it
+    /// was.
     fn improve(&mut self, v: VertexPlace, value: A::Value) -> bool
         requires { IsPlace self.old v.vertex v.at }
         ensures improved { result ≡ improves_on (A.meaning self.old.setup.diffusion.algebra) value
@@ -138,7 +139,8 @@ impl<'g, A: PathAlgebra> PartState<'g, A> {
         }
     }
 
-    /// The vertex at a place becomes neutral, and a signal goes back on its engager, if it is engaged and no arc out of it is busy.
+    /// The vertex at a place becomes neutral, and a signal goes back on its engager, if it is
+    /// engaged and no arc out of it is busy.
     fn rest(&mut self, v: VertexPlace)
         requires place { IsPlace self.old v.vertex v.at }
         requires vertex { v.vertex ≢ 0 }

@@ -60,7 +60,8 @@ impl<'g, A: PathAlgebra> PartState<'g, A> {
         true
     }
 
-    /// Whether an item is alone on its arc, among those of a batch from an index on and those of this part, and may be received.
+    /// Whether an item is alone on its arc, among those of a batch from an index on and those of
+    /// this part, and may be received.
     fn fits_before(&self, item: Item<A::Value>, batch: &Batch<A::Value>, next: usize) -> bool
         requires { next ≤ length batch.now.items }
         ensures { IsTrue result ↔ FitsBefore (A.meaning self.now.setup.diffusion.algebra) self.now

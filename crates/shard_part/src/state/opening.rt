@@ -21,7 +21,8 @@ use shard_store::{
 use std::alloc::Global;
 
 impl<'g, A: PathAlgebra> PartState<'g, A> {
-    /// The part of one shard before any event. At the source's part the message of the environment waits, with the origin as its value.
+    /// The part of one shard before any event. At the source's part the message of the environment
+    /// waits, with the origin as its value.
     pub(crate) fn open(
         alloc: Global,
         algebra: A,
@@ -49,7 +50,8 @@ impl<'g, A: PathAlgebra> PartState<'g, A> {
         };
         let first = layout.is_first();
         let own = layout.own_vertices(alloc)?;
-        // What a closed part keeps is allocated first, so that the memory freed by closing is in one piece after it.
+        // What a closed part keeps is allocated first, so that the memory freed by closing is in
+        // one piece after it.
         let tables = idle_tables(alloc, &layout, own, algebra.origin())?;
         let mut capacities = layout.capacities(alloc, &tables.own)?;
         let queue = opening_queue(alloc, algebra, order, sum_of(&capacities), first)?;

@@ -17,7 +17,8 @@ use scholten_core::{Item, extended, is_same};
 use shard_store::{ArcPlace, Shard, VertexPlace};
 
 impl<'g, A: PathAlgebra> PartState<'g, A> {
-    /// Offers its label to each due arc out of the vertex at a place, if the label improved. Otherwise none is due: each idle arc was offered it before.
+    /// Offers its label to each due arc out of the vertex at a place, if the label improved.
+    /// Otherwise none is due: each idle arc was offered it before.
     pub(super) fn pump_if(&mut self, v: VertexPlace, improved: bool)
         requires place { IsPlace self.old v.vertex v.at }
         requires vertex { v.vertex ≢ 0 }
@@ -60,7 +61,8 @@ impl<'g, A: PathAlgebra> PartState<'g, A> {
         }
     }
 
-    /// The same for the k-th arc out of the vertex. Its head and weight are looked up only if it is due, as most are not.
+    /// The same for the k-th arc out of the vertex. Its head and weight are looked up only if it is
+    /// due, as most are not.
     pub(super) fn offer_again(&mut self, v: VertexPlace, k: usize, b: ArcPlace)
         requires place { IsPlace self.old v.vertex v.at }
         requires vertex { v.vertex ≢ 0 }

@@ -38,7 +38,8 @@ impl<'g, A: PathAlgebra> PartState<'g, A> {
         self.queue.pop_first()
     }
 
-    /// Takes a signal or a message that improves nothing, if one came since the others were ranked, else the best message.
+    /// Takes a signal or a message that improves nothing, if one came since the others were ranked,
+    /// else the best message.
     fn pop_best(&mut self) -> Option<Item<A::Value>>
         requires { self.old.setup.order ≡ BestFirst }
         ensures none { result ≡ None → (self.old.queue ≡ []) × (self.new ≡ self.old) }

@@ -12,7 +12,8 @@ use scholten_core::Item;
 use std::collections::BinaryHeap;
 
 impl<A: PathAlgebra> Queue<A> {
-    /// Whether all that waits is held back by a limit: messages with worse values, and nothing else. First come, first served nothing is.
+    /// Whether all that waits is held back by a limit: messages with worse values, and nothing
+    /// else. First come, first served nothing is.
     pub fn is_held(&self, limit: A::Value) -> bool
         ensures held { IsTrue result → IsHeldBy A.order limit self.now.items }
         ensures all { self.now.room.order ≡ BestFirst → IsHeldBy A.order limit self.now.items →

@@ -13,7 +13,7 @@ use Rattle.scholten_core.specs.declared.item.Item.{Item}
 use Rattle.scholten_core.specs.declared.event.Event.{Event}
 use Rattle.scholten_core.specs.Network.{WellFormed}
 use Rattle.scholten_core.specs.Diffusion.{CoreState}
-use Rattle.scholten_core.proofs.Kept.{Kept as CoreKept}
+use Rattle.scholten_core.proofs.CoreInvariant.{CoreInvariant}
 use Rattle.shard_part.specs.PartState.{PartData, event_of}
 use Rattle.shard_store.specs.Setup.{SetupData, network_of, place_in}
 use Rattle.shard_store.specs.Totals.{total, is}
@@ -48,10 +48,10 @@ module _ {S V : Type 0} (meaning : S → Algebra V) (t : SetupData S) where
 
   -- a batch that came from another shard, for a part of this setup
   arrived : (p : PartData S V) (c : CoreState V) (xs : List (Item V)) (j : ℕ) → AllLawful meaning → p.setup ≡ t → WellFormed (network_of t)
-      → CoreKept (meaning t.diffusion.algebra) (network_of t) 0 c → j ≢ p.shard → MadeAt t j xs →
+      → CoreInvariant (meaning t.diffusion.algebra) (network_of t) 0 c → j ≢ p.shard → MadeAt t j xs →
       HoldsShareIn (meaning t.diffusion.algebra) (network_of t) (place_in t) c (joined p xs) → MayReceive meaning p xs
   arrived p c xs j L e W K ne made H =
-      let T = subst (λ (u : SetupData S). WellFormed (network_of u) × CoreKept (meaning u.diffusion.algebra) (network_of u) 0 c × MadeAt u j xs
+      let T = subst (λ (u : SetupData S). WellFormed (network_of u) × CoreInvariant (meaning u.diffusion.algebra) (network_of u) 0 c × MadeAt u j xs
       × HoldsShareIn (meaning u.diffusion.algebra) (network_of u) (place_in u) c (joined p xs)) (sym e) (W, K, made, H) in
       arrives meaning p (L p.setup.diffusion.algebra) T.0 c T.1 xs j ne T.2 T.3
 

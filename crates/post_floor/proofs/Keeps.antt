@@ -11,7 +11,7 @@ use Rattle.scholten_core.specs.Network.{WellFormed}
 use Rattle.scholten_core.specs.Accounts.{Totals, totals_of}
 use Rattle.scholten_core.specs.Diffusion.{CoreState, opening, run_from}
 use Rattle.scholten_core.specs.Shares.{Agree}
-use Rattle.scholten_core.proofs.Kept.{Kept as CoreKept, run_kept}
+use Rattle.scholten_core.proofs.CoreInvariant.{CoreInvariant, run_kept}
 use Rattle.scholten_core.proofs.Ended.{opening_kept}
 use Rattle.shard_part.specs.PartState.{PartData, state_in, mine, event_of}
 use Rattle.shard_store.specs.Setup.{SetupData, network_of, place_in, IsPlanned}
@@ -74,7 +74,7 @@ module _ {S V : Type 0} (meaning : S → Algebra V) (t : SetupData S) where
   ]
 
   module _ (L : AllLawful meaning) (W : WellFormed (network_of t)) where
-    pub kept_core : (events : List Event) → CoreKept (meaning t.diffusion.algebra) (network_of t) 0 (core_of meaning t events)
+    pub kept_core : (events : List Event) → CoreInvariant (meaning t.diffusion.algebra) (network_of t) 0 (core_of meaning t events)
     kept_core events = run_kept (meaning t.diffusion.algebra) (network_of t) (L t.diffusion.algebra) W
         (opening (meaning t.diffusion.algebra) (network_of t)) events (opening_kept (meaning t.diffusion.algebra) (network_of t) W)
 

@@ -14,7 +14,7 @@ use Rattle.scholten_core.specs.BestFirst.{IsNoWorseThanWaiting, TakesBest, IsBes
 use Rattle.scholten_core.specs.Diffusion.{CoreState, opening, state_after, run_from, improves, better_of, same_label, is_message, is_due, out_idle, pump, arrive, released, freed, settle, step, sent, extend_label, answer_to}
 use Rattle.scholten_core.proofs.Basics.{put_tells, sent_message, same_self}
 use Rattle.scholten_core.proofs.Walks.{walk_value_is_value}
-use Rattle.scholten_core.proofs.Kept.{Kept, pumped, head_real, arrive_kept, freed_kept, step_kept}
+use Rattle.scholten_core.proofs.CoreInvariant.{CoreInvariant, pumped, head_real, arrive_kept, freed_kept, step_kept}
 use Rattle.scholten_core.proofs.StepCases.{step_cases, released_changes, held_pumped, rest_told, rest_label}
 use Rattle.scholten_core.proofs.Ended.{opening_kept}
 
@@ -90,7 +90,7 @@ module _ {V : Type 0} (A : Algebra V) (N : Network) where
   not_improved x z h i = false≢true (sym (not-true (A.no_worse z x) (and_parts (A.no_worse x z) (not (A.no_worse z x)) i).1) ∙ h)
 
   -- a message that improves nothing
-  stale_still : IsLawful A → WellFormed N → (a : ℕ) (x : V) (c : CoreState V) → c.token a ≡ Message x → Kept A N 0 c → LabelsLead c → improves A x (c.label (N.head a)) ≡ false → IsStill c (settle A N (N.head a) (arrive A N a x c))
+  stale_still : IsLawful A → WellFormed N → (a : ℕ) (x : V) (c : CoreState V) → c.token a ≡ Message x → CoreInvariant A N 0 c → LabelsLead c → improves A x (c.label (N.head a)) ≡ false → IsStill c (settle A N (N.head a) (arrive A N a x c))
   stale_still L W a x c q K T f =
       let d = arrive A N a x c in
       let old : IsStill c d = record {
@@ -139,7 +139,7 @@ module _ {V : Type 0} (A : Algebra V) (N : Network) where
       omega (arith, z, f)
 
   -- a message that improves the label of its head
-  module _ (L : IsLawful A) (W : WellFormed N) (a : ℕ) (x : V) (c : CoreState V) (q : c.token a ≡ Message x) (K : Kept A N 0 c) (T : LabelsLead c) (i : improves A x (c.label (N.head a)) ≡ true)
+  module _ (L : IsLawful A) (W : WellFormed N) (a : ℕ) (x : V) (c : CoreState V) (q : c.token a ≡ Message x) (K : CoreInvariant A N 0 c) (T : LabelsLead c) (i : improves A x (c.label (N.head a)) ≡ true)
       (E : IsNoWorseThanWaiting A N c x) where
     abbrev met : CoreState V
     met = arrive A N a x c
@@ -290,7 +290,7 @@ module _ {V : Type 0} (A : Algebra V) (N : Network) where
     idle = λ b r. elim (put_tells c.token a Idle b) [ inl h ↦ h.1 | inr h ↦ h.1 ∙ r ];
   }
 
-  step_leads : IsLawful A → WellFormed N → (c : CoreState V) (e : Event) → Kept A N 0 c → LabelsLead c → TakesBest A N c e → Leads c (step A N c e)
+  step_leads : IsLawful A → WellFormed N → (c : CoreState V) (e : Event) → CoreInvariant A N 0 c → LabelsLead c → TakesBest A N c e → Leads c (step A N c e)
   step_leads L W c e K T B = step_cases A N (λ d. Leads c d) c e
       (from_still c c T (still_refl c))
       (λ a x is q. let best = subst (TakesBest A N c) is B in elim (cases_Bool (improves A x (c.label (N.head a)))) [
@@ -303,7 +303,7 @@ module _ {V : Type 0} (A : Algebra V) (N : Network) where
       (settle_still L (N.tail (suc k)) (freed A N (suc k) c) (λ b e. T.told b ∙ ap c.label e)
       (λ e r. ((freed_kept A N W (suc k) c q K).engager_held (N.tail (suc k)) e r).0))))
 
-  run_leads : IsLawful A → WellFormed N → (c : CoreState V) (es : List Event) → Kept A N 0 c → LabelsLead c → IsBestFirst A N c es →
+  run_leads : IsLawful A → WellFormed N → (c : CoreState V) (es : List Event) → CoreInvariant A N 0 c → LabelsLead c → IsBestFirst A N c es →
       LabelsLead (run_from A N c es) × ((b : ℕ) → sent_on A N b c es + sent_by c b ≡ sent_by (run_from A N c es) b)
   run_leads L W c [] K T B = (T, λ b. (omega arith))
   run_leads L W c (e ∷ es) K T B =

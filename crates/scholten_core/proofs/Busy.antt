@@ -12,7 +12,7 @@ use Rattle.scholten_core.specs.Diffusion.{CoreState, opening, state_after, HasEn
 use Rattle.scholten_core.specs.Rooted.{IsEngagementOrder, IsRooted}
 use Rattle.scholten_core.specs.Progress.{CanGoOn}
 use Rattle.scholten_core.proofs.Basics.{put_tells, put-other, idle-false}
-use Rattle.scholten_core.proofs.Kept.{Kept, pumped}
+use Rattle.scholten_core.proofs.CoreInvariant.{CoreInvariant, pumped}
 use Rattle.scholten_core.proofs.StepCases.{step_cases, run_cases}
 use Rattle.scholten_core.proofs.Ended.{opening_kept, reached_kept, reached_rooted}
 use Rattle.road_graph.proofs.Lists.{not_in_empty, later, head_or_tail}
@@ -86,7 +86,7 @@ module _ {V : Type 0} (A : Algebra V) (N : Network) where
       (h.0, h.1, λ i. h.2 (sym (put-other c.token a Idle h.0 (λ k. ne (sym h.1 ∙ ap N.tail k))) ∙ i))
 
   -- the environment is no engaged vertex, and every other tail settles
-  step_busy : IsLawful A → WellFormed N → (c : CoreState V) (e : Event) → Kept A N 0 c → IsBusy c → IsBusy (step A N c e)
+  step_busy : IsLawful A → WellFormed N → (c : CoreState V) (e : Event) → CoreInvariant A N 0 c → IsBusy c → IsBusy (step A N c e)
   step_busy L W c e K B = step_cases A N (λ d. IsBusy d) c e B
       (λ a x _ q. rest_busy (N.head a) (pump A N (N.head a) (arrive A N a x c)) (pump_busy L (N.head a) (N.head a) (arrive A N a x c) (arrive_busy a x c B)))
       (λ q v u r. freed_busy 0 c B v u (λ z. let g = ap c.engager (z ∙ W.tail_zero) in let j = K.env_neutral in cc) r)
@@ -127,7 +127,7 @@ module _ {V : Type 0} (A : Algebra V) (N : Network) where
   enabled_at b c Held q = inr (inl refl)
   enabled_at b c Signal q = inr (inr (Accept b, ap is_signal q))
 
-  not_stuck : (c : CoreState V) → Kept A N 0 c → IsRooted A N c → IsBusy c → HasEnded c ⊎ HasEnabled c
+  not_stuck : (c : CoreState V) → CoreInvariant A N 0 c → IsRooted A N c → IsBusy c → HasEnded c ⊎ HasEnabled c
   not_stuck c K R B = go R.0 R.1 (λ v a q. (R.2 v a q).0)
     where
       go : (order : List ℕ) → IsEngagementOrder A N c.engager order → ((v a : ℕ) → c.engager v ≡ Some a → Contains order v) → HasEnded c ⊎ HasEnabled c
@@ -152,7 +152,7 @@ module _ {V : Type 0} (A : Algebra V) (N : Network) where
   never_stuck L W es = not_stuck (state_after A N es) (reached_kept A N L W es) (reached_rooted A N L W es) (reached_busy L W es)
 
   -- an arc that carries something is arc 0 or one of the graph
-  busy_inside : WellFormed N → (c : CoreState V) → Kept A N 0 c → (a : ℕ) → c.token a ≢ Idle → a ≤ N.arcs
+  busy_inside : WellFormed N → (c : CoreState V) → CoreInvariant A N 0 c → (a : ℕ) → c.token a ≢ Idle → a ≤ N.arcs
   busy_inside W c K a q = elim (cases_eq (N.tail a) 0) [
     | inl z ↦ elim (cases_eq a 0) [
       | inl e ↦ omega (arith, e)
@@ -161,7 +161,7 @@ module _ {V : Type 0} (A : Algebra V) (N : Network) where
     | inr n ↦ W.real a n
   ]
 
-  enabled_inside : WellFormed N → (c : CoreState V) → Kept A N 0 c → HasEnabled c → CanGoOn N c
+  enabled_inside : WellFormed N → (c : CoreState V) → CoreInvariant A N 0 c → HasEnabled c → CanGoOn N c
   enabled_inside W c K (Deliver a, h) = (a, busy_inside W c K a (λ i. false≢true (sym (ap is_message i) ∙ h)), inl h)
   enabled_inside W c K (Accept a, h) = (a, busy_inside W c K a (λ i. false≢true (sym (ap is_signal i) ∙ h)), inr h)
 

@@ -13,7 +13,7 @@ use Rattle.scholten_core.specs.CoreView.{CoreView, state_of, network_of, IsRun}
 use Rattle.scholten_core.specs.DiffusionData.{network_in, IsDiffusion}
 use Rattle.scholten_core.proofs.StepCases.{held_pumped}
 use Rattle.scholten_core.proofs.Networks.{well_formed}
-use Rattle.scholten_core.proofs.Kept.{Kept, head_real, arrive_kept, freed_kept}
+use Rattle.scholten_core.proofs.CoreInvariant.{CoreInvariant, head_real, arrive_kept, freed_kept}
 use Rattle.scholten_core.proofs.Ended.{reached_kept}
 
 module _ {V : Type 0} (A : Algebra V) (N : Network) where
@@ -44,8 +44,8 @@ pub record IsRunTo {S V : Type 0} (meaning : S → Algebra V) (old new : CoreVie
   pub count : n ≡ count_enabled (meaning old.diffusion.algebra) (network_of old) (state_of old) (take k events)
 
 module _ {S V : Type 0} (meaning : S → Algebra V) where
-  pub kept_at : (t : CoreView S V) → IsLawful (meaning t.diffusion.algebra) → IsRun meaning t → Kept (meaning t.diffusion.algebra) (network_of t) 0 (state_of t)
-  kept_at t L R = subst (λ c. Kept (meaning t.diffusion.algebra) (network_of t) 0 c) (sym R.reached.1)
+  pub kept_at : (t : CoreView S V) → IsLawful (meaning t.diffusion.algebra) → IsRun meaning t → CoreInvariant (meaning t.diffusion.algebra) (network_of t) 0 (state_of t)
+  kept_at t L R = subst (λ c. CoreInvariant (meaning t.diffusion.algebra) (network_of t) 0 c) (sym R.reached.1)
       (reached_kept (meaning t.diffusion.algebra) (network_of t) L (well_formed t.diffusion.roads t.diffusion.source R.diffusion.roads R.diffusion.source.0) R.reached.0)
 
   formed_at : (t : CoreView S V) → IsRun meaning t → WellFormed (network_of t)

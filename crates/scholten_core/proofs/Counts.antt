@@ -11,7 +11,7 @@ use Rattle.scholten_core.specs.Sums.{sum_below, one_if}
 use Rattle.scholten_core.specs.Accounts.{count_sent, count_signalled, is_delivery, is_acceptance, sent_total, signalled_total, delivered_total, accepted_total}
 use Rattle.scholten_core.proofs.Basics.{put_tells, put-same, put-other, sent_held, sum_same, sum_zero, sum_add, sum_at}
 use Rattle.scholten_core.proofs.Ended.{opening_kept, ended}
-use Rattle.scholten_core.proofs.Kept.{Kept, pumped, arrive_kept, freed_kept, step_kept}
+use Rattle.scholten_core.proofs.CoreInvariant.{CoreInvariant, pumped, arrive_kept, freed_kept, step_kept}
 use Rattle.scholten_core.proofs.StepCases.{counted_cases, released_changes, held_pumped}
 
 module _ {V : Type 0} (A : Algebra V) (N : Network) where
@@ -127,13 +127,13 @@ module _ {V : Type 0} (A : Algebra V) (N : Network) where
         | inr k ↦ (let g : eqb b a ≡ false = ne_eqb b a k.0 in rw g (balance_changes (c.token b) (u.token b) (subst (λ x. Changes x (u.token b)) k.1 (h b))))
       ])
 
-  busy_real : WellFormed N → (a : ℕ) (c : CoreState V) → Kept A N 0 c → c.token a ≢ Idle → a < suc N.arcs
+  busy_real : WellFormed N → (a : ℕ) (c : CoreState V) → CoreInvariant A N 0 c → c.token a ≢ Idle → a < suc N.arcs
   busy_real W a c K n = elim (cases_eq a 0) [
     | inl e ↦ omega arith
     | inr nz ↦ (let r = W.real a (λ z. n (K.neutral_idle a nz (ap c.engager z ∙ K.env_neutral))) in omega arith)
   ]
 
-  step_balanced : IsLawful A → WellFormed N → (c : CoreState V) (e : Event) → Kept A N 0 c → Balanced c (step A N c e) (one_if (is_delivery A N c e)) (one_if (is_acceptance A N c e))
+  step_balanced : IsLawful A → WellFormed N → (c : CoreState V) (e : Event) → CoreInvariant A N 0 c → Balanced c (step A N c e) (one_if (is_delivery A N c e)) (one_if (is_acceptance A N c e))
   step_balanced L W c e K = counted_cases A N (λ u d s. Balanced c u (one_if d) (one_if s)) c e
       (balanced c c (λ b. 0) (λ b. 0) 0 0 no_sum no_sum (λ b. balance_same (c.token b)))
       (λ a x _ q. one_arc c (settle A N (N.head a) (arrive A N a x c)) a (Message x) (answer_to (c.engager (N.head a))) 1 0 (busy_real W a c K (λ z. cc)) q
@@ -148,7 +148,7 @@ module _ {V : Type 0} (A : Algebra V) (N : Network) where
     pub held : helds_in u + signalled ≡ helds_in c + delivered
     pub signals : signals_in u + accepted ≡ signals_in c + signalled
 
-  pub accounts : IsLawful A → WellFormed N → (c : CoreState V) (es : List Event) → Kept A N 0 c →
+  pub accounts : IsLawful A → WellFormed N → (c : CoreState V) (es : List Event) → CoreInvariant A N 0 c →
       Accounts c (run_from A N c es) (sent_total A N c es) (delivered_total A N c es) (signalled_total A N c es) (accepted_total A N c es)
   accounts L W c [] K = record { messages = refl; held = refl; signals = refl }
   accounts L W c (e ∷ es) K =

@@ -11,7 +11,7 @@ use Rattle.scholten_core.specs.Rooted.{IsRooted, NeutralIsIdle, HeldIsEngager}
 use Rattle.scholten_core.specs.Reached.{LabelsAreWalkValues, MessagesAreWalkValues, EntryIsOrigin, LabelsAreBest}
 use Rattle.scholten_core.proofs.Networks.{well_formed, tail-arc, tail-entry, weight-arc}
 use Rattle.scholten_core.proofs.SharedWalks.{value_in_graph, value_in_network}
-use Rattle.scholten_core.proofs.Kept.{Kept}
+use Rattle.scholten_core.proofs.CoreInvariant.{CoreInvariant}
 use Rattle.scholten_core.proofs.Ended.{IsSolved, reached_kept, reached_rooted, ended}
 use Rattle.std.proofs.lemmas.Bool.{cases_Bool}
 use Rattle.path_algebra.specs.Given.{reach}
@@ -28,7 +28,7 @@ use Rattle.scholten_core.proofs.Reach.{IsOneValued, reach_sends, total_by_arc, w
 use Rattle.scholten_core.proofs.Basics.{one_if-most, sum_same, sum_below_same, sum_below_most, sum_first}
 
 module _ {V : Type 0} (A : Algebra V) (g : GraphData) (s : ℕ) where
-  pub run_kept_at : IsLawful A → IsGraph g → 1 ≤ s → (es : List Event) → Kept A (network g s) 0 (state_after A (network g s) es)
+  pub run_kept_at : IsLawful A → IsGraph g → 1 ≤ s → (es : List Event) → CoreInvariant A (network g s) 0 (state_after A (network g s) es)
   run_kept_at L R l es = reached_kept A (network g s) L (well_formed g s R l) es
 
   pub labels_are_walk_values : IsLawful A → IsGraph g → 1 ≤ s → (es : List Event) → LabelsAreWalkValues A g s (state_after A (network g s) es)
@@ -104,7 +104,7 @@ module _ (g : GraphData) (s : ℕ) where
       let split = sum_first (λ b. one_if (is_some ((state_after reach (network g s) es).label ((network g s).tail b)))) (length g.arcs) in
       omega (arith, first, each, all, split)
     where
-      no_entry_label : Kept reach (network g s) 0 (state_after reach (network g s) es) → (o : Option (Unit {0}))
+      no_entry_label : CoreInvariant reach (network g s) 0 (state_after reach (network g s) es) → (o : Option (Unit {0}))
           → (state_after reach (network g s) es).label 0 ≡ o → (state_after reach (network g s) es).label 0 ≡ None
       no_entry_label K None h = h
       no_entry_label K (Some x) h = absurd (let w = K.label_walk 0 x h in walk_end reach (network g s) (well_formed g s R S.0) s w.0 0 (λ z. let l = S.0 in omega (arith, l, z)) w.1 refl)

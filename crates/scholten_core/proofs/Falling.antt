@@ -16,7 +16,7 @@ use Rattle.scholten_core.proofs.Basics.{put_tells, same_self, one_if-most}
 use Rattle.scholten_core.proofs.Networks.{well_formed}
 use Rattle.scholten_core.proofs.Walks.{along}
 use Rattle.scholten_core.proofs.SharedWalks.{along_extends}
-use Rattle.scholten_core.proofs.Kept.{Kept, step_kept}
+use Rattle.scholten_core.proofs.CoreInvariant.{CoreInvariant, step_kept}
 use Rattle.scholten_core.proofs.StepCases.{step_cases, settle_label}
 use Rattle.scholten_core.proofs.Ended.{opening_kept}
 use Rattle.scholten_core.proofs.Trails.{Trails, step_trails, opening_trails}
@@ -115,7 +115,7 @@ module _ {V : Type 0} (A : Algebra V) (g : GraphData) (s : ℕ) where
   ]
 
   run_falls : IsLawful A → IsGraph g → 1 ≤ s → (v : ℕ) (walks : List (List ℕ)) → HasSimpleWalks g s v walks → (c : CoreState V) (es : List Event)
-      → Kept A (network g s) 0 c → Trails A (network g s) c →
+      → CoreInvariant A (network g s) 0 c → Trails A (network g s) c →
       label_changes A (network g s) v c es ≤ left A (network g s) walks (c.label v)
   run_falls L R l v walks H c [] K T = omega arith
   run_falls L R l v walks H c (e ∷ es) K T =

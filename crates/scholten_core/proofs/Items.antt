@@ -10,7 +10,7 @@ use Rattle.scholten_core.specs.declared.item.Item.{Item}
 use Rattle.scholten_core.specs.declared.item.Item.TheVariants.{Message as MessageOn, Signal as SignalOn}
 use Rattle.scholten_core.specs.Items.{item_arc, at, item_of, pump_made, rest_made, settle_made, IsDistinct, IsOutList, Makes}
 use Rattle.scholten_core.proofs.Basics.{due_tells, put_tells, put-same, put-other}
-use Rattle.scholten_core.proofs.Kept.{Kept, pumped, arrive_kept, freed_kept}
+use Rattle.scholten_core.proofs.CoreInvariant.{CoreInvariant, pumped, arrive_kept, freed_kept}
 use Rattle.road_graph.proofs.Lists.{not_in_empty, here_as, later, head_or_tail, here}
 use Rattle.scholten_core.specs.Shares.{Agree}
 use Rattle.scholten_core.proofs.Shares.{pump_agree, due_agree, out_idle_agree}
@@ -117,7 +117,7 @@ module _ {V : Type 0} (A : Algebra V) (N : Network) where
       sent_never (Some y) q = cc
 
   -- a delivery: its own arc has the items of its new token, each other arc nothing or its new items
-  pub message_makes : IsLawful A → WellFormed N → (a : ℕ) (x : V) (c : CoreState V) (xs : List ℕ) → c.token a ≡ Message x → Kept A N 0 c → IsOutList A N (N.head a) xs →
+  pub message_makes : IsLawful A → WellFormed N → (a : ℕ) (x : V) (c : CoreState V) (xs : List ℕ) → c.token a ≡ Message x → CoreInvariant A N 0 c → IsOutList A N (N.head a) xs →
       (at a (item_of a (answer_to (c.engager (N.head a))) ++ settle_made A N (N.head a) (arrive A N a x c) xs) ≡ item_of a ((settle A N (N.head a) (arrive A N a x c)).token a))
       × ((b : ℕ) → b ≢ a → Makes A N b (c.token b) ((settle A N (N.head a) (arrive A N a x c)).token b)
       (at b (item_of a (answer_to (c.engager (N.head a))) ++ settle_made A N (N.head a) (arrive A N a x c) xs)))
@@ -147,7 +147,7 @@ module _ {V : Type 0} (A : Algebra V) (N : Network) where
   unfolding at
   at-skip b i rest e = cond-false (eqb (item_arc i) b) _ _ (ne_eqb (item_arc i) b e)
 
-  pub signal_makes : IsLawful A → WellFormed N → (a : ℕ) (c : CoreState V) (xs : List ℕ) → c.token a ≡ Signal → Kept A N 0 c → IsOutList A N (N.tail a) xs →
+  pub signal_makes : IsLawful A → WellFormed N → (a : ℕ) (c : CoreState V) (xs : List ℕ) → c.token a ≡ Signal → CoreInvariant A N 0 c → IsOutList A N (N.tail a) xs →
       (at a (settle_made A N (N.tail a) (freed A N a c) xs) ≡ item_of a ((settle A N (N.tail a) (freed A N a c)).token a))
       × ((b : ℕ) → b ≢ a → Makes A N b (c.token b) ((settle A N (N.tail a) (freed A N a c)).token b) (at b (settle_made A N (N.tail a) (freed A N a c) xs)))
   signal_makes L W a c xs q K O =

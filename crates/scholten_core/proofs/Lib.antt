@@ -1,6 +1,6 @@
 pub mod Basics
 pub mod Walks
-pub mod Kept
+pub mod CoreInvariant
 pub mod StepCases
 mod Rooted
 pub mod Ended

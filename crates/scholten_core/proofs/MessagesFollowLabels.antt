@@ -11,7 +11,7 @@ use Rattle.scholten_core.specs.Sums.{one_if}
 use Rattle.scholten_core.specs.Accounts.{sent_on, label_changes}
 use Rattle.scholten_core.proofs.Basics.{use_same, due_tells, put_tells, same_self, one_if-most}
 use Rattle.scholten_core.proofs.Ended.{opening_kept}
-use Rattle.scholten_core.proofs.Kept.{Kept, arrive_kept, freed_kept, step_kept}
+use Rattle.scholten_core.proofs.CoreInvariant.{CoreInvariant, arrive_kept, freed_kept, step_kept}
 use Rattle.scholten_core.proofs.StepCases.{step_cases, released_changes, held_pumped, rest_told, rest_label, settle_label}
 
 module _ {V : Type 0} (A : Algebra V) (N : Network) where
@@ -88,7 +88,7 @@ module _ {V : Type 0} (A : Algebra V) (N : Network) where
       let t : slack d b ≡ one_if (not (same_label A (c.told b) (d.label (N.tail b)))) = ap (λ f. one_if (not (same_label A (f b) (d.label (N.tail b))))) told in
       omega (arith, s, l, g, t)
 
-  step_sends : IsLawful A → WellFormed N → (c : CoreState V) (e : Event) → Kept A N 0 c → (b : ℕ) → Pays c b (step A N c e)
+  step_sends : IsLawful A → WellFormed N → (c : CoreState V) (e : Event) → CoreInvariant A N 0 c → (b : ℕ) → Pays c b (step A N c e)
   step_sends L W c e K b = step_cases A N (λ u. Pays c b u) c e
       (still_pays c c b (λ r. r) refl)
       (λ a x _ q. settled_pays L (N.head a) c (arrive A N a x c) b refl (no_message c a b (answer_to (c.engager (N.head a))) (answer_silent (c.engager (N.head a))))
@@ -97,7 +97,7 @@ module _ {V : Type 0} (A : Algebra V) (N : Network) where
       (λ k q. settled_pays L (N.tail (suc k)) c (freed A N (suc k) c) b refl (no_message c (suc k) b Idle refl)
       (λ e r. ((freed_kept A N W (suc k) c q K).engager_held (N.tail (suc k)) e r).0))
 
-  run_sends : IsLawful A → WellFormed N → (c : CoreState V) (es : List Event) → Kept A N 0 c → (b : ℕ) →
+  run_sends : IsLawful A → WellFormed N → (c : CoreState V) (es : List Event) → CoreInvariant A N 0 c → (b : ℕ) →
       sent_on A N b c es + slack (run_from A N c es) b ≤ slack c b + label_changes A N (N.tail b) c es
   run_sends L W c [] K b = omega arith
   run_sends L W c (e ∷ es) K b =

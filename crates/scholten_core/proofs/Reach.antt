@@ -13,7 +13,7 @@ use Rattle.scholten_core.specs.Accounts.{sent_on, label_changes, count_sent, sen
 use Rattle.scholten_core.proofs.MessagesFollowLabels.{sends_at_most}
 use Rattle.scholten_core.proofs.Basics.{due_tells, put_tells, sum_zero, sum_add, sum_same, one_if-most}
 use Rattle.scholten_core.proofs.Ended.{opening_kept, reached_kept, ended}
-use Rattle.scholten_core.proofs.Kept.{Kept, AtMost_arrive, arrive_kept, freed_kept, step_kept}
+use Rattle.scholten_core.proofs.CoreInvariant.{CoreInvariant, AtMost_arrive, arrive_kept, freed_kept, step_kept}
 use Rattle.scholten_core.proofs.StepCases.{step_cases, released_changes, held_pumped, rest_told, settle_label}
 
 module _ {V : Type 0} (A : Algebra V) (N : Network) where
@@ -77,7 +77,7 @@ module _ {V : Type 0} (A : Algebra V) (N : Network) where
   abbrev Covers : CoreState V → CoreState V → ℕ → Type 0
   Covers c d b = one_if (is_some (d.told b)) ≤ one_if (is_some (c.told b)) + one_if (is_message (d.token b) && not (is_message (c.token b)))
 
-  step_told : IsLawful A → WellFormed N → IsOneValued → (c : CoreState V) (e : Event) → Kept A N 0 c → (b : ℕ) → Covers c (step A N c e) b
+  step_told : IsLawful A → WellFormed N → IsOneValued → (c : CoreState V) (e : Event) → CoreInvariant A N 0 c → (b : ℕ) → Covers c (step A N c e) b
   step_told L W U c e K b = step_cases A N (λ d. Covers c d b) c e
       (omega arith)
       (λ a x _ q. settle_told L U (N.head a) c (arrive A N a x c) b
@@ -94,7 +94,7 @@ module _ {V : Type 0} (A : Algebra V) (N : Network) where
       ])
       refl (λ e r. ((freed_kept A N W (suc k) c q K).engager_held (N.tail (suc k)) e r).0))
 
-  told_sent : IsLawful A → WellFormed N → IsOneValued → (c : CoreState V) (es : List Event) → Kept A N 0 c → (b : ℕ) →
+  told_sent : IsLawful A → WellFormed N → IsOneValued → (c : CoreState V) (es : List Event) → CoreInvariant A N 0 c → (b : ℕ) →
       one_if (is_some ((run_from A N c es).told b)) ≤ one_if (is_some (c.told b)) + sent_on A N b c es
   told_sent L W U c [] K b = omega arith
   told_sent L W U c (e ∷ es) K b =
@@ -131,7 +131,7 @@ module _ {V : Type 0} (A : Algebra V) (N : Network) where
             omega (arith, high, once, part, low, t))
       ]
     where
-      no_label : Kept A N 0 (state_after A N es) → (o : Option V) → (state_after A N es).label (N.tail b) ≡ o → N.tail b ≡ 0 → (state_after A N es).label (N.tail b) ≡ None
+      no_label : CoreInvariant A N 0 (state_after A N es) → (o : Option V) → (state_after A N es).label (N.tail b) ≡ o → N.tail b ≡ 0 → (state_after A N es).label (N.tail b) ≡ None
       no_label K None h z = h
       no_label K (Some x) h z = absurd (let w = K.label_walk (N.tail b) x h in walk_end W N.source w.0 (N.tail b) W.source_in w.1 z)
 

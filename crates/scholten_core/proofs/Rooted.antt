@@ -8,7 +8,7 @@ use Rattle.scholten_core.specs.Network.{Network, WellFormed}
 use Rattle.scholten_core.specs.Diffusion.{CoreState, opening, put, pump, arrive, rest, released, freed, step, run_from, out_idle, engaged_by}
 use Rattle.scholten_core.specs.Rooted.{IsEngagementOrder, IsRooted}
 use Rattle.scholten_core.proofs.Basics.{put_tells, put-same, put-other, out_idle-at}
-use Rattle.scholten_core.proofs.Kept.{Kept}
+use Rattle.scholten_core.proofs.CoreInvariant.{CoreInvariant}
 use Rattle.scholten_core.proofs.StepCases.{step_cases, run_cases, head_pumped, tail_pumped}
 use Rattle.road_graph.proofs.Lists.{not_in_empty, here, here_as, later, head_or_tail}
 
@@ -94,7 +94,7 @@ module _ {V : Type 0} (A : Algebra V) (N : Network) where
     λ u b h. elim (put_tells f v None u) [ inl k ↦ absurd (let g = k.1 in cc) | inr k ↦ listed_without v u O.0 k.0 (O.2 u b (sym k.1 ∙ h)) ],
   )
 
-  rest_ordered : WellFormed N → (v : ℕ) (c : CoreState V) → Kept A N 0 c → Ordered c.engager → Ordered (rest A N v c).engager
+  rest_ordered : WellFormed N → (v : ℕ) (c : CoreState V) → CoreInvariant A N 0 c → Ordered c.engager → Ordered (rest A N v c).engager
   rest_ordered W v c K O = go (c.engager v) (out_idle A N v c) refl refl
     where
       go : (o : Option ℕ) (t : Bool) → c.engager v ≡ o → out_idle A N v c ≡ t → Ordered (released A N v c o t).engager
@@ -105,7 +105,7 @@ module _ {V : Type 0} (A : Algebra V) (N : Network) where
           let vn : v ≢ 0 = (λ y. let g = ap c.engager y in let j = K.env_neutral in cc) in
           let i = out_idle-at A N v c q a (W.real a (λ y. vn (sym z ∙ y))) z in cc) O
 
-  pub step_ordered : IsLawful A → WellFormed N → (c : CoreState V) (e : Event) → Kept A N 0 c → Ordered c.engager → Ordered (step A N c e).engager
+  pub step_ordered : IsLawful A → WellFormed N → (c : CoreState V) (e : Event) → CoreInvariant A N 0 c → Ordered c.engager → Ordered (step A N c e).engager
   step_ordered L W c e K O = step_cases A N (λ d. Ordered d.engager) c e O
       (λ a x _ q. rest_ordered W (N.head a) (pump A N (N.head a) (arrive A N a x c)) (head_pumped A N L W a x c q K)
       (engage_ordered c.engager (N.head a) a (c.engager (N.head a)) refl (tail_in a x q (c.engager (N.tail a)) refl) O))
@@ -116,10 +116,10 @@ module _ {V : Type 0} (A : Algebra V) (N : Network) where
       tail_in a x q None h = elim (cases_eq a 0) [ inl z ↦ inl (ap N.tail z ∙ W.tail_zero) | inr nz ↦ absurd (let g = K.neutral_idle a nz h in cc) ]
       tail_in a x q (Some e) h = inr (e, h)
 
-  pub run_ordered : IsLawful A → WellFormed N → (c : CoreState V) (es : List Event) → Kept A N 0 c → Ordered c.engager → Ordered (run_from A N c es).engager
+  pub run_ordered : IsLawful A → WellFormed N → (c : CoreState V) (es : List Event) → CoreInvariant A N 0 c → Ordered c.engager → Ordered (run_from A N c es).engager
   run_ordered L W c es K O = run_cases A N L W (λ d. Ordered d.engager) (λ d e. step_ordered L W d e) c es K O
 
-  pub rooted : (c : CoreState V) → Kept A N 0 c → Ordered c.engager → IsRooted A N c
+  pub rooted : (c : CoreState V) → CoreInvariant A N 0 c → Ordered c.engager → IsRooted A N c
   unfolding Ordered
   rooted c K O = (O.0, O.1, λ v a h. (O.2 v a h, (K.engager_held v a h).0))
 

@@ -10,7 +10,7 @@ use Rattle.scholten_core.specs.Network.{Network, WellFormed}
 use Rattle.scholten_core.specs.Diffusion.{CoreState, put, is_idle, all_below, is_due, out_idle, same_label, pump, arrive, released, freed, settle, settle_tail, delivered, accepted, step, sent, extend_label, better_of, engaged_by, answer_to}
 use Rattle.scholten_core.specs.Shares.{Agree}
 use Rattle.scholten_core.proofs.Basics.{put_tells, put-at, put-other, not_due}
-use Rattle.scholten_core.proofs.Kept.{Kept}
+use Rattle.scholten_core.proofs.CoreInvariant.{CoreInvariant}
 use Rattle.scholten_core.proofs.StepCases.{head_pumped, tail_pumped}
 
 module _ {V : Type 0} (A : Algebra V) (N : Network) where
@@ -126,13 +126,13 @@ module _ {V : Type 0} (A : Algebra V) (N : Network) where
     ];
   }
 
-  settle_frame : (other : ℕ → Bool) (v : ℕ) (c : CoreState V) → other v ≡ false → Kept A N 0 (pump A N v c) → Agree A N other c (settle A N v c)
+  settle_frame : (other : ℕ → Bool) (v : ℕ) (c : CoreState V) → other v ≡ false → CoreInvariant A N 0 (pump A N v c) → Agree A N other c (settle A N v c)
   settle_frame other v c f K = agree_then other c (pump A N v c) (settle A N v c) (pump_frame other v c f)
       (released_frame other v (pump A N v c) (c.engager v) (out_idle A N v (pump A N v c)) f (λ a q. (K.engager_held v a q).0))
 
   -- a delivery at v leaves every other shard's share
   pub message_frame : IsLawful A → WellFormed N → (other : ℕ → Bool) (a : ℕ) (x : V) (c : CoreState V) → other (N.head a) ≡ false
-      → c.token a ≡ Message x → Kept A N 0 c → Agree A N other c (step A N c (Deliver a))
+      → c.token a ≡ Message x → CoreInvariant A N 0 c → Agree A N other c (step A N c (Deliver a))
   message_frame L W other a x c f q K = subst (λ t. Agree A N other c (delivered A N a c t)) (sym q)
       (agree_then other c (arrive A N a x c) (settle A N (N.head a) (arrive A N a x c)) (arrive_frame other a x c f q)
       (settle_frame other (N.head a) (arrive A N a x c) f (head_pumped A N L W a x c q K)))
@@ -146,7 +146,7 @@ module _ {V : Type 0} (A : Algebra V) (N : Network) where
   }
 
   -- an acceptance on an arc out of v, likewise
-  pub signal_frame : IsLawful A → WellFormed N → (other : ℕ → Bool) (a : ℕ) (c : CoreState V) → other (N.tail a) ≡ false → c.token a ≡ Signal → Kept A N 0 c → Agree A N other c (step A N c (Accept a))
+  pub signal_frame : IsLawful A → WellFormed N → (other : ℕ → Bool) (a : ℕ) (c : CoreState V) → other (N.tail a) ≡ false → c.token a ≡ Signal → CoreInvariant A N 0 c → Agree A N other c (step A N c (Accept a))
   signal_frame L W other a c f q K = subst (λ t. Agree A N other c (accepted A N a c t)) (sym q) (by_arc a f q)
     where
       by_arc : (b : ℕ) → other (N.tail b) ≡ false → c.token b ≡ Signal → Agree A N other c (settle_tail A N b (N.tail b) (freed A N b c))

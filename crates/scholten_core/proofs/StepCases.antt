@@ -9,7 +9,7 @@ use Rattle.scholten_core.specs.Network.{Network, WellFormed}
 use Rattle.scholten_core.specs.Diffusion.{CoreState, is_message, is_signal, engaged_by, out_idle, pump, arrive, freed, released, settle, settle_tail, delivered, accepted, step, run_from}
 use Rattle.scholten_core.specs.Accounts.{is_delivery, is_acceptance}
 use Rattle.scholten_core.proofs.Basics.{put_tells, put-same}
-use Rattle.scholten_core.proofs.Kept.{Kept, pumped, head_real, arrive_kept, freed_kept, pump_kept, step_kept}
+use Rattle.scholten_core.proofs.CoreInvariant.{CoreInvariant, pumped, head_real, arrive_kept, freed_kept, pump_kept, step_kept}
 
 module _ {V : Type 0} (A : Algebra V) (N : Network) where
   -- A message arrives and the head of its arc settles; or a signal's arc gets idle and its tail
@@ -47,13 +47,13 @@ module _ {V : Type 0} (A : Algebra V) (N : Network) where
   step_cases P c e none arrives entry frees = counted_cases (λ d _ _. P d) c e none arrives entry frees
 
   -- what each event keeps, a run keeps
-  pub run_cases : IsLawful A → WellFormed N → (P : CoreState V → Type 0) → ((c : CoreState V) (e : Event) → Kept A N 0 c → P c → P (step A N c e))
-      → (c : CoreState V) (es : List Event) → Kept A N 0 c → P c → P (run_from A N c es)
+  pub run_cases : IsLawful A → WellFormed N → (P : CoreState V → Type 0) → ((c : CoreState V) (e : Event) → CoreInvariant A N 0 c → P c → P (step A N c e))
+      → (c : CoreState V) (es : List Event) → CoreInvariant A N 0 c → P c → P (run_from A N c es)
   run_cases L W P keeps c [] K p = p
   run_cases L W P keeps c (e ∷ es) K p = run_cases L W P keeps (step A N c e) es (step_kept A N L W c e K) (keeps c e K p)
 
   -- the vertex that settles has an engager
-  pub head_pumped : IsLawful A → WellFormed N → (a : ℕ) (x : V) (c : CoreState V) → c.token a ≡ Message x → Kept A N 0 c → Kept A N 0 (pump A N (N.head a) (arrive A N a x c))
+  pub head_pumped : IsLawful A → WellFormed N → (a : ℕ) (x : V) (c : CoreState V) → c.token a ≡ Message x → CoreInvariant A N 0 c → CoreInvariant A N 0 (pump A N (N.head a) (arrive A N a x c))
   head_pumped L W a x c q K =
       let e = engaged (c.engager (N.head a)) in
       pump_kept A N L W (N.head a) e.0 (arrive A N a x c) (head_real A N W 0 a c K (λ z. cc))
@@ -63,10 +63,10 @@ module _ {V : Type 0} (A : Algebra V) (N : Network) where
       engaged None = (a, refl)
       engaged (Some e) = (e, refl)
 
-  pub tail_real : (k : ℕ) (c : CoreState V) → c.token (suc k) ≡ Signal → Kept A N 0 c → N.tail (suc k) ≢ 0
+  pub tail_real : (k : ℕ) (c : CoreState V) → c.token (suc k) ≡ Signal → CoreInvariant A N 0 c → N.tail (suc k) ≢ 0
   tail_real k c q K z = let g = K.neutral_idle (suc k) (λ y. omega arith) (ap c.engager z ∙ K.env_neutral) in cc
 
-  pub tail_pumped : IsLawful A → WellFormed N → (k : ℕ) (c : CoreState V) → c.token (suc k) ≡ Signal → Kept A N 0 c → Kept A N 0 (pump A N (N.tail (suc k)) (freed A N (suc k) c))
+  pub tail_pumped : IsLawful A → WellFormed N → (k : ℕ) (c : CoreState V) → c.token (suc k) ≡ Signal → CoreInvariant A N 0 c → CoreInvariant A N 0 (pump A N (N.tail (suc k)) (freed A N (suc k) c))
   tail_pumped L W k c q K =
       let e = engaged (c.engager (N.tail (suc k))) refl in
       pump_kept A N L W (N.tail (suc k)) e.0 (freed A N (suc k) c) (tail_real k c q K) e.1 (freed_kept A N W (suc k) c q K)

@@ -8,7 +8,7 @@ use Rattle.scholten_core.specs.Network.{Network, WellFormed}
 use Rattle.scholten_core.specs.Diffusion.{CoreState, opening, state_after, pump, arrive, rest, released, freed, step, out_idle, answer_to, improves, better_of}
 use Rattle.scholten_core.proofs.Basics.{put_tells, sent_message}
 use Rattle.scholten_core.proofs.Walks.{AtMost}
-use Rattle.scholten_core.proofs.Kept.{Kept, pumped, head_real, AtMost_arrive, AtMost_arrived}
+use Rattle.scholten_core.proofs.CoreInvariant.{CoreInvariant, pumped, head_real, AtMost_arrive, AtMost_arrived}
 use Rattle.scholten_core.proofs.StepCases.{step_cases, run_cases, tail_real}
 use Rattle.scholten_core.proofs.Ended.{opening_kept}
 
@@ -60,7 +60,7 @@ module _ {V : Type 0} (A : Algebra V) (N : Network) where
   answer_silent (Some e) x q = cc
 
   -- the label that a message leaves at its head
-  arrived_trail : IsLawful A → WellFormed N → (a : ℕ) (x : V) (c : CoreState V) → c.token a ≡ Message x → Kept A N 0 c → Trails c →
+  arrived_trail : IsLawful A → WellFormed N → (a : ℕ) (x : V) (c : CoreState V) → c.token a ≡ Message x → CoreInvariant A N 0 c → Trails c →
       (z : V) → better_of A x (c.label (N.head a)) ≡ Some z → (p : List ℕ) × IsTrail (arrive A N a x c).label p (N.head a) z
   arrived_trail L W a x c q K T z e = elim (cases_Bool (improves A x (c.label (N.head a)))) [
     | inr f ↦ (let t = T.label (N.head a) z (sym (cond-false _ (Some x) (c.label (N.head a)) f) ∙ e) in
@@ -84,7 +84,7 @@ module _ {V : Type 0} (A : Algebra V) (N : Network) where
         ]))
   ]
 
-  arrive_trails : IsLawful A → WellFormed N → (a : ℕ) (x : V) (c : CoreState V) → c.token a ≡ Message x → Kept A N 0 c → Trails c → Trails (arrive A N a x c)
+  arrive_trails : IsLawful A → WellFormed N → (a : ℕ) (x : V) (c : CoreState V) → c.token a ≡ Message x → CoreInvariant A N 0 c → Trails c → Trails (arrive A N a x c)
   arrive_trails L W a x c q K T = record {
     label = λ u z e. elim (put_tells c.label (N.head a) (better_of A x (c.label (N.head a))) u) [
       | inl h ↦ (let t = arrived_trail L W a x c q K T z (sym h.1 ∙ e) in (t.0, subst (λ w. IsTrail (arrive A N a x c).label t.0 w z) (sym h.0) t.1))
@@ -123,7 +123,7 @@ module _ {V : Type 0} (A : Algebra V) (N : Network) where
   rest_trails : (v : ℕ) (c : CoreState V) → Trails c → Trails (rest A N v c)
   rest_trails v c T = released_trails v c (c.engager v) (out_idle A N v c) T
 
-  pub step_trails : IsLawful A → WellFormed N → (c : CoreState V) (e : Event) → Kept A N 0 c → Trails c → Trails (step A N c e)
+  pub step_trails : IsLawful A → WellFormed N → (c : CoreState V) (e : Event) → CoreInvariant A N 0 c → Trails c → Trails (step A N c e)
   step_trails L W c e K T = step_cases A N (λ d. Trails d) c e T
       (λ a x _ q. rest_trails (N.head a) (pump A N (N.head a) (arrive A N a x c))
       (pump_trails L (N.head a) (arrive A N a x c) (head_real A N W 0 a c K (λ z. cc)) (arrive_trails L W a x c q K T)))

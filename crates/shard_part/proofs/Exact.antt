@@ -6,7 +6,7 @@ use Rattle.path_algebra.specs.Algebra.{Algebra}
 use Rattle.scholten_core.specs.Network.{Network, WellFormed}
 use Rattle.scholten_core.specs.Diffusion.{CoreState, step, run_from}
 use Rattle.scholten_core.specs.Accounts.{Totals, count_sent, count_signalled, sent_total, delivered_total, signalled_total, accepted_total}
-use Rattle.scholten_core.proofs.Kept.{Kept as CoreKept, step_kept}
+use Rattle.scholten_core.proofs.CoreInvariant.{CoreInvariant, step_kept}
 use Rattle.shard_store.specs.Tallies.{counted_on, top}
 use Rattle.shard_part.specs.PartState.{PartData, state_in, event_of}
 use Rattle.shard_store.specs.Setup.{SetupData, network_of, place_in}
@@ -73,7 +73,7 @@ module _ {S V : Type 0} (meaning : S → Algebra V) where
   -- one part takes items, and what it did is what their events do
   pub moves : AllLawful meaning → (t : SetupData S) → WellFormed (network_of t)
       → (items : List (Item V)) (before after : List (PartData S V)) (p q : PartData S V) (mail : (ℕ → Item V → ℕ) → ℕ) (c : CoreState V) →
-      CoreKept (meaning t.diffusion.algebra) (network_of t) 0 c → p.setup ≡ t → Represents meaning t (before ++ p ∷ after) mail c
+      CoreInvariant (meaning t.diffusion.algebra) (network_of t) 0 c → p.setup ≡ t → Represents meaning t (before ++ p ∷ after) mail c
       → (T : HandledAll meaning p items q) → RepresentsMoved meaning t c items (before ++ q ∷ after) mail (done_by meaning items p q T)
   unfolding done_by
   moves L t W [] before after p q mail c K e H T = record { shown = subst (λ (u : PartData S V). Represents meaning t (before ++ u ∷ after) mail c) T H; did = refl }

@@ -10,7 +10,7 @@ use Rattle.scholten_core.specs.Diffusion.{CoreState, is_idle, pump, out_idle, ar
 use Rattle.scholten_core.specs.Shares.{Agree}
 use Rattle.shard_part.specs.Handling.{arrive_here, rest_here, settle_here, settle_tail_here, taken}
 use Rattle.scholten_core.proofs.Basics.{put_tells, put-at, put-other}
-use Rattle.scholten_core.proofs.Kept.{Kept, arrive_kept, freed_kept}
+use Rattle.scholten_core.proofs.CoreInvariant.{CoreInvariant, arrive_kept, freed_kept}
 use Rattle.scholten_core.proofs.StepCases.{held_pumped}
 use Rattle.scholten_core.proofs.Shares.{arrive_agree, pump_agree, freed_agree, out_idle_agree}
 
@@ -57,12 +57,12 @@ module _ {V : Type 0} (A : Algebra V) (N : Network) where
       (rest_here_agree mine v (pump A N v c) (pump A N v d) (c.engager v) (out_idle A N v (pump A N v c)) (λ e q. held_pumped A N L v c e (held e q)) P)
 
   pub message_here : Lawful A → WellFormed N → (mine : ℕ → Bool) (a : ℕ) (x : V) (c d : CoreState V) → mine (N.head a) ≡ true → c.token a ≡ Message x
-      → Kept A N 0 c → Agree A N mine c d → Agree A N mine (step A N c (Deliver a)) (taken A N (MessageOn a x) d)
+      → CoreInvariant A N 0 c → Agree A N mine c d → Agree A N mine (step A N c (Deliver a)) (taken A N (MessageOn a x) d)
   message_here L W mine a x c d m q K G = subst (λ t. Agree A N mine (delivered A N a c t) (taken A N (MessageOn a x) d)) (sym q)
       (settle_here_agree L mine (N.head a) (arrive A N a x c) (arrive_here A N a x d) m (λ e r. ((arrive_kept A N L W a x c q K).engager_held (N.head a) e r).0) (arrive_here_agree mine a x c d m q G))
 
   pub signal_here : Lawful A → WellFormed N → (mine : ℕ → Bool) (a : ℕ) (c d : CoreState V) → mine (N.tail a) ≡ true → c.token a ≡ Signal
-      → Kept A N 0 c → Agree A N mine c d → Agree A N mine (step A N c (Accept a)) (taken A N (SignalOn a) d)
+      → CoreInvariant A N 0 c → Agree A N mine c d → Agree A N mine (step A N c (Accept a)) (taken A N (SignalOn a) d)
   signal_here L W mine a c d m q K G = subst (λ t. Agree A N mine (accepted A N a c t) (taken A N (SignalOn a) d)) (sym q) (go a)
     where
       go : (k : ℕ) → Agree A N mine (settle_tail A N k (N.tail a) (freed A N a c)) (settle_tail_here A N k (N.tail a) (freed A N a d))

@@ -16,14 +16,14 @@ use Rattle.shard_part.specs.Weights.{in_flight, at_place}
 use Rattle.shard_store.specs.Outgoing.{outgoing, arcs_from}
 use Rattle.shard_part.specs.Handling.{made}
 use Rattle.scholten_core.proofs.Basics.{put-same, put-other, sum_add}
-use Rattle.scholten_core.proofs.Kept.{Kept, step_kept}
+use Rattle.scholten_core.proofs.CoreInvariant.{CoreInvariant, step_kept}
 use Rattle.scholten_core.proofs.Items.{at-nil, message_makes, signal_makes}
 use Rattle.shard_store.proofs.Totals.{sum_at, total_by_arc}
 use Rattle.road_graph.proofs.Lists.{not_in_empty, here_as, later, head_or_tail}
 
 module _ {V : Type 0} (A : Algebra V) (N : Network) where
   -- arcs past the last are idle
-  pub past_idle : WellFormed N → (c : CoreState V) → Kept A N 0 c → (b : ℕ) → suc N.arcs ≤ b → c.token b ≡ Idle
+  pub past_idle : WellFormed N → (c : CoreState V) → CoreInvariant A N 0 c → (b : ℕ) → suc N.arcs ≤ b → c.token b ≡ Idle
   past_idle W c K b h = elim (cases_eq (N.tail b) 0) [
     | inl e ↦ K.neutral_idle b (λ z. omega (arith, z, h)) (ap c.engager e ∙ K.env_neutral)
     | inr n ↦ absurd (let r = W.real b n in omega (arith, r, h))
@@ -98,7 +98,7 @@ module _ {V : Type 0} (A : Algebra V) (N : Network) where
   }
 
   module _ (place : ℕ → ℕ) where
-    pub message_weighs : Lawful A → WellFormed N → (a : ℕ) (x : V) (c : CoreState V) (h : ℕ → Item V → ℕ) → a < suc N.arcs → N.head a ≢ 0 → c.token a ≡ Message x → Kept A N 0 c →
+    pub message_weighs : Lawful A → WellFormed N → (a : ℕ) (x : V) (c : CoreState V) (h : ℕ → Item V → ℕ) → a < suc N.arcs → N.head a ≢ 0 → c.token a ≡ Message x → CoreInvariant A N 0 c →
         in_flight N place (step A N c (Deliver a)) h + at_place N place h (MessageOn a x)
         ≡ in_flight N place c h + total (at_place N place h) (item_of a (answer_to (c.engager (N.head a)))
         ++ settle_made A N (N.head a) (arrive A N a x c) (outgoing N (N.head a)))
@@ -114,7 +114,7 @@ module _ {V : Type 0} (A : Algebra V) (N : Network) where
         (subst (λ d. (b : ℕ) → suc N.arcs ≤ b → d.token b ≡ Idle) to (past_idle W (step A N c (Deliver a)) (step_kept A N L W c (Deliver a) K)))
         (ap (item_of a) q) M.0 M.1)
 
-    pub signal_weighs : Lawful A → WellFormed N → (k : ℕ) (c : CoreState V) (h : ℕ → Item V → ℕ) → suc k < suc N.arcs → N.tail (suc k) ≢ 0 → c.token (suc k) ≡ Signal → Kept A N 0 c →
+    pub signal_weighs : Lawful A → WellFormed N → (k : ℕ) (c : CoreState V) (h : ℕ → Item V → ℕ) → suc k < suc N.arcs → N.tail (suc k) ≢ 0 → c.token (suc k) ≡ Signal → CoreInvariant A N 0 c →
         in_flight N place (step A N c (Accept (suc k))) h + at_place N place h (SignalOn (suc k)) ≡ in_flight N place c h + total (at_place N place h) (made A N (SignalOn (suc k)) c)
     signal_weighs L W k c h lt tn q K =
         let M = signal_makes A N L W (suc k) c (outgoing N (N.tail (suc k))) q K (outgoing_is W (N.tail (suc k)) tn) in
@@ -124,7 +124,7 @@ module _ {V : Type 0} (A : Algebra V) (N : Network) where
         (subst (λ d. (b : ℕ) → suc N.arcs ≤ b → d.token b ≡ Idle) to (past_idle W (step A N c (Accept (suc k))) (step_kept A N L W c (Accept (suc k)) K)))
         (ap (item_of (suc k)) q) M.0 M.1)
 
-    pub last_weighs : Lawful A → WellFormed N → (c : CoreState V) (h : ℕ → Item V → ℕ) → c.token 0 ≡ Signal → Kept A N 0 c →
+    pub last_weighs : Lawful A → WellFormed N → (c : CoreState V) (h : ℕ → Item V → ℕ) → c.token 0 ≡ Signal → CoreInvariant A N 0 c →
         in_flight N place (step A N c (Accept 0)) h + at_place N place h (SignalOn 0) ≡ in_flight N place c h + total (at_place N place h) (made A N (SignalOn 0) c)
     last_weighs L W c h q K =
         let to : step A N c (Accept 0) ≡ freed A N 0 c = ap (accepted A N 0 c) q in

@@ -17,7 +17,7 @@ use Rattle.scholten_core.specs.Diffusion.{CoreState, opening, step, run_from, im
 use Rattle.scholten_core.specs.Items.{item_of}
 use Rattle.scholten_core.specs.Shares.{Agree}
 use Rattle.scholten_core.proofs.Basics.{sum_term, one_if-most}
-use Rattle.scholten_core.proofs.Kept.{Kept, step_kept}
+use Rattle.scholten_core.proofs.CoreInvariant.{CoreInvariant, step_kept}
 use Rattle.scholten_core.proofs.Ended.{opening_kept}
 use Rattle.scholten_core.proofs.EveryRun.{best_first_most}
 use Rattle.scholten_core.proofs.Items.{token_told}
@@ -99,7 +99,7 @@ outs_light h k (o ∷ os) e =
     let b = outs_light h (suc k) os (λ j. ap (λ z. total (h z) (get_or os j [])) (let z : suc k + j ≡ k + suc j = omega arith in z) ∙ e (suc j)) in omega (arith, a, b)
 
 -- one part that has all items under way, in a state that events lead to
-module _ {S V : Type 0} (A : Algebra V) (N : Network) (place : ℕ → ℕ) (L : Lawful A) (W : WellFormed N) (c : CoreState V) (p : PartData S V) (K : Kept A N 0 c)
+module _ {S V : Type 0} (A : Algebra V) (N : Network) (place : ℕ → ℕ) (L : Lawful A) (W : WellFormed N) (c : CoreState V) (p : PartData S V) (K : CoreInvariant A N 0 c)
     (all : (v : ℕ) → place v ≡ p.shard) (own : OwnOutboxIsEmpty p) (weighs : (h : ℕ → Item V → ℕ) → part_weight h p ≡ in_flight N place c h) where
   -- each message waits in its queue
   waits_here : (b : ℕ) (y : V) → c.token b ≡ Message y → 0 < total (marks A p.shard (MessageOn b y) p.shard) p.queue
@@ -138,7 +138,7 @@ module _ {S V : Type 0} (A : Algebra V) (N : Network) (place : ℕ → ℕ) (L :
 
 module _ {S V : Type 0} (meaning : S → Algebra V) (L : AllLawful meaning) (t : SetupData S) (W : WellFormed (network_of t)) (o : t.order ≡ BestFirst) where
   -- the same of items, one after the other
-  pub all_best : (items : List (Item V)) (p q : PartData S V) (c : CoreState V) → Kept (meaning t.diffusion.algebra) (network_of t) 0 c → p.setup ≡ t
+  pub all_best : (items : List (Item V)) (p q : PartData S V) (c : CoreState V) → CoreInvariant (meaning t.diffusion.algebra) (network_of t) 0 c → p.setup ≡ t
       → HoldsTables (meaning t.diffusion.algebra) (network_of t) (place_in t) c p → ((h : ℕ → Item V → ℕ) → part_weight h p ≡ in_flight (network_of t) (place_in t) c h)
       → ((v : ℕ) → place_in t v ≡ p.shard) → OwnOutboxIsEmpty p → HandledAll meaning p items q → IsBestFirst (meaning t.diffusion.algebra) (network_of t) c (map event_of items)
   all_best [] p q c K e G weighs all own T = tt

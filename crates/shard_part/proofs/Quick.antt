@@ -10,7 +10,7 @@ use Rattle.scholten_core.specs.Network.{Network, WellFormed}
 use Rattle.scholten_core.specs.Diffusion.{CoreState, is_due, out_idle, pump, freed, better_of}
 use Rattle.shard_part.specs.Handling.{arrive_here, rest_here, settle_here, settle_tail_here, taken}
 use Rattle.scholten_core.proofs.Basics.{put-same, put-other}
-use Rattle.scholten_core.proofs.Kept.{pumped}
+use Rattle.scholten_core.proofs.CoreInvariant.{pumped}
 use Rattle.scholten_core.proofs.Quick.{HasTold, told_not_due}
 
 module _ {V : Type 0} (A : Algebra V) (N : Network) where

@@ -15,7 +15,7 @@ use Rattle.shard_store.specs.Totals.{total, is}
 use Rattle.shard_part.specs.Weights.{outs_weight, part_weight, at_place}
 use Rattle.shard_part.specs.Represents.{HoldsShareIn, HoldsTables}
 use Rattle.shard_store.specs.Capacities.{touches, queue_bound}
-use Rattle.scholten_core.proofs.Kept.{Kept}
+use Rattle.scholten_core.proofs.CoreInvariant.{CoreInvariant}
 use Rattle.shard_part.proofs.Showing.{is_self}
 use Rattle.scholten_core.proofs.Basics.{sum_most}
 
@@ -97,7 +97,7 @@ module _ {S V : Type 0} (A : Algebra V) (N : Network) (place : ℕ → ℕ) wher
       here Signal = let q = is_self a in omega (arith, q)
 
   -- a message's arc engages nothing here, a signal's arc is busy here
-  pub message_free : (c : CoreState V) (p : PartData S V) (a : ℕ) (x : V) → Kept A N 0 c → HoldsTables A N place c p → c.token a ≡ Message x
+  pub message_free : (c : CoreState V) (p : PartData S V) (a : ℕ) (x : V) → CoreInvariant A N 0 c → HoldsTables A N place c p → c.token a ≡ Message x
       → mine place p.shard (N.head a) ≡ true → (state_in p).engager (N.head a) ≢ Some a
   message_free c p a x K H q m e = let h = (K.engager_held (N.head a) a (sym (H.agree.engager (N.head a) m) ∙ e)).0 in let g = sym q ∙ h in cc
 

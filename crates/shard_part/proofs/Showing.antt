@@ -13,7 +13,7 @@ use Rattle.shard_store.specs.Totals.{total, is}
 use Rattle.shard_part.specs.Weights.{part_weight, mail_weight, All}
 use Rattle.shard_part.specs.Handling.{HandledItemIn, HandledItem, HandledAll}
 use Rattle.shard_part.specs.Represents.{AllEnabled, HoldsTables, HoldsShareIn, HoldsShare, RepresentsIn, Represents}
-use Rattle.scholten_core.proofs.Kept.{Kept, step_kept}
+use Rattle.scholten_core.proofs.CoreInvariant.{CoreInvariant, step_kept}
 use Rattle.shard_store.proofs.Totals.{total_append}
 use Rattle.shard_part.proofs.Routed.{outs_none}
 use Rattle.shard_part.proofs.TakenIsEvent.{handled_event}
@@ -48,7 +48,7 @@ module _ {S V : Type 0} (A : Algebra V) (N : Network) (place : ℕ → ℕ) wher
     weighs = λ h. let w = H.weighs h in let s = total_append (part_weight h) before (p ∷ after) in omega (arith, w, s);
   }
 
-  pub handled_shown : Lawful A → WellFormed N → (before after : List (PartData S V)) (p q : PartData S V) (i : Item V) (mail : (ℕ → Item V → ℕ) → ℕ) (c : CoreState V) → Kept A N 0 c →
+  pub handled_shown : Lawful A → WellFormed N → (before after : List (PartData S V)) (p q : PartData S V) (i : Item V) (mail : (ℕ → Item V → ℕ) → ℕ) (c : CoreState V) → CoreInvariant A N 0 c →
       RepresentsIn A N place (before ++ p ∷ after) mail c → HandledItemIn A N place p i q →
       (is_enabled c (event_of i) ≡ true) × RepresentsIn A N place (before ++ q ∷ after) mail (step A N c (event_of i))
   handled_shown L W before after p q i mail c K H T =
@@ -135,7 +135,7 @@ module _ {S V : Type 0} (meaning : S → Algebra V) where
   -- ALL PARTS AND MAILBOXES: one part takes one item
   pub handled_shows : AllLawful → (t : SetupData S) → WellFormed (network_of t) →
       (before after : List (PartData S V)) (p q : PartData S V) (i : Item V) (mail : (ℕ → Item V → ℕ) → ℕ) (c : CoreState V) →
-      Kept (meaning t.diffusion.algebra) (network_of t) 0 c → Represents meaning t (before ++ p ∷ after) mail c → HandledItem meaning p i q →
+      CoreInvariant (meaning t.diffusion.algebra) (network_of t) 0 c → Represents meaning t (before ++ p ∷ after) mail c → HandledItem meaning p i q →
       (is_enabled c (event_of i) ≡ true) × Represents meaning t (before ++ q ∷ after) mail (step (meaning t.diffusion.algebra) (network_of t) c (event_of i))
   handled_shows L t W before after p q i mail c K H T =
       let all = all_parts (λ (r : PartData S V). r.setup ≡ t) before (p ∷ after) H.same in
@@ -144,7 +144,7 @@ module _ {S V : Type 0} (meaning : S → Algebra V) where
 
   -- ONE PART ALONE: any list of items, for every kept state of which it holds its share
   pub handled_all : AllLawful → (is : List (Item V)) (p q : PartData S V) (c : CoreState V) → WellFormed (network_of p.setup)
-      → Kept (meaning p.setup.diffusion.algebra) (network_of p.setup) 0 c → HoldsShare meaning c p → HandledAll meaning p is q →
+      → CoreInvariant (meaning p.setup.diffusion.algebra) (network_of p.setup) 0 c → HoldsShare meaning c p → HandledAll meaning p is q →
       (d : CoreState V) × HoldsShare meaning d q × (q.setup ≡ p.setup) × AllEnabled meaning p.setup c is d
   handled_all L [] p q c W K H e = (c, subst (HoldsShare meaning c) e H, ap (λ r. r.setup) (sym e), refl)
   handled_all L (i ∷ is) p q c W K H (m, T, rest) =
@@ -152,7 +152,7 @@ module _ {S V : Type 0} (meaning : S → Algebra V) where
       let c' : CoreState V = step (meaning p.setup.diffusion.algebra) (network_of p.setup) c (event_of i) in
       let s = sym T.setup in
       let W' = subst (λ t. WellFormed (network_of t)) s W in
-      let K' = subst (λ t. Kept (meaning t.diffusion.algebra) (network_of t) 0
+      let K' = subst (λ t. CoreInvariant (meaning t.diffusion.algebra) (network_of t) 0
       (step (meaning p.setup.diffusion.algebra) (network_of p.setup) c (event_of i))) s
       (step_kept (meaning p.setup.diffusion.algebra) (network_of p.setup) (L p.setup.diffusion.algebra) W c (event_of i) K) in
       let H' : HoldsShare meaning (step (meaning p.setup.diffusion.algebra) (network_of p.setup) c (event_of i)) m = subst

@@ -14,7 +14,7 @@ use Rattle.scholten_core.specs.Diffusion.{CoreState, step, run_from, opening, st
 use Rattle.scholten_core.specs.Accounts.{count_sent, count_signalled, is_delivery, is_acceptance, sent_total, delivered_total, signalled_total, accepted_total}
 use Rattle.scholten_core.specs.Sums.{sum_below, one_if}
 use Rattle.scholten_core.specs.Items.{item_of}
-use Rattle.scholten_core.proofs.Kept.{Kept, step_kept, run_kept}
+use Rattle.scholten_core.proofs.CoreInvariant.{CoreInvariant, step_kept, run_kept}
 use Rattle.scholten_core.proofs.Ended.{opening_kept}
 use Rattle.scholten_core.proofs.Counts.{accounts}
 use Rattle.shard_store.specs.Tallies.{counted_on, top}
@@ -71,7 +71,7 @@ module _ {S V : Type 0} (A : Algebra V) (N : Network) (place : ℕ → ℕ) wher
     pub delivered : message_weight i ≡ one_if (is_delivery A N c (event_of i))
     pub accepted : signal_weight i ≡ one_if (is_acceptance A N c (event_of i))
 
-  pub counts : Lawful A → WellFormed N → (c : CoreState V) (p : PartData S V) (i : Item V) (q : PartData S V) → Kept A N 0 c → HoldsShareIn A N place c p → HandledItemIn A N place p i q → Counts c i p
+  pub counts : Lawful A → WellFormed N → (c : CoreState V) (p : PartData S V) (i : Item V) (q : PartData S V) → CoreInvariant A N 0 c → HoldsShareIn A N place c p → HandledItemIn A N place p i q → Counts c i p
   counts L W c p i q K H T =
       let E = handled_event A N place L W c p i q K H T in
       let R = accounts A N L W c (event_of i ∷ []) K in
@@ -107,7 +107,7 @@ module _ {S V : Type 0} (meaning : S → Algebra V) where
 
   pub runs : (t : SetupData S) → Lawful (meaning t.diffusion.algebra) → WellFormed (network_of t)
       → (items : List (Item V)) (p q : PartData S V) (c : CoreState V) → p.setup ≡ t → IsTallied p
-      → Kept (meaning t.diffusion.algebra) (network_of t) 0 c →
+      → CoreInvariant (meaning t.diffusion.algebra) (network_of t) 0 c →
       HoldsShareIn (meaning t.diffusion.algebra) (network_of t) (place_in t) c p → HandledAll meaning p items q → Runs t c items p q
   runs t L W [] p q c e y K H s = subst (Runs t c [] p) s (record {
     enabled = refl;

@@ -21,7 +21,7 @@ use Rattle.shard_part.specs.Weights.{in_flight, at_place, channels_weight, chann
 use Rattle.shard_store.specs.Outgoing.{outgoing}
 use Rattle.shard_part.specs.Handling.{taken, made, arrive_here, HandledItemIn}
 use Rattle.shard_part.specs.Represents.{HoldsTables, HoldsShareIn}
-use Rattle.scholten_core.proofs.Kept.{Kept, head_real}
+use Rattle.scholten_core.proofs.CoreInvariant.{CoreInvariant, head_real}
 use Rattle.scholten_core.proofs.Shares.{agree_then, message_frame, signal_frame, freed_agree}
 use Rattle.shard_part.proofs.Here.{arrive_here_agree, message_here, signal_here}
 use Rattle.scholten_core.proofs.Items.{settle_made_agree, token_told, token_back}
@@ -95,7 +95,7 @@ module _ {V : Type 0} (A : Algebra V) (N : Network) (place : ℕ → ℕ) where
   other_shard : (s r v : ℕ) → place v ≡ s → r ≢ s → mine place r v ≡ false
   other_shard s r v e n = ne_eqb (place v) r (λ q. n (sym q ∙ e))
 
-  pub event_made : Lawful A → WellFormed N → (s : ℕ) (c d : CoreState V) (i : Item V) → Kept A N 0 c → Agree A N (mine place s) c d → Stands c s i → Event1 s c d i
+  pub event_made : Lawful A → WellFormed N → (s : ℕ) (c d : CoreState V) (i : Item V) → CoreInvariant A N 0 c → Agree A N (mine place s) c d → Stands c s i → Event1 s c d i
   event_made L W s c d (MessageOn a x) K G T =
       let q : c.token a ≡ Message x = token_told A N a x [] (c.token a) T.token in
       let m : mine place s (N.head a) ≡ true = eq-eqb (place (N.head a)) s T.here in
@@ -157,7 +157,7 @@ module _ {S V : Type 0} (A : Algebra V) (N : Network) (place : ℕ → ℕ) wher
     pub others : (r : PartData S V) → r.shard ≢ p.shard → HoldsTables A N place c r → HoldsTables A N place (step A N c (event_of i)) r
     pub weighs : (h : ℕ → Item V → ℕ) → part_weight h q + in_flight N place c h ≡ part_weight h p + in_flight N place (step A N c (event_of i)) h
 
-  pub handled_event : Lawful A → WellFormed N → (c : CoreState V) (p : PartData S V) (i : Item V) (q : PartData S V) → Kept A N 0 c
+  pub handled_event : Lawful A → WellFormed N → (c : CoreState V) (p : PartData S V) (i : Item V) (q : PartData S V) → CoreInvariant A N 0 c
       → HoldsShareIn A N place c p → HandledItemIn A N place p i q → TakenEvent c p i q
   handled_event L W c p i q K H T =
       let F = item_stands L c p i T.rest H T.left in

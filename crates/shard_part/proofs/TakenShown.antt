@@ -8,7 +8,7 @@ use Rattle.scholten_core.specs.declared.event.Event.{Event}
 use Rattle.path_algebra.specs.Algebra.{Algebra}
 use Rattle.scholten_core.specs.Network.{WellFormed}
 use Rattle.scholten_core.specs.Diffusion.{CoreState, step, run_from, opening, state_after, count_enabled, is_enabled}
-use Rattle.scholten_core.proofs.Kept.{Kept, step_kept, run_kept}
+use Rattle.scholten_core.proofs.CoreInvariant.{CoreInvariant, step_kept, run_kept}
 use Rattle.scholten_core.proofs.Ended.{opening_kept}
 use Rattle.shard_part.specs.PartState.{PartData, event_of}
 use Rattle.shard_store.specs.Setup.{SetupData, network_of}
@@ -21,7 +21,7 @@ use Rattle.shard_part.proofs.TakenCounts.{run_append}
 module _ {S V : Type 0} (meaning : S → Algebra V) where
   shows_all : AllLawful meaning → (t : SetupData S) → WellFormed (network_of t)
       → (items : List (Item V)) (before after : List (PartData S V)) (p q : PartData S V) (mail : (ℕ → Item V → ℕ) → ℕ) (c : CoreState V) →
-      Kept (meaning t.diffusion.algebra) (network_of t) 0 c → Represents meaning t (before ++ p ∷ after) mail c → HandledAll meaning p items q →
+      CoreInvariant (meaning t.diffusion.algebra) (network_of t) 0 c → Represents meaning t (before ++ p ∷ after) mail c → HandledAll meaning p items q →
       (count_enabled (meaning t.diffusion.algebra) (network_of t) c (map event_of items) ≡ length items)
       × Represents meaning t (before ++ q ∷ after) mail (run_from (meaning t.diffusion.algebra) (network_of t) c (map event_of items))
   shows_all L t W [] before after p q mail c K H e = (refl, subst (λ (u : PartData S V). Represents meaning t (before ++ u ∷ after) mail c) e H)

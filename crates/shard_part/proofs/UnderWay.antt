@@ -10,7 +10,7 @@ use Rattle.road_graph.specs.GraphData.{HasArc}
 use Rattle.scholten_core.specs.Network.{WellFormed, Network}
 use Rattle.scholten_core.specs.Diffusion.{CoreState, is_idle, state_after, is_enabled, is_message, is_signal, HasEnded, IsQuiet}
 use Rattle.scholten_core.specs.Items.{item_arc, item_of}
-use Rattle.scholten_core.proofs.Kept.{Kept as CoreKept}
+use Rattle.scholten_core.proofs.CoreInvariant.{CoreInvariant}
 use Rattle.scholten_core.proofs.Walks.{walk_value_is_value}
 use Rattle.shard_part.specs.PartState.{PartData, token_if, maker_of}
 use Rattle.shard_store.specs.Setup.{SetupData, network_of, place_in}
@@ -59,7 +59,7 @@ entry_place t ne = go t.diffusion.source ne
     go (suc s) n = ap (λ z. get_or t.plan.list z 0) (let e : suc s - 1 ≡ s = omega arith in e)
 
 module _ {S V : Type 0} (meaning : S → Algebra V) (p : PartData S V) (L : Lawful (meaning p.setup.diffusion.algebra))
-    (W : WellFormed (network_of p.setup)) (c : CoreState V) (K : CoreKept (meaning p.setup.diffusion.algebra) (network_of p.setup) 0 c) where
+    (W : WellFormed (network_of p.setup)) (c : CoreState V) (K : CoreInvariant (meaning p.setup.diffusion.algebra) (network_of p.setup) 0 c) where
   abbrev Share : List (Item V) → Type 0
   Share xs = HoldsShareIn (meaning p.setup.diffusion.algebra) (network_of p.setup) (place_in p.setup) c (record p { queue = xs })
 

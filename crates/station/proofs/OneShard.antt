@@ -15,7 +15,7 @@ use Rattle.scholten_core.proofs.Basics.{sum_ones}
 use Rattle.scholten_core.proofs.Counts.{never_more}
 use Rattle.scholten_core.proofs.Ended.{opening_kept}
 use Rattle.scholten_core.proofs.EveryRun.{best_first_most}
-use Rattle.scholten_core.proofs.Kept.{run_kept}
+use Rattle.scholten_core.proofs.CoreInvariant.{run_kept}
 use Rattle.scholten_core.proofs.Networks.{well_formed}
 use Rattle.shard_store.specs.Setup.{SetupData, network_of, place_in, IsPlanned}
 use Rattle.shard_store.specs.Totals.{is}

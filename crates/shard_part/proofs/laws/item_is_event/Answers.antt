@@ -2,7 +2,7 @@ use Rattle.shard_store.specs.Setup.{network_of}
 use Rattle.scholten_core.specs.Diffusion.{opening}
 use Rattle.shard_part.specs.Represents.{core_of}
 use Rattle.scholten_core.proofs.Ended.{opening_kept}
-use Rattle.scholten_core.proofs.Kept.{run_kept}
+use Rattle.scholten_core.proofs.CoreInvariant.{run_kept}
 use Rattle.shard_part.proofs.Showing.{handled_shows}
 use Rattle.shard_part.proofs.laws.item_is_event.Goals as goal
 

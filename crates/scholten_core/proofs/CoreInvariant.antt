@@ -14,7 +14,7 @@ use Rattle.scholten_core.proofs.Basics.{put_tells, put-at, put-same, put-other, 
 
 module _ {V : Type 0} (A : Algebra V) (N : Network) where
   -- what holds between events at e = 0, and while the vertex e has still to pump
-  pub record Kept (e : ℕ) (c : CoreState V) : Type 0 where
+  pub record CoreInvariant (e : ℕ) (c : CoreState V) : Type 0 where
     pub label_walk : (v : ℕ) (x : V) → c.label v ≡ Some x → IsValueAt A N v x
     pub message_walk : (b : ℕ) (x : V) → c.token b ≡ Message x → IsValueAt A N (N.head b) x
     pub entry_origin : (x : V) → c.token 0 ≡ Message x → x ≡ A.origin
@@ -47,7 +47,7 @@ module _ {V : Type 0} (A : Algebra V) (N : Network) where
     | inr h ↦ inr (pumped_token_not v c b h.0, pumped_told_not v c b h.0, h.1)
   ]
 
-  pub pump_kept : IsLawful A → WellFormed N → (v a : ℕ) (c : CoreState V) → v ≢ 0 → c.engager v ≡ Some a → Kept v c → Kept 0 (pump A N v c)
+  pub pump_kept : IsLawful A → WellFormed N → (v a : ℕ) (c : CoreState V) → v ≢ 0 → c.engager v ≡ Some a → CoreInvariant v c → CoreInvariant 0 (pump A N v c)
   pump_kept L W v a c vn en K = record {
     label_walk = K.label_walk;
     message_walk = λ b y q. elim (pumped L v c b) [
@@ -110,13 +110,13 @@ module _ {V : Type 0} (A : Algebra V) (N : Network) where
   answer_cases (Some e) = inr (e, refl, refl)
 
   -- an arc that carries something has a tail that is engaged, or is the environment's
-  pub head_real : WellFormed N → (e a : ℕ) (c : CoreState V) → Kept e c → c.token a ≢ Idle → N.head a ≢ 0
+  pub head_real : WellFormed N → (e a : ℕ) (c : CoreState V) → CoreInvariant e c → c.token a ≢ Idle → N.head a ≢ 0
   head_real W e a c K q = elim (cases_eq a 0) [
     | inl z ↦ λ h. W.source_in (sym W.head_zero ∙ ap N.head (sym z) ∙ h)
     | inr nz ↦ W.head_in a (λ h. q (K.neutral_idle a nz (ap c.engager h ∙ K.env_neutral)))
   ]
 
-  pub arrive_kept : IsLawful A → WellFormed N → (a : ℕ) (x : V) (c : CoreState V) → c.token a ≡ Message x → Kept 0 c → Kept (N.head a) (arrive A N a x c)
+  pub arrive_kept : IsLawful A → WellFormed N → (a : ℕ) (x : V) (c : CoreState V) → c.token a ≡ Message x → CoreInvariant 0 c → CoreInvariant (N.head a) (arrive A N a x c)
   arrive_kept L W a x c q K =
       let v = N.head a in
       let t = better_tells A N L x (c.label (N.head a)) in
@@ -185,7 +185,7 @@ module _ {V : Type 0} (A : Algebra V) (N : Network) where
         ];
       }
 
-  rest_kept_at : WellFormed N → (v : ℕ) (c : CoreState V) (e : ℕ) → c.engager v ≡ Some e → out_idle A N v c ≡ true → Kept 0 c → Kept 0 (released A N v c (Some e) true)
+  rest_kept_at : WellFormed N → (v : ℕ) (c : CoreState V) (e : ℕ) → c.engager v ≡ Some e → out_idle A N v c ≡ true → CoreInvariant 0 c → CoreInvariant 0 (released A N v c (Some e) true)
   rest_kept_at W v c e en out K =
       let held = K.engager_held v e en in
       let token = λ (b : ℕ). put_tells c.token e Signal b in
@@ -221,15 +221,15 @@ module _ {V : Type 0} (A : Algebra V) (N : Network) where
         ];
       }
 
-  pub rest_kept : WellFormed N → (v : ℕ) (c : CoreState V) → Kept 0 c → Kept 0 (rest A N v c)
+  pub rest_kept : WellFormed N → (v : ℕ) (c : CoreState V) → CoreInvariant 0 c → CoreInvariant 0 (rest A N v c)
   rest_kept W v c K = go (c.engager v) (out_idle A N v c) refl refl
     where
-      go : (o : Option ℕ) (t : Bool) → c.engager v ≡ o → out_idle A N v c ≡ t → Kept 0 (released A N v c o t)
+      go : (o : Option ℕ) (t : Bool) → c.engager v ≡ o → out_idle A N v c ≡ t → CoreInvariant 0 (released A N v c o t)
       go None t p q = K
       go (Some e) false p q = K
       go (Some e) true p q = rest_kept_at W v c e p q K
 
-  pub freed_kept : WellFormed N → (a : ℕ) (c : CoreState V) → c.token a ≡ Signal → Kept 0 c → Kept (N.tail a) (freed A N a c)
+  pub freed_kept : WellFormed N → (a : ℕ) (c : CoreState V) → c.token a ≡ Signal → CoreInvariant 0 c → CoreInvariant (N.tail a) (freed A N a c)
   freed_kept W a c s K =
       let token = λ (b : ℕ). put_tells c.token a Idle b in
       record {
@@ -251,14 +251,14 @@ module _ {V : Type 0} (A : Algebra V) (N : Network) where
         held_engager = λ b q. elim (token b) [ inl h ↦ absurd (let g = h.1 in cc) | inr h ↦ K.held_engager b (sym h.1 ∙ q) ];
       }
 
-  pub settle_kept : IsLawful A → WellFormed N → (v a : ℕ) (c : CoreState V) → v ≢ 0 → c.engager v ≡ Some a → Kept v c → Kept 0 (settle A N v c)
+  pub settle_kept : IsLawful A → WellFormed N → (v a : ℕ) (c : CoreState V) → v ≢ 0 → c.engager v ≡ Some a → CoreInvariant v c → CoreInvariant 0 (settle A N v c)
   settle_kept L W v a c vn en K = rest_kept W v (pump A N v c) (pump_kept L W v a c vn en K)
 
   engaged_by_some : (o : Option ℕ) (a : ℕ) → (e : ℕ) × (engaged_by o a ≡ Some e)
   engaged_by_some None a = (a, refl)
   engaged_by_some (Some e) a = (e, refl)
 
-  pub deliver_kept : IsLawful A → WellFormed N → (a : ℕ) (c : CoreState V) (t : Token V) → c.token a ≡ t → Kept 0 c → Kept 0 (delivered A N a c t)
+  pub deliver_kept : IsLawful A → WellFormed N → (a : ℕ) (c : CoreState V) (t : Token V) → c.token a ≡ t → CoreInvariant 0 c → CoreInvariant 0 (delivered A N a c t)
   deliver_kept L W a c Idle q K = K
   deliver_kept L W a c (Message x) q K =
       let e = engaged_by_some (c.engager (N.head a)) a in
@@ -267,29 +267,29 @@ module _ {V : Type 0} (A : Algebra V) (N : Network) where
   deliver_kept L W a c Held q K = K
   deliver_kept L W a c Signal q K = K
 
-  tail_engaged : (a : ℕ) (c : CoreState V) → Kept 0 c → a ≢ 0 → (c.token a ≡ Idle → ⊥) → (e : ℕ) × (c.engager (N.tail a) ≡ Some e)
+  tail_engaged : (a : ℕ) (c : CoreState V) → CoreInvariant 0 c → a ≢ 0 → (c.token a ≡ Idle → ⊥) → (e : ℕ) × (c.engager (N.tail a) ≡ Some e)
   tail_engaged a c K nz q = go (c.engager (N.tail a)) refl
     where
       go : (o : Option ℕ) → c.engager (N.tail a) ≡ o → (e : ℕ) × (o ≡ Some e)
       go None h = absurd (q (K.neutral_idle a nz h))
       go (Some e) h = (e, refl)
 
-  settle_tail_kept : IsLawful A → WellFormed N → (a : ℕ) (c : CoreState V) → c.token a ≡ Signal → Kept 0 c → Kept 0 (settle_tail A N a (N.tail a) (freed A N a c))
-  settle_tail_kept L W zero c q K = subst (λ v. Kept v (freed A N 0 c)) W.tail_zero (freed_kept W 0 c q K)
+  settle_tail_kept : IsLawful A → WellFormed N → (a : ℕ) (c : CoreState V) → c.token a ≡ Signal → CoreInvariant 0 c → CoreInvariant 0 (settle_tail A N a (N.tail a) (freed A N a c))
+  settle_tail_kept L W zero c q K = subst (λ v. CoreInvariant v (freed A N 0 c)) W.tail_zero (freed_kept W 0 c q K)
   settle_tail_kept L W (suc a) c q K =
       let e = tail_engaged (suc a) c K (λ z. omega arith) (λ z. cc) in
       settle_kept L W (N.tail (suc a)) e.0 (freed A N (suc a) c) (λ z. let g = ap c.engager z in let j = K.env_neutral in let k = e.1 in cc) e.1 (freed_kept W (suc a) c q K)
 
-  pub accept_kept : IsLawful A → WellFormed N → (a : ℕ) (c : CoreState V) (t : Token V) → c.token a ≡ t → Kept 0 c → Kept 0 (accepted A N a c t)
+  pub accept_kept : IsLawful A → WellFormed N → (a : ℕ) (c : CoreState V) (t : Token V) → c.token a ≡ t → CoreInvariant 0 c → CoreInvariant 0 (accepted A N a c t)
   accept_kept L W a c Idle q K = K
   accept_kept L W a c (Message x) q K = K
   accept_kept L W a c Held q K = K
   accept_kept L W a c Signal q K = settle_tail_kept L W a c q K
 
-  pub step_kept : IsLawful A → WellFormed N → (c : CoreState V) (e : Event) → Kept 0 c → Kept 0 (step A N c e)
+  pub step_kept : IsLawful A → WellFormed N → (c : CoreState V) (e : Event) → CoreInvariant 0 c → CoreInvariant 0 (step A N c e)
   step_kept L W c (Deliver a) K = deliver_kept L W a c (c.token a) refl K
   step_kept L W c (Accept a) K = accept_kept L W a c (c.token a) refl K
 
-  pub run_kept : IsLawful A → WellFormed N → (c : CoreState V) (es : List Event) → Kept 0 c → Kept 0 (run_from A N c es)
+  pub run_kept : IsLawful A → WellFormed N → (c : CoreState V) (es : List Event) → CoreInvariant 0 c → CoreInvariant 0 (run_from A N c es)
   run_kept L W c [] K = K
   run_kept L W c (e ∷ es) K = run_kept L W (step A N c e) es (step_kept L W c e K)

@@ -224,17 +224,30 @@ static uint64_t routes_on(struct diffuse_graph *graph, uint32_t further) {
     return sum;
 }
 
-/* The least time of near routes, of nine runs after the first, which makes the lists. */
-static clock_t near_time(struct diffuse_graph *graph) {
-    clock_t least = 0;
-    for (int run = 0; run < 10; run++) {
-        clock_t before = clock();
-        routes_on(graph, 2);
-        clock_t took = clock() - before;
-        if (run == 1 || (run > 1 && took < least)) least = took;
-    }
-    return least;
+/* The processor time that work on a graph takes. */
+typedef void work_on(struct diffuse_graph *);
+static clock_t time_of(work_on *work, struct diffuse_graph *graph) {
+    clock_t before = clock();
+    work(graph);
+    return clock() - before;
 }
+
+/* How many times longer work by factors may take than by searches: without a search first it takes 20 times as long and more. */
+enum { SLOWER = 5 };
+
+/* Reports work that takes too long by factors, by the least times of 30 runs. The two take turns, so that what else the machine
+   does slows both alike; the first run makes lists. */
+static void compare_times(const char *name, work_on *work, struct diffuse_graph *searched, struct diffuse_graph *factored) {
+    clock_t by_search = 0, by_factors = 0;
+    for (int run = 0; run <= 30; run++) {
+        clock_t search = time_of(work, searched), substitution = time_of(work, factored);
+        if (run <= 1 || search < by_search) by_search = search;
+        if (run <= 1 || substitution < by_factors) by_factors = substitution;
+    }
+    if (by_factors > SLOWER * by_search) printf("slower %s: %ld clocks, and %ld by searches\n", name, (long)by_factors, (long)by_search);
+}
+
+static void near_routes(struct diffuse_graph *graph) { routes_on(graph, 2); }
 
 /* A tree within a limit. */
 struct lists {
@@ -250,16 +263,8 @@ static void tree_within(struct diffuse_graph *graph, uint64_t limit, struct list
         printf("no tree within %lu\n", (unsigned long)limit);
 }
 
-/* The least time of ten small trees, of some runs. */
-static clock_t small_tree_time(struct diffuse_graph *graph) {
-    clock_t least = 0;
-    for (int run = 0; run < 10; run++) {
-        clock_t before = clock();
-        for (int i = 0; i < 10; i++) tree_within(graph, 2000, &by_search_lists);
-        clock_t took = clock() - before;
-        if (run == 1 || (run > 1 && took < least)) least = took;
-    }
-    return least;
+static void ten_small_trees(struct diffuse_graph *graph) {
+    for (int i = 0; i < 10; i++) tree_within(graph, 2000, &by_search_lists);
 }
 
 /* Trees by factors are those by searches, small and large, and small ones take hardly longer. */
@@ -270,8 +275,7 @@ static void small_trees(struct diffuse_graph *searched, struct diffuse_graph *fa
         tree_within(factored, LIMITS[i], &by_factors_lists);
         if (memcmp(&by_search_lists, &by_factors_lists, sizeof by_search_lists) != 0) printf("another tree within %lu\n", (unsigned long)LIMITS[i]);
     }
-    clock_t by_search = small_tree_time(searched), by_factors = small_tree_time(factored);
-    if (by_factors > 2 * by_search) printf("slower trees: %ld clocks, and %ld by searches\n", (long)by_factors, (long)by_search);
+    compare_times("trees", ten_small_trees, searched, factored);
 }
 
 /* Routes by factors are those by searches, near and far, and near ones take hardly longer. */
@@ -283,8 +287,7 @@ static int near(void) {
         uint64_t sum = routes_on(&searched, further);
         if (sum == 0 || sum != routes_on(&factored, further)) printf("other routes, %u places on\n", further);
     }
-    clock_t by_search = near_time(&searched), by_factors = near_time(&factored);
-    if (by_factors > 2 * by_search) printf("slower: %ld clocks, and %ld by searches\n", (long)by_factors, (long)by_search);
+    compare_times("routes", near_routes, &searched, &factored);
     small_trees(&searched, &factored);
     printf("near\n");
     diffuse_graph_close(&searched);

@@ -1,7 +1,8 @@
 //! A road graph that is factored for numbers that carry hops.
-ghost use Rattle.std.specs.Prelude.{◌≡◌, ℕ, IfOk, IfErr};
+ghost use Rattle.std.specs.Prelude.{◌≡◌, ◌≢◌, ℕ, IfOk, IfErr};
 ghost use Rattle.road_graph.specs.GraphData.{HasVertex, IsGraph};
 ghost use Rattle.path_algebra.specs.Counted.{cost_of, CountsFit};
+ghost use Rattle.path_factors.specs.Factors.{HasEachVertex};
 ghost use Rattle.factor_routes.specs.declared.road_factors.Unfactored.TheVariants.{Dense, Heavy};
 
 use crate::fitting::fitting_sums;
@@ -71,6 +72,36 @@ impl RoadFactors {
         match Factors::of(alloc, sums, graph) {
             Ok(Some(factors)) => Ok(RoadFactors { sums, factors }),
             Ok(None) => Err(Unfactored::Dense),
+            Err(Memory) => Err(Unfactored::Memory),
+        }
+    }
+
+    /// The factors of a graph by an order of its vertices. Any order gives the same answers, a good
+    /// one few links.
+    ///
+    /// # Errors
+    /// `Heavy` as of `of`; never `Dense`.
+    pub fn by_order(
+        alloc: Global,
+        cost: Cost,
+        graph: &OutGraph,
+        rows: &InGraph,
+        order: Vec<Vertex>,
+    ) -> Result<RoadFactors, Unfactored>
+        requires same { rows.now ≡ graph.now }
+        requires order { HasEachVertex graph.now.vertices order.items }
+        ensures roads { IfOk result (λ f. f.roads ≡ graph.now) }
+        ensures cost { IfOk result (λ f. f.algebra.cost ≡ cost) }
+        ensures order { IfOk result (λ f. f.factor.order ≡ order.items) }
+        ensures heavy { IfErr result (λ e. e ≡ Heavy → (k : ℕ) → CountsFit graph.now (cost_of cost) k → ⊥) }
+        ensures dense { IfErr result (λ e. e ≢ Dense) }
+    {
+        let Some(sums) = fitting_sums(cost, rows) else {
+            return Err(Unfactored::Heavy);
+        };
+        match Factors::build(alloc, sums, graph, order) {
+            Ok(Some(factors)) => Ok(RoadFactors { sums, factors }),
+            Ok(None) => unreachable!(),
             Err(Memory) => Err(Unfactored::Memory),
         }
     }

@@ -4,3 +4,4 @@ pub mod LastSolved
 pub mod FactorCosts
 mod Pools
 mod Sending
+mod OrderLaws

@@ -1,3 +1,4 @@
+pub mod Orders
 pub mod Questions
 pub mod Solved
 pub mod Solvers

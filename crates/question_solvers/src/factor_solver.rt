@@ -1,7 +1,9 @@
 //! What the solver by factors keeps between two questions.
-ghost use Rattle.std.specs.Prelude.{◌≡◌, ◌↔◌, ℕ, IfErr, IfOk, IfSome, IsNone, IsSome, IsTrue, OnOk, Some};
+ghost use Rattle.std.specs.Prelude.{◌≡◌, ◌≢◌, ◌↔◌, ℕ, IfErr, IfOk, IfSome, IsNone, IsSome, IsTrue, OnOk, Some};
 ghost use Rattle.std.specs.Option.{ForSome, IsSomeAnd};
 ghost use Rattle.path_algebra.specs.Counted.{cost_of, CountsFit};
+ghost use Rattle.path_factors.specs.Factors.{HasEachVertex};
+ghost use Rattle.question_solvers.specs.Orders.{IsOrderOf};
 ghost use Rattle.question_solvers.specs.declared.factor_solver.Refusal.TheVariants.{Heavy};
 
 use crate::plain_solver::PlainSolver;
@@ -9,7 +11,7 @@ use crate::searched::Searched;
 use crate::solved::Solved;
 use factor_routes::{RoadFactors, RouteAsker, Unfactored};
 use path_algebra::{Cost, PathAlgebra};
-use road_graph::{InGraph, Memory, OutGraph};
+use road_graph::{InGraph, Memory, OutGraph, Vertex};
 use std::alloc::Global;
 
 /// The factors of a graph, and the lists by which they are asked for pairs.
@@ -20,21 +22,53 @@ pub(crate) struct Factored {
     ghost own: { asker.factors ≡ factors },
 }
 
+/// The factors of a graph for what arcs cost, by an order of its vertices. `rows` is the same graph
+/// by head.
+fn factor_by(
+    alloc: Global,
+    cost: Cost,
+    graph: &OutGraph,
+    rows: &InGraph,
+    order: &[Vertex],
+) -> Result<RoadFactors, Unfactored>
+    requires same { rows.now ≡ graph.now }
+    requires order { HasEachVertex graph.now.vertices order.now }
+    ensures roads { IfOk result (λ f. f.roads ≡ graph.now) }
+    ensures cost { IfOk result (λ f. f.algebra.cost ≡ cost) }
+    ensures order { IfOk result (λ f. f.factor.order ≡ order.now) }
+    ensures heavy { IfErr result (λ e. e ≡ Unfactored.Heavy → (k : ℕ) →
+        CountsFit graph.now (cost_of cost) k → ⊥) }
+    ensures dense { IfErr result (λ e. e ≢ Unfactored.Dense) }
+{
+    match order.to_vec(alloc) {
+        Ok(order) => RoadFactors::by_order(alloc, cost, graph, rows, order),
+        Err(_) => Err(Unfactored::Memory),
+    }
+}
+
 impl Factored {
-    /// The factors of a graph for what arcs cost. `rows` is the same graph by head.
+    /// The factors of a graph for what arcs cost, by an order of its vertices if one is given.
+    /// `rows` is the same graph by head.
     pub(crate) fn of(
         alloc: Global,
         cost: Cost,
         graph: &OutGraph,
         rows: &InGraph,
+        order: &Option<Vec<Vertex>>,
     ) -> Result<Factored, Unfactored>
-        requires { rows.now ≡ graph.now }
+        requires same { rows.now ≡ graph.now }
+        requires order { IfSome order.now (λ list. HasEachVertex graph.now.vertices list.items) }
         ensures roads { IfOk result (λ f. f.factors.roads ≡ graph.now) }
         ensures cost { IfOk result (λ f. f.factors.algebra.cost ≡ cost) }
+        ensures order { IfOk result (λ f. IfSome order.now (λ list.
+            f.factors.factor.order ≡ list.items)) }
         ensures heavy { IfErr result (λ e. e ≡ Unfactored.Heavy → (k : ℕ) →
             CountsFit graph.now (cost_of cost) k → ⊥) }
     {
-        let factors = RoadFactors::of(alloc, cost, graph, rows)?;
+        let factors = match order {
+            Some(order) => factor_by(alloc, cost, graph, rows, order)?,
+            None => RoadFactors::of(alloc, cost, graph, rows)?,
+        };
         match factors.asker(alloc) {
             Ok(asker) => Ok(Factored { factors, asker }),
             Err(Memory) => Err(Unfactored::Memory),
@@ -63,11 +97,13 @@ pub enum Factoring {
 }
 
 /// Solves a pair by asking the factors of the graph, several side by side, and another question by
-/// two sweeps over them. The graph is factored when the first task begins. If it is too dense or
-/// too heavy, the plain solver in it answers.
+/// two sweeps over them. The graph is factored when the first task begins, by an order of its
+/// vertices if one is given. If it is too dense or too heavy, the plain solver in it answers.
 #[derive(Drop)]
 pub struct FactorSolver<A: PathAlgebra> {
     pub(crate) plain: PlainSolver<A>,
+    /// The order by which the graph is factored; if there is none, one is found.
+    pub(crate) order: Option<Vec<Vertex>>,
     /// The factors, once they are made.
     pub(crate) factored: Option<Factored>,
     /// For which costs the graph is not factored, and why.
@@ -76,6 +112,7 @@ pub struct FactorSolver<A: PathAlgebra> {
     pub(crate) ahead: Vec<Searched<A::Value>>,
     /// What the factors solved last.
     pub(crate) last: Option<Solved<A::Value>>,
+    ghost each: { ForSome order (λ list. IsOrderOf plain.graph.vertices list.items) },
     ghost of_graph: { ForSome factored (λ f. f.factors.roads ≡ plain.graph) },
     ghost heavy: { ForSome refused (λ r. r.1 ≡ Heavy → (k : ℕ) → CountsFit plain.graph (cost_of r.0) k → ⊥) },
 }
@@ -84,12 +121,16 @@ impl<A: PathAlgebra> FactorSolver<A> {
     ghost use Rattle.road_graph.specs.GraphData.{IsGraph};
     ghost use Rattle.question_solvers.specs.Solvers.{IsFactoringBy, last_by_factors};
 
-    /// The solver over a graph, which is not factored yet.
-    pub fn new(alloc: Global, graph: OutGraph) -> Self
-        ensures { result.plain.graph ≡ graph }
+    /// The solver over a graph, which is not factored yet, and later by an order of its vertices if
+    /// one is given.
+    pub fn new(alloc: Global, graph: OutGraph, order: Option<Vec<Vertex>>) -> Self
+        requires { IfSome order (λ list. HasEachVertex graph.vertices list.items) }
+        ensures graph { result.plain.graph ≡ graph }
+        ensures order { result.order ≡ order }
     {
         FactorSolver {
             plain: PlainSolver::new(alloc, graph),
+            order,
             factored: None,
             refused: None,
             ahead: Vec::new(alloc),
@@ -148,6 +189,7 @@ impl<A: PathAlgebra> FactorSolver<A> {
     pub(crate) fn factor(&mut self, alloc: Global, cost: Cost) -> Result<(), Memory>
         requires { IsSome self.old.plain.by_head }
         ensures graph { self.new.plain.graph ≡ self.old.plain.graph }
+        ensures order { self.new.order ≡ self.old.order }
         ensures rows { self.new.plain.by_head ≡ self.old.plain.by_head }
         ensures searched { self.new.plain.searched ≡ self.old.plain.searched }
         ensures pool { self.new.plain.pool ≡ self.old.plain.pool }
@@ -168,7 +210,7 @@ impl<A: PathAlgebra> FactorSolver<A> {
         let Some(rows) = &plain.by_head else {
             unreachable!()
         };
-        match Factored::of(alloc, cost, &plain.graph, rows) {
+        match Factored::of(alloc, cost, &plain.graph, rows, &self.order) {
             Ok(factored) => self.factored = Some(factored),
             Err(Unfactored::Memory) => return Err(Memory),
             Err(Unfactored::Dense) => self.refused = Some((cost, Refusal::Dense)),

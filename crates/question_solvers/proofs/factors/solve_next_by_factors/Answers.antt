@@ -2,6 +2,7 @@ use Rattle.std.proofs.Common.{◌≡◌, ℕ, subst, sym}
 use Rattle.std.specs.Option.{ForSome}
 use Rattle.path_algebra.specs.Counted.{cost_of, CountsFit}
 use Rattle.road_graph.specs.GraphData.{GraphData}
+use Rattle.question_solvers.specs.Orders.{IsOrderOf}
 use Rattle.question_solvers.specs.declared.factor_solver.Refusal.TheVariants.{Heavy}
 use Rattle.question_solvers.proofs.factors.solve_next_by_factors.Goals as goal
 
@@ -9,3 +10,7 @@ pub invariant_of-solver-clause-heavy : goal.invariant_of-solver-clause-heavy
 invariant_of-solver-clause-heavy g c =
     subst (λ (graph : GraphData). ForSome c.args.solver.now.refused (λ r. r.1 ≡ Heavy → (k : ℕ) → CountsFit graph (cost_of r.0) k → ⊥))
     (sym c.solve_next_plainly.ensures.graph) c.args.solver.now.heavy
+
+pub invariant_of-solver-clause-each : goal.invariant_of-solver-clause-each
+invariant_of-solver-clause-each g c =
+    subst (λ (graph : GraphData). ForSome c.args.solver.now.order (λ list. IsOrderOf graph.vertices list.items)) (sym c.solve_next_plainly.ensures.graph) c.args.solver.now.each

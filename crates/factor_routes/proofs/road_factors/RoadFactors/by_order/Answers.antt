@@ -1,0 +1,8 @@
+use Rattle.std.proofs.Common.{ℕ, subst}
+use Rattle.road_graph.specs.GraphData.{GraphData}
+use Rattle.path_algebra.specs.Counted.{cost_of, CountsFit}
+use Rattle.factor_routes.proofs.road_factors.RoadFactors.by_order.Goals as goal
+
+pub returns-in_default-clause-heavy : goal.returns-in_default-clause-heavy
+returns-in_default-clause-heavy c = λ _.
+    subst (λ (g : GraphData). (k : ℕ) → CountsFit g (cost_of c.args.cost) k → ⊥) c.requires.same c.in_default.ensures.none

@@ -15,6 +15,8 @@ mod lines;
 #[cfg(test)]
 mod long_texts;
 #[cfg(test)]
+mod orders;
+#[cfg(test)]
 mod pages;
 #[cfg(test)]
 mod verdicts;

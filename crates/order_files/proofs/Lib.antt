@@ -1,0 +1,4 @@
+mod Placing
+mod OrderLines
+mod OrderFaults
+mod WrittenPlaces

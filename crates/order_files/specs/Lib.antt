@@ -1,0 +1,3 @@
+pub mod OrderFiles
+pub mod OrderTakes
+pub mod WrittenOrders

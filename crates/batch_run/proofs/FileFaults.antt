@@ -6,6 +6,16 @@ use Rattle.text_lines.specs.declared.faults.ReadFault.{ReadFault}
 use Rattle.batch_run.specs.declared.faults.File.{File}
 use Rattle.batch_run.specs.declared.faults.RunFault.{RunFault}
 
+-- 1 is the number exactly if a read failed
+pub failed_of : (number before after : ℕ) → (number ≡ 1 → after ≢ before) → (number ≢ 1 → after ≡ before) → (number ≡ 1) ↔ (after ≢ before)
+failed_of number before after told untold = (
+  told,
+  λ failed. elim (cases_eq number 1) [
+    | inl one ↦ one
+    | inr other ↦ absurd (failed (untold other))
+  ],
+)
+
 abbrev failed_by : RunFault → Result (Unit {0}) RunFault
 failed_by f = Err f
 

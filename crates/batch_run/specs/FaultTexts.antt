@@ -1,7 +1,7 @@
 -- The text of a fault.
 use Rattle.std.specs.Prelude.{ℕ, List, [], ◌++◌, codes, decimal, nat_eq, if◌then◌else◌}
 use Rattle.batch_run.specs.declared.faults.File.{File}
-use Rattle.batch_run.specs.declared.faults.File.TheVariants.{Graph, Questions, Bundle, Answers, NoFile}
+use Rattle.batch_run.specs.declared.faults.File.TheVariants.{Graph, Questions, Bundle, Answers, Order, NoFile}
 use Rattle.batch_run.specs.declared.faults.RunFault.{RunFault}
 
 -- the word for an input, after a space
@@ -10,6 +10,7 @@ file_text Graph = codes " graph"
 file_text Questions = codes " questions"
 file_text Bundle = codes " bundle"
 file_text Answers = codes " answers"
+file_text Order = codes " order"
 file_text NoFile = []
 
 -- the words for a line, if there is one

@@ -12,6 +12,7 @@ pub mod Causes
 pub mod Runs
 pub mod Reports
 pub mod Inputs
+pub mod Orders
 pub mod InputLaws
 pub mod Solvers
 pub mod Factored

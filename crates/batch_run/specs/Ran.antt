@@ -11,7 +11,7 @@ use Rattle.road_files.specs.BundleFiles.{bundle_rules}
 use Rattle.path_algebra.specs.Algebra.{Algebra}
 use Rattle.batch_run.specs.declared.faults.RunFault.{RunFault}
 use Rattle.batch_run.specs.declared.faults.File.{File}
-use Rattle.batch_run.specs.declared.faults.File.TheVariants.{Graph, Questions, Bundle, NoFile}
+use Rattle.batch_run.specs.declared.faults.File.TheVariants.{Graph, Questions, Bundle, Answers, Order, NoFile}
 use Rattle.batch_run.specs.Answered.{WroteAnswers, WroteAnswersPrefix, WroteWhole}
 
 -- the value is what the input spells; and it is what some text spells, also if the input does not
@@ -78,6 +78,19 @@ IsBundleFault input f = IsTextFault f → IfSome input (λ b. text_read bundle_r
 abbrev pub IsRoadNumber : ℕ → Type 0
 IsRoadNumber number = IsNumberFrom 10 19 number
 
+-- that of a fault of an order of elimination: 1 to 3, or 10 to 20
+abbrev pub IsOrderNumber : ℕ → Type 0
+IsOrderNumber number = IsNumberFrom 10 20 number
+
+-- the number of a fault of this input
+abbrev pub IsNumberOf : File → ℕ → Type 0
+IsNumberOf Graph = IsRoadNumber
+IsNumberOf Questions = IsRoadNumber
+IsNumberOf Bundle = IsRoadNumber
+IsNumberOf Answers = IsRoadNumber
+IsNumberOf Order = IsOrderNumber
+IsNumberOf NoFile = IsRoadNumber
+
 -- the inputs of a pair are these, and that of a bundle is this one
 abbrev pub IsPairFile : File → Type 0
 IsPairFile file = (file ≡ Graph) ⊎ (file ≡ Questions)
@@ -89,7 +102,7 @@ IsBundleFile file = file ≡ Bundle
 -- limit of turns, a gate, a write, or a setting
 abbrev pub IsRunFaultOf : (File → Type 0) → RunFault → Type 0
 IsRunFaultOf inputs f =
-    (inputs f.file × IsRoadNumber f.number)
+    (inputs f.file × IsNumberOf f.file f.number)
     ⊎ ((f.file ≡ NoFile) × (f.line ≡ 0) × ((f.number ≡ 3) ⊎ ((f.number ≡ 40) ⊎ ((f.number ≡ 41) ⊎ ((f.number ≡ 42) ⊎ (f.number ≡ 43))))))
 
 -- nothing is held back: all was passed on, or passing it on failed

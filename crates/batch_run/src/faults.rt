@@ -20,6 +20,8 @@ pub enum File {
     Bundle,
     /// The answers' file.
     Answers,
+    /// The file of an order of elimination.
+    Order,
     /// No input: the fault lies in the run itself.
     NoFile,
 }
@@ -34,6 +36,7 @@ impl File {
             File::Questions => " questions",
             File::Bundle => " bundle",
             File::Answers => " answers",
+            File::Order => " order",
             File::NoFile => "",
         }
     }

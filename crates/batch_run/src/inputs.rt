@@ -1,17 +1,30 @@
 //! Reads the graph and the questions of a batch.
-ghost use Rattle.std.specs.Prelude.{◌≡◌, ◌≢◌, ◌+◌, ◌≤◌, ◌↔◌, ◌⊎◌, Result, Ok, Err, IfOk, OnOk, IfErr};
+ghost use Rattle.std.specs.Prelude.{◌≡◌, ◌≢◌, ◌+◌, ◌≤◌, ◌↔◌, ◌⊎◌, Result, Ok, Err, IfOk, OnOk, IfErr, IfSome};
 ghost use Rattle.std.specs.Io.KnownBytes.{IsAtEnd};
 ghost use Rattle.road_graph.specs.GraphData.{GraphData};
 ghost use Rattle.road_files.specs.Asked.{AreQuestionsOf, Asked, asked_of};
-ghost use Rattle.batch_run.specs.Ran.{IsPairOf, IsGraphFault, IsQuestionsFault, IsRoadNumber};
+ghost use Rattle.path_factors.specs.Factors.{HasEachVertex};
+ghost use Rattle.batch_run.specs.Ran.{IsPairOf, IsGraphFault, IsQuestionsFault, IsNumberOf};
 ghost use Rattle.batch_run.specs.declared.faults.File.{File};
 ghost use Rattle.batch_run.specs.declared.faults.RunFault.{RunFault};
 
 use crate::faults::{File, RunFault, fault_in};
 use graph_text::{FromArcs, read_gr_as};
 use road_files::{Questions, read_bundle_as, read_questions};
+use road_graph::Vertex;
 use std::alloc::Global;
 use text_lines::RoadRead;
+
+/// What is read of a batch.
+#[derive(Drop)]
+pub struct BatchRead<G> {
+    /// A graph of any kind.
+    pub graph: G,
+    /// Questions over it.
+    pub questions: Questions,
+    /// Its vertices in the order in which they are eliminated, if one is given.
+    pub order: Option<Vec<Vertex>>,
+}
 
 /// What the graph and the questions of a batch are read from.
 pub trait BatchInput {
@@ -24,13 +37,15 @@ pub trait BatchInput {
     // What a run with this outcome did to it, from the one moment to the other.
     ghost has_read: { Self → Self → Result (Unit {0}) RunFault → Type 0 };
 
-    /// Reads a graph of any kind, and questions over it, and reports the first fault.
-    fn read<G: FromArcs>(&mut self, alloc: Global) -> Result<(G, Questions), RunFault>
-        ensures read { IfOk result (λ r. is_read self.old (G.roads r.0) (asked_of r.1)) }
-        ensures within { IfOk result (λ r. AreQuestionsOf (G.roads r.0).vertices r.1) }
+    /// Reads a graph of any kind, and questions over it, and maybe an order of its vertices, and
+    /// reports the first fault.
+    fn read<G: FromArcs>(&mut self, alloc: Global) -> Result<BatchRead<G>, RunFault>
+        ensures read { IfOk result (λ r. is_read self.old (G.roads r.graph) (asked_of r.questions)) }
+        ensures within { IfOk result (λ r. AreQuestionsOf (G.roads r.graph).vertices r.questions) }
+        ensures order { IfOk result (λ r. IfSome r.order (λ order. HasEachVertex (G.roads r.graph).vertices order.items)) }
         ensures done { OnOk result (has_read self.old self.new (Ok tt)) }
         ensures fault { IfErr result (λ f. has_read self.old self.new (Err f)) }
-        ensures kinds { IfErr result (λ f. is_own f.file × IsRoadNumber f.number) }
+        ensures kinds { IfErr result (λ f. is_own f.file × IsNumberOf f.file f.number) }
         ensures named { IfErr result (λ f. f.file ≢ File.NoFile) }
         ensures placed { IfErr result (λ f. f.number ≤ 3 → f.line ≡ 0) };
 
@@ -67,13 +82,17 @@ impl<G: RoadRead, Q: RoadRead> BatchInput for PairInput<'_, G, Q> {
 
     ghost unread = { λ s. (refl, refl, pair_unread _ _) };
 
-    fn read<B: FromArcs>(&mut self, alloc: Global) -> Result<(B, Questions), RunFault> {
+    fn read<B: FromArcs>(&mut self, alloc: Global) -> Result<BatchRead<B>, RunFault> {
         let graph: B = match read_gr_as(alloc, self.graph) {
             Ok(graph) => graph,
             Err(fault) => return Err(fault_in(File::Graph, fault)),
         };
         match read_questions(alloc, self.questions, graph.count_vertices()) {
-            Ok(questions) => Ok((graph, questions)),
+            Ok(questions) => Ok(BatchRead {
+                graph,
+                questions,
+                order: None,
+            }),
             Err(fault) => Err(fault_in(File::Questions, fault)),
         }
     }
@@ -103,9 +122,13 @@ impl<B: RoadRead> BatchInput for BundleInput<'_, B> {
 
     ghost unread = { λ s. (refl, bundle_unread _) };
 
-    fn read<G: FromArcs>(&mut self, alloc: Global) -> Result<(G, Questions), RunFault> {
+    fn read<G: FromArcs>(&mut self, alloc: Global) -> Result<BatchRead<G>, RunFault> {
         match read_bundle_as(alloc, self.bundle) {
-            Ok(read) => Ok(read),
+            Ok((graph, questions)) => Ok(BatchRead {
+                graph,
+                questions,
+                order: None,
+            }),
             Err(fault) => Err(fault_in(File::Bundle, fault)),
         }
     }

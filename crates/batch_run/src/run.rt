@@ -4,7 +4,7 @@ ghost use Rattle.road_files.specs.Asked.{AreQuestionsOf, asked_of};
 ghost use Rattle.batch_run.specs.Reports.{Watched};
 ghost use Rattle.batch_run.specs.Runs.{Ran};
 ghost use Rattle.batch_run.specs.Stopping.{Stopped};
-ghost use Rattle.batch_run.specs.Ran.{IsRoadNumber};
+ghost use Rattle.batch_run.specs.Ran.{IsNumberOf};
 ghost use Rattle.batch_run.specs.Factored.{is_by_factors};
 ghost use Rattle.batch_run.specs.Solvers.{graph_of, is_without_diffusions};
 ghost use Rattle.batch_run.specs.Choice.{without_diffusions};
@@ -13,7 +13,7 @@ ghost use Rattle.batch_run.specs.Unsuited.{IsRefusedUnsuited};
 use crate::batch::{Batch, Run};
 use crate::faults::{File, RunFault, SETTINGS, fault_of_run};
 use crate::flush::answer_and_flush;
-use crate::inputs::BatchInput;
+use crate::inputs::{BatchInput, BatchRead};
 use crate::settings::SolverKind;
 use crate::solve::{Solver, WorkerSolver};
 use crate::watcher::Watcher;
@@ -26,8 +26,9 @@ use std::thread::Threads;
 use text_lines::RoadWrite;
 use worker_fleet::{Gate, one_shard_never_stalls};
 
-/// Reads the graph and the questions of a batch, and makes the solver that the settings choose.
-fn read_batch<A: PathAlgebra, I: BatchInput, R, T>(
+/// Reads the graph and the questions of a batch, and makes the solver that the settings choose. If
+/// an order is read too, factors are by it.
+pub fn read_batch<A: PathAlgebra, I: BatchInput, R, T>(
     run: &Run<'_, R, T>,
     input: &mut I,
 ) -> Result<(Solver<A>, Questions), RunFault>
@@ -37,23 +38,26 @@ fn read_batch<A: PathAlgebra, I: BatchInput, R, T>(
     ensures within { IfOk result (λ r. AreQuestionsOf (graph_of r.0).vertices r.1) }
     ensures done { OnOk result (I.has_read input.old input.new (Ok tt)) }
     ensures fault { IfErr result (λ f. I.has_read input.old input.new (Err f)) }
-    ensures kinds { IfErr result (λ f. I.is_own f.file × IsRoadNumber f.number) }
+    ensures kinds { IfErr result (λ f. I.is_own f.file × IsNumberOf f.file f.number) }
     ensures named { IfErr result (λ f. f.file ≢ File.NoFile) }
     ensures placed { IfErr result (λ f. f.number ≤ 3 → f.line ≡ 0) }
 {
     let alloc = run.alloc;
     match run.settings.solver() {
         SolverKind::Plain => {
-            let (graph, questions): (OutGraph, Questions) = input.read(alloc)?;
-            Ok((Solver::Plain(PlainSolver::new(alloc, graph)), questions))
+            let read: BatchRead<OutGraph> = input.read(alloc)?;
+            let solver = PlainSolver::new(alloc, read.graph);
+            Ok((Solver::Plain(solver), read.questions))
         }
         SolverKind::Factors => {
-            let (graph, questions): (OutGraph, Questions) = input.read(alloc)?;
-            Ok((Solver::Factors(FactorSolver::new(alloc, graph)), questions))
+            let read: BatchRead<OutGraph> = input.read(alloc)?;
+            let solver = FactorSolver::new(alloc, read.graph, read.order);
+            Ok((Solver::Factors(solver), read.questions))
         }
         SolverKind::Workers => {
-            let (graph, questions): (Graph, Questions) = input.read(alloc)?;
-            Ok((Solver::Workers(WorkerSolver::new(alloc, graph)), questions))
+            let read: BatchRead<Graph> = input.read(alloc)?;
+            let solver = WorkerSolver::new(alloc, read.graph);
+            Ok((Solver::Workers(solver), read.questions))
         }
     }
 }
@@ -64,8 +68,9 @@ fn read_batch<A: PathAlgebra, I: BatchInput, R, T>(
 /// `plain` or `factors` there are no diffusions. Before a fault of an input nothing is reported.
 ///
 /// The settings are tested first (43), and if they choose factors, whether the algebra has a cost
-/// (43 too); then the graph is read and then the questions, and then each question is answered and
-/// written, in order; at last the output is flushed. The first fault in this order is reported.
+/// (43 too); then the graph is read and then the questions, and at last an order of elimination, if
+/// there is one; and then each question is answered and written, in order; then the output is
+/// flushed. The first fault in this order is reported.
 /// After a fault of an input nothing has been written; after a later one (3, 40 to 42) a prefix of
 /// the answers' text has.
 ///
@@ -74,7 +79,8 @@ fn read_batch<A: PathAlgebra, I: BatchInput, R, T>(
 /// or, dealt by questions, if q + k is. With `plain` the one-thread solver answers each question,
 /// one that was solved just before without a new search, and a pair goes on with the search from
 /// its source; `width` searches go side by side on all processors. With `factors` the graph is
-/// factored when the header is written, and its factors answer: pairs in `width` runs side by side,
+/// factored when the header is written, by the order that was read or else by one that is found,
+/// and its factors answer: pairs in `width` runs side by side,
 /// other questions one after the other. With either no worker is started, the gate is not asked,
 /// and the graph is kept with its arcs by tail alone; for pairs and factors by head too.
 ///

@@ -4,6 +4,7 @@ mod dealing;
 mod factors;
 mod faults;
 mod gates;
+mod orders;
 mod reports;
 mod stops;
 mod turns;
@@ -12,10 +13,10 @@ mod workers;
 use crate::texts::joined;
 use crate::tolls::Tolls;
 use batch_run::{
-    BatchInput, Gate, OpenGate, PairInput, Run, RunFault, Settings, Unwatched, run_bundle, run_pair,
+    BatchInput, BatchRead, Gate, OpenGate, PairInput, Run, RunFault, Settings, Unwatched,
+    run_bundle, run_pair,
 };
 use path_algebra::{PathAlgebra, Shortest};
-use road_files::Questions;
 use road_graph::Graph;
 use std::alloc::Global;
 use std::process::Abort;
@@ -121,11 +122,12 @@ fn two_inputs_are_read(rt: HostRuntime) {
         graph: &mut Plain::new(FIVE.as_bytes()),
         questions: &mut Plain::new(THRICE.as_bytes()),
     };
-    let read: Result<(Graph, Questions), RunFault> = pair.read(rt.alloc());
+    let read: Result<BatchRead<Graph>, RunFault> = pair.read(rt.alloc());
     match read {
-        Ok((graph, questions)) => {
-            assert_eq!(rt; (graph.vertices(), graph.arcs()), (5, 7));
-            assert_eq!(rt; questions.len(), 3);
+        Ok(read) => {
+            assert_eq!(rt; (read.graph.vertices(), read.graph.arcs()), (5, 7));
+            assert_eq!(rt; read.questions.len(), 3);
+            assert!(rt; read.order.is_none());
         }
         Err(_) => panic!(rt; "a fault"),
     }

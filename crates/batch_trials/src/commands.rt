@@ -55,6 +55,7 @@ fn subcommand_said(alloc: Global, subcommand: &Subcommand<'_>) -> Result<String,
                 args.graph, args.questions, args.answers, args.limit
             )
         }
+        Subcommand::Order(args) => format!(in alloc; "order {}", args.graph),
         Subcommand::Faults { numbers } => format!(in alloc; "faults {:?}", numbers.as_slice()),
     }
 }
@@ -130,6 +131,12 @@ fn command_lines(rt: HostRuntime) {
         ("diffuse serve", "wrong"),
         ("diffuse serve g q", "wrong"),
         ("diffuse serve g --width 0", "wrong"),
+        ("diffuse order g", "order g"),
+        ("diffuse order -", "order -"),
+        ("diffuse order", "wrong"),
+        ("diffuse order g q", "wrong"),
+        ("diffuse order g --order o", "wrong"),
+        ("diffuse order --help", "help"),
         ("diffuse faults", "faults []"),
         ("diffuse faults 13", "faults [13]"),
         ("diffuse faults 42 1 42", "faults [42, 1, 42]"),
@@ -249,6 +256,7 @@ fn algebra_said(rt: &(impl Abort + AllocGlobal), algebra: &str, limit: Option<u6
     let options = RunOptions {
         algebra,
         limit,
+        order: None,
         settings: Settings::default(),
     };
     let said = match choose(&options, true) {

@@ -1,59 +1,58 @@
 -- What a service promises of its inputs and its output, from what reading and serving promise.
-use Rattle.std.proofs.Common.{◌≡◌, ◌≢◌, ◌⊎◌, ◌↔◌, inl, inr, Bool, true, false, eqb, ℕ, ◌+◌, ◌≤◌, Option, Result, Ok, Err, refl, sym, ap, ◌∙◌, subst, arith}
-use Rattle.std.specs.Prelude.{IfSome}
-use Rattle.std.proofs.lemmas.Bool.{eqb-true}
-use Rattle.std.specs.Io.KnownBytes.{IsAtEnd}
-use Rattle.text_lines.specs.declared.faults.ReadFault.{ReadFault}
-use Rattle.text_lines.specs.Rules.{text_read}
+use Rattle.std.proofs.Common.{◌≡◌, ◌≢◌, ◌⊎◌, ◌↔◌, inl, inr, Bool, true, false, ℕ, ◌≤◌, Option, None, Some, Result, Ok, Err, refl, sym, ap, ◌∙◌, subst, arith}
 use Rattle.road_graph.specs.GraphData.{GraphData}
-use Rattle.text_lines.specs.Reads.{BreaksNone, RunsOutAfter}
+use Rattle.road_files.specs.Asked.{Asked}
 use Rattle.graph_text.specs.GraphFiles.{gr_rules}
 use Rattle.path_algebra.specs.Algebra.{Algebra}
 use Rattle.path_algebra.specs.declared.counted_sums.Cost.{Cost}
-use Rattle.batch_run.specs.declared.faults.File.TheVariants.{Graph, Questions, NoFile}
+use Rattle.batch_run.specs.declared.faults.File.{File}
+use Rattle.batch_run.specs.declared.faults.File.TheVariants.{Graph, Questions, Order, NoFile}
 use Rattle.batch_run.specs.declared.faults.RunFault.{RunFault}
 use Rattle.batch_run.specs.declared.settings.Settings.{Settings}
-use Rattle.batch_run.specs.Ran.{IsReadAs, IsRoadNumber}
+use Rattle.batch_run.specs.Orders.{HasOrderFaultIn, HasReadOrdered, IsOrderedFile}
+use Rattle.batch_run.specs.Ran.{IsNumberOf, IsOrderNumber, IsReadAs, IsRoadNumber}
 use Rattle.batch_run.specs.Unsuited.{IsRefusedUnsuited, IsUnsuited}
 use Rattle.batch_run.proofs.Suiting.{suited_by, suited_whole}
 use Rattle.batch_run.specs.Runs.{Input, Output}
+use Rattle.service.specs.GraphInput.{HasReadGraph, HasReadGraphOrdered, IsGraphFile, IsServingFile, graph_later, graph_unread}
 use Rattle.service.specs.Over.{IsOverFault, RanOver}
 use Rattle.service.specs.Served.{IsStopOfInput, RanService}
 
--- two faults are one outcome
-abbrev IsOutcome : RunFault → RunFault → Type 0
-IsOutcome f h = Err f ≡ (let r : Result (Unit {0}) RunFault = Err h in r)
-
 -- an outcome is no other fault
-other_number : (r : Result (Unit {0}) RunFault) (f h : RunFault) → f.number ≢ h.number → r ≡ Err f → r ≡ Err h → ⊥
-other_number r f h ne p q =
-    let same : f ≡ h = cc in ne (ap (λ (x : RunFault). x.number) same)
-
 other_file : (r : Result (Unit {0}) RunFault) (f h : RunFault) → (f.file ≡ h.file → ⊥) → r ≡ Err f → r ≡ Err h → ⊥
 other_file r f h ne p q =
     let same : f ≡ h = cc in ne (ap (λ (x : RunFault). x.file) same)
-
-number_of : (r : Result (Unit {0}) RunFault) (f h : RunFault) → r ≡ Err f → r ≡ Err h → f.number ≡ h.number
-number_of r f h p q =
-    let same : f ≡ h = cc in ap (λ (x : RunFault). x.number) same
 
 file_of : (r : Result (Unit {0}) RunFault) (f h : RunFault) → r ≡ Err f → r ≡ Err h → f.file ≡ h.file
 file_of r f h p q =
     let same : f ≡ h = cc in ap (λ (x : RunFault). x.file) same
 
--- a read that failed is reported as one
-is_one : (n a b : ℕ) → (n ≢ 1 → a ≡ b) → a ≢ b → n ≡ 1
-is_one n a b untold failed = by_test (eqb n 1) refl
-  where
-    by_test : (t : Bool) → eqb n 1 ≡ t → n ≡ 1
-    by_test true e = eqb-true n 1 e
-    by_test false e = absurd (failed (untold (λ h. let bad : true ≡ false = subst (λ k. eqb k 1 ≡ false) h e in cc)))
+-- a fault of what is read before the requests is of the graph or of the order
+read_before : (file : File) → IsOrderedFile IsGraphFile file → IsServingFile file → ⊥
+read_before file (inl e) (inl h) = let bad : Graph ≡ Questions = sym e ∙ h in cc
+read_before file (inl e) (inr h) = let bad : Graph ≡ NoFile = sym e ∙ h in cc
+read_before file (inr e) (inl h) = let bad : Order ≡ Questions = sym e ∙ h in cc
+read_before file (inr e) (inr h) = let bad : Order ≡ NoFile = sym e ∙ h in cc
 
-graph_or_questions : Graph ≡ Questions → ⊥
-graph_or_questions e = cc
+order_is_no_graph : (file : File) → file ≡ Order → file ≢ Graph
+order_is_no_graph file e h = let bad : Order ≡ Graph = sym e ∙ h in cc
 
-graph_or_none : Graph ≡ NoFile → ⊥
-graph_or_none e = cc
+-- it has a number of its own
+read_number : (file : File) (n : ℕ) → IsOrderedFile IsGraphFile file → IsNumberOf file n → ((file ≡ Graph) × IsRoadNumber n) ⊎ ((file ≡ Order) × IsOrderNumber n)
+read_number file n (inl e) h = inl (e, subst (λ (x : File). IsNumberOf x n) e h)
+read_number file n (inr e) h = inr (e, subst (λ (x : File). IsNumberOf x n) e h)
+
+number_low : (file : File) (n : ℕ) → ((file ≡ Graph) × IsRoadNumber n) ⊎ ((file ≡ Order) × IsOrderNumber n) → n ≤ 20
+number_low file n (inl (e, inl low)) = omega (arith, low.1)
+number_low file n (inl (e, inr own)) = omega (arith, own.1)
+number_low file n (inr (e, inl low)) = omega (arith, low.1)
+number_low file n (inr (e, inr own)) = omega (arith, own.1)
+
+-- a fault of an order that was read is of its file
+of_order : {O : Type 0} (n : ℕ) (order order_after : Option (Input O)) (f : RunFault) → HasOrderFaultIn n order order_after f → f.file ≡ Order
+of_order n None order_after f h = absurd h
+of_order n (Some order) None f h = absurd h
+of_order n (Some order) (Some order_after) f h = h.file
 
 -- what stops a service over a graph is no fault of the graph, and no setting
 not_of_graph : (f : RunFault) → IsOverFault f → f.file ≡ Graph → ⊥
@@ -71,15 +70,16 @@ in_no_line f (inl (file, (which, line))) = line
 in_no_line f (inr (file, line, which)) = line
 
 -- it is of one of the kinds of a service
-kind_of_service : (f : RunFault) → IsOverFault f → ((f.file ≡ Graph) × IsRoadNumber f.number)
-    ⊎ (((f.file ≡ Questions) × IsStopOfInput f) ⊎ ((f.file ≡ NoFile) × (f.line ≡ 0) × ((f.number ≡ 3) ⊎ ((f.number ≡ 42) ⊎ (f.number ≡ 43)))))
-kind_of_service f (inl stop) = inr (inl stop)
-kind_of_service f (inr (file, line, inl three)) = inr (inr (file, line, inl three))
-kind_of_service f (inr (file, line, inr write)) = inr (inr (file, line, inr (inl write)))
+kind_of_service : (f : RunFault) → IsOverFault f → ((f.file ≡ Graph) × IsRoadNumber f.number) ⊎ (((f.file ≡ Order) × IsOrderNumber f.number)
+    ⊎ (((f.file ≡ Questions) × IsStopOfInput f) ⊎ ((f.file ≡ NoFile) × (f.line ≡ 0) × ((f.number ≡ 3) ⊎ ((f.number ≡ 42) ⊎ (f.number ≡ 43))))))
+kind_of_service f (inl stop) = inr (inr (inl stop))
+kind_of_service f (inr (file, line, inl three)) = inr (inr (inr (file, line, inl three)))
+kind_of_service f (inr (file, line, inr write)) = inr (inr (inr (file, line, inr (inl write))))
 
--- a success is no fault
-no_fault : (r : Result (Unit {0}) RunFault) (u : Unit {0}) (f : RunFault) → r ≡ Ok u → r ≡ Err f → ⊥
-no_fault r u f p q = cc
+-- its file is one of serving
+serving_file : (f : RunFault) → IsOverFault f → IsServingFile f.file
+serving_file f (inl (file, stop)) = inl file
+serving_file f (inr (file, line, which)) = inr file
 
 -- settings that suit are not refused, over a graph or by a fault of one
 module _ (cost : Option Cost) (how : Settings) (suits : Bool) (suit : suits ≡ true) (exactly : (suits ≡ false) ↔ IsUnsuited cost how) where
@@ -88,88 +88,120 @@ module _ (cost : Option Cost) (how : Settings) (suits : Bool) (suit : suits ≡ 
   over_suited A gate g input input_after out out_after (Ok u) over = suited_whole cost how suits suit exactly
   over_suited A gate g input input_after out out_after (Err f) over = suited_by cost how suits suit exactly f (λ _. not_a_setting f over.kinds)
 
-  pub graph_suited : (f : ReadFault) → IsRefusedUnsuited cost how (Err (record { number = f.number; file = Graph; line = f.line }))
-  graph_suited f = suited_by cost how suits suit exactly (record { number = f.number; file = Graph; line = f.line }) (λ file. absurd (graph_or_none file))
+  pub read_suited : (f : RunFault) → IsOrderedFile IsGraphFile f.file → IsRefusedUnsuited cost how (Err f)
+  read_suited f own = suited_by cost how suits suit exactly f (λ file. absurd (read_before f.file own (inr file)))
 
--- what serving over a graph promises is what a service does that read the graph from an input
-module _ {V G Q W : Type 0} (A : Algebra V) (how : Settings) (gate : ℕ → ℕ → Bool → Type 0) (graph graph_after : Input G) (input input_after : Input Q) (out out_after : Output W)
-    (g : GraphData) (read : IsReadAs gr_rules graph.left g) (sound : graph_after.failures ≡ graph.failures) (end : IsAtEnd graph_after.left)
-    (asked : graph_after.asked ≤ graph.asked + 4294967297) where
-  pub over_graph : (r : Result (Unit {0}) RunFault) → RanOver A how gate g input input_after out out_after r → RanService A how gate graph graph_after input input_after out out_after r
+-- what serving over a graph promises is what a service does that read the graph from an input, and
+-- then its order from another, if there is one
+module _ {V G O Q W : Type 0} (A : Algebra V) (how : Settings) (gate : ℕ → ℕ → Bool → Type 0) (graph graph_after : Input G) (order order_after : Option (Input O)) (input input_after : Input Q)
+    (out out_after : Output W) (g : GraphData) (is : IsReadAs gr_rules graph.left g) (ordered : HasReadGraphOrdered graph graph_after order order_after (Ok tt)) where
+  roads_later : (f : RunFault) → IsOverFault f → HasReadGraph graph graph_after (Err f)
+  roads_later f kinds = graph_later graph graph_after f (not_of_graph f kinds) (not_a_setting f kinds) ordered.0
+
+  pub over_graph : (r : Result (Unit {0}) RunFault) → RanOver A how gate g input input_after out out_after r → RanService A how gate graph graph_after order order_after input input_after out out_after r
   over_graph (Ok u) over = record {
-    done = (g, read, over.done);
+    done = (g, is, over.done);
     passed_on = over.passed_on;
-    sound = (sound, over.sound.0, over.sound.1);
-    ends = (end, over.ends);
+    sound = over.sound;
+    ends = over.ends;
     stopped = tt;
     too_long = tt;
     nothing_held = tt;
     fell = tt;
-    graph_fault = tt;
-    graph_memory = tt;
-    read_graph = (λ e. absurd (no_fault _ u _ refl e), λ failed. absurd (failed sound));
+    read = ordered.0;
+    ordered = ordered;
     read_input = over.read_input;
     kinds = tt;
     unfactored = tt;
     placed = tt;
     before_requests = tt;
     untouched = tt;
-    asked = asked;
   }
   over_graph (Err f) over = record {
     done = tt;
     passed_on = tt;
     sound = tt;
     ends = tt;
-    stopped = λ file one. (g, read, over.stopped file one);
-    too_long = λ file two. (g, read, over.too_long file two);
+    stopped = λ file one. (g, is, over.stopped file one);
+    too_long = λ file two. (g, is, over.too_long file two);
     nothing_held = over.nothing_held;
-    fell = λ write. (g, read, over.fell write);
-    graph_fault = λ file. absurd (not_of_graph f over.kinds file);
-    graph_memory = λ file. absurd (not_of_graph f over.kinds file);
-    read_graph = (λ e. absurd (not_of_graph f over.kinds (file_of _ _ _ refl e)), λ failed. absurd (failed sound));
+    fell = λ write. (g, is, over.fell write);
+    read = roads_later f over.kinds;
+    ordered = inr (inr (roads_later f over.kinds, serving_file f over.kinds, not_a_setting f over.kinds, ordered.1));
     read_input = over.read_input;
     kinds = kind_of_service f over.kinds;
-    unfactored = λ file three. let (chosen, unread, unwritten) = over.unfactored file three in (chosen, (g, read, tt), end, unread, unwritten);
+    unfactored = λ file three. let (chosen, unread, unwritten) = over.unfactored file three in (chosen, (g, is, tt), ordered.0.end, unread, unwritten);
     placed = λ few. in_no_line f over.kinds;
-    before_requests = λ file. absurd (not_of_graph f over.kinds file);
+    before_requests = λ own. absurd (read_before f.file own (serving_file f over.kinds));
     untouched = λ setting. absurd (not_a_setting f over.kinds setting);
-    asked = asked;
   }
 
-module _ {V G Q W : Type 0} (A : Algebra V) (how : Settings) (gate : ℕ → ℕ → Bool → Type 0) (graph graph_after : Input G) (input : Input Q) (out : Output W) where
-  -- the graph has a fault, or a read of it failed
-  pub graph_failed : (f : ReadFault) → (2 ≤ f.number → f.number ≢ 3 → IfSome graph.left (λ all. text_read gr_rules all ≡ Err f))
-      → (f.number ≡ 3 → RunsOutAfter (BreaksNone gr_rules) graph.left graph_after.left)
-      → (f.number ≡ 1 → graph_after.failures ≢ graph.failures) → (f.number ≢ 1 → graph_after.failures ≡ graph.failures) → (f.number ≤ 3 → f.line ≡ 0) → IsRoadNumber f.number →
-      graph_after.asked ≤ graph.asked + 4294967297
-      → RanService A how gate graph graph_after input input out out (Err (record { number = f.number; file = Graph; line = f.line }))
-  graph_failed f fault memory told untold placed numbered asked = record {
+module _ {V G O Q W : Type 0} (A : Algebra V) (how : Settings) (gate : ℕ → ℕ → Bool → Type 0) (graph graph_after : Input G) (order order_after : Option (Input O)) (input : Input Q) (out : Output W) where
+  -- how the graph was read, if it or its order has a fault
+  roads_read : (f : RunFault) → f.number ≢ 43 → HasReadGraphOrdered graph graph_after order order_after (Err f) → HasReadGraph graph graph_after (Err f)
+  roads_read f other (inl (read, why, same)) = read
+  roads_read f other (inr (inl (read, (g, asked, is, fault)))) = graph_later graph graph_after f (order_is_no_graph f.file (of_order g.vertices order order_after f fault)) other read
+  roads_read f other (inr (inr (read, file, number, whole))) = read
+
+  -- the graph has a fault, or its order
+  pub read_failed : (f : RunFault) → HasReadGraphOrdered graph graph_after order order_after (Err f) → IsOrderedFile IsGraphFile f.file → IsNumberOf f.file f.number → (f.number ≤ 3 → f.line ≡ 0)
+      → RanService A how gate graph graph_after order order_after input input out out (Err f)
+  read_failed f ordered own numbered placed = record {
     done = tt;
     passed_on = tt;
     sound = tt;
     ends = tt;
-    stopped = λ file one. absurd (graph_or_questions file);
-    too_long = λ file two. absurd (graph_or_questions file);
-    nothing_held = λ file. absurd (graph_or_questions file);
-    fell = λ write. absurd (of_input 42 (omega arith) write);
-    graph_fault = λ file own. fault own.0 own.1;
-    graph_memory = λ file three. memory three;
-    read_graph = (λ e. told (number_of _ _ _ refl e), λ failed. one_line (is_one f.number graph_after.failures graph.failures untold failed));
-    read_input = (λ e. absurd (other_file _ _ _ graph_or_questions refl e), λ failed. absurd (failed refl));
-    kinds = inl (refl, numbered);
-    unfactored = λ file. absurd (graph_or_none file);
+    stopped = λ file one. absurd (read_before f.file own (inl file));
+    too_long = λ file two. absurd (read_before f.file own (inl file));
+    nothing_held = λ file. absurd (read_before f.file own (inl file));
+    fell = λ write. absurd (other 42 (omega arith) write);
+    read = roads_read f (other 43 (omega arith)) ordered;
+    ordered = ordered;
+    read_input = (λ e. absurd (read_before f.file own (inl (file_of _ _ _ refl e))), λ failed. absurd (failed refl));
+    kinds = by_kind kind;
+    unfactored = λ file three. absurd (read_before f.file own (inr file));
     placed = placed;
-    before_requests = λ file. (refl, refl);
-    untouched = λ setting. absurd (of_input 43 (omega arith) setting);
-    asked = asked;
+    before_requests = λ _. (refl, refl);
+    untouched = λ setting. absurd (other 43 (omega arith) setting);
   }
     where
-      of_input : (n : ℕ) → 20 ≤ n → f.number ≢ n
-      of_input n high e = elim numbered [
-        | inl low ↦ omega (arith, high, e, low.1)
-        | inr own ↦ omega (arith, high, e, own.1)
-      ]
+      kind : ((f.file ≡ Graph) × IsRoadNumber f.number) ⊎ ((f.file ≡ Order) × IsOrderNumber f.number)
+      kind = read_number f.file f.number own numbered
 
-      one_line : f.number ≡ 1 → IsOutcome (record { number = f.number; file = Graph; line = f.line }) (record { number = 1; file = Graph; line = 0 })
-      one_line one = rw (one, placed (omega (arith, one))) refl
+      other : (n : ℕ) → 21 ≤ n → f.number ≢ n
+      other n high e = let low = number_low f.file f.number kind in omega (arith, high, e, low)
+
+      by_kind : ((f.file ≡ Graph) × IsRoadNumber f.number) ⊎ ((f.file ≡ Order) × IsOrderNumber f.number) → ((f.file ≡ Graph) × IsRoadNumber f.number) ⊎ (((f.file ≡ Order) × IsOrderNumber f.number)
+          ⊎ (((f.file ≡ Questions) × IsStopOfInput f) ⊎ ((f.file ≡ NoFile) × (f.line ≡ 0) × ((f.number ≡ 3) ⊎ ((f.number ≡ 42) ⊎ (f.number ≡ 43))))))
+      by_kind (inl graph) = inl graph
+      by_kind (inr own_order) = inr (inl own_order)
+
+  -- a setting was refused before anything was read
+  pub setting_refused : RanService A how gate graph graph order order input input out out (Err (record { number = 43; file = NoFile; line = 0 }))
+  setting_refused = record {
+    done = tt;
+    passed_on = tt;
+    sound = tt;
+    ends = tt;
+    stopped = λ file. cc;
+    too_long = λ file. cc;
+    nothing_held = λ file. cc;
+    fell = λ write. absurd (omega (arith, write));
+    read = graph_unread graph;
+    ordered = inl (graph_unread graph, inr refl, refl);
+    read_input = (λ e. absurd (other_file _ _ _ (λ file. cc) refl e), λ failed. absurd (failed refl));
+    kinds = inr (inr (inr (refl, refl, inr (inr refl))));
+    unfactored = λ file three. absurd (omega (arith, three));
+    placed = λ few. refl;
+    before_requests = λ own. absurd (read_before NoFile own (inr refl));
+    untouched = λ setting. (refl, refl, refl, refl);
+  }
+
+-- less may be said of how the inputs before an order were read, and of more files that come later
+pub ordered_as : {O : Type 0} (IsRead : GraphData → Asked → Type 0) (inputs later wider : File → Type 0) (HasRead Less : Result (Unit {0}) RunFault → Type 0) (order order_after : Option (Input O))
+    → ((file : File) → later file → wider file) → ((r : Result (Unit {0}) RunFault) → HasRead r → Less r) → (r : Result (Unit {0}) RunFault)
+    → HasReadOrdered IsRead inputs later HasRead order order_after r → HasReadOrdered IsRead inputs wider Less order order_after r
+ordered_as IsRead inputs later wider HasRead Less order order_after wide less (Ok u) h = (less (Ok tt) h.0, h.1)
+ordered_as IsRead inputs later wider HasRead Less order order_after wide less (Err f) (inl (read, why, same)) = inl (less (Err f) read, why, same)
+ordered_as IsRead inputs later wider HasRead Less order order_after wide less (Err f) (inr (inl (read, fault))) = inr (inl (less (Ok tt) read, fault))
+ordered_as IsRead inputs later wider HasRead Less order order_after wide less (Err f) (inr (inr (read, file, number, whole))) = inr (inr (less (Err f) read, wide f.file file, number, whole))

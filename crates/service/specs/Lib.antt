@@ -4,6 +4,7 @@ pub mod Replies
 pub mod Answering
 pub mod Giving
 pub mod Fed
+pub mod GraphInput
 pub mod Served
 pub mod Over
 pub mod Reading

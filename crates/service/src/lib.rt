@@ -5,6 +5,7 @@
 mod batch_answers;
 mod fault_lines;
 mod feeding;
+mod graph_input;
 mod laws;
 mod read_watcher;
 mod replies;

@@ -1,26 +1,30 @@
 //! Runs a service from bytes to bytes.
-ghost use Rattle.std.specs.Prelude.{◌≡◌, true, IfOk, IfErr, OnOk, OnErr};
-ghost use Rattle.text_lines.specs.Reads.{ReadsText};
+ghost use Rattle.std.specs.Prelude.{◌≡◌, ◌≢◌, ◌≤◌, true, Ok, Err, IfOk, IfErr, OnOk, OnErr};
+ghost use Rattle.std.specs.Option.{option_map};
 ghost use Rattle.graph_text.specs.GraphFiles.{gr_rules};
+ghost use Rattle.road_files.specs.Asked.{Asked};
 ghost use Rattle.batch_run.specs.Causes.{number_of};
 ghost use Rattle.batch_run.specs.Choice.{without_diffusions};
 ghost use Rattle.batch_run.specs.Factored.{HasFactorsOf, is_by_factors};
 ghost use Rattle.batch_run.specs.InRange.{AreInRange};
+ghost use Rattle.batch_run.specs.Orders.{HasReadOrdered, IsOrderedFile, IsRunFile};
+ghost use Rattle.batch_run.specs.Ran.{IsNumberOf, IsReadAs};
 ghost use Rattle.batch_run.specs.Solvers.{IsSameSolver, graph_of, is_without_diffusions};
 ghost use Rattle.batch_run.specs.Unsuited.{IsRefusedUnsuited};
 ghost use Rattle.service.specs.Answering.{MayAnswer};
+ghost use Rattle.service.specs.GraphInput.{HasReadGraphOrdered, IsGraphFile};
 ghost use Rattle.service.specs.Over.{RanOver, fault_of_stop};
 ghost use Rattle.service.specs.Reading.{ToldOfService, ToldReads};
 ghost use Rattle.service.specs.Served.{RanService};
 
 use crate::batch_answers::BatchAnswers;
+use crate::graph_input::GraphInput;
 use crate::read_watcher::ReadWatcher;
 use crate::serving::{Stopped, serve};
 use batch_run::{
-    Cause, FactorSolver, File, Gate, PlainSolver, Run, RunFault, SETTINGS, Solver, SolverKind,
-    Unwatched, WRITE, WorkerSolver, fault_in, fault_of_run,
+    BatchInput, Cause, File, Gate, OrderedInput, Run, RunFault, SETTINGS, Solver, Unwatched, WRITE,
+    fault_in, fault_of_run, read_batch,
 };
-use graph_text::read_gr_as;
 use path_algebra::PathAlgebra;
 use question_solvers::factor;
 use std::sync::Wait;
@@ -34,30 +38,50 @@ fn fault_of_requests(number: u8) -> RunFault
     fault_in(File::Questions, ReadFault { number, line: 0 })
 }
 
-/// Reads a graph, and makes the solver that the settings choose.
-fn read_solver<A: PathAlgebra, G: RoadRead, R, T>(
+/// Reads a batch, and then an order if there is one, and makes the solver that the settings choose.
+fn read_ordered<A: PathAlgebra, I: BatchInput, O: RoadRead, R, T>(
     run: &Run<'_, R, T>,
-    graph_in: &mut G,
-) -> Result<Solver<A>, ReadFault>
-    ensures reads { ReadsText (G.seen graph_in.old) (G.seen graph_in.new) gr_rules graph_of
-        10 19 result }
+    input: &mut I,
+    order: &mut Option<O>,
+) -> Result<Solver<A>, RunFault>
     ensures kind { IfOk result (λ s. is_without_diffusions s ≡ without_diffusions run.now.settings.now) }
     ensures factors { IfOk result (λ s. is_by_factors s ≡ run.now.settings.now.factors) }
+    ensures graph { IfOk result (λ s. (asked : Asked) × I.is_read input.old (graph_of s) asked) }
+    ensures read { OnOk result (HasReadOrdered (I.is_read input.old) I.is_own IsRunFile
+        (I.has_read input.old input.new) (option_map O.seen order.old) (option_map O.seen order.new)
+        (Ok tt)) }
+    ensures fault { IfErr result (λ f. HasReadOrdered (I.is_read input.old) I.is_own IsRunFile
+        (I.has_read input.old input.new) (option_map O.seen order.old) (option_map O.seen order.new)
+        (Err f)) }
+    ensures kinds { IfErr result (λ f. IsOrderedFile I.is_own f.file × IsNumberOf f.file f.number) }
+    ensures named { IfErr result (λ f. f.file ≢ File.NoFile) }
+    ensures placed { IfErr result (λ f. f.number ≤ 3 → f.line ≡ 0) }
 {
-    match run.settings.solver() {
-        SolverKind::Plain => {
-            let graph = read_gr_as(run.alloc, graph_in)?;
-            Ok(Solver::Plain(PlainSolver::new(run.alloc, graph)))
-        }
-        SolverKind::Factors => {
-            let graph = read_gr_as(run.alloc, graph_in)?;
-            Ok(Solver::Factors(FactorSolver::new(run.alloc, graph)))
-        }
-        SolverKind::Workers => {
-            let graph = read_gr_as(run.alloc, graph_in)?;
-            Ok(Solver::Workers(WorkerSolver::new(run.alloc, graph)))
-        }
+    let mut ordered = OrderedInput { input, order };
+    match read_batch(run, &mut ordered) {
+        Ok((solver, _)) => Ok(solver),
+        Err(fault) => Err(fault),
     }
+}
+
+/// Reads a graph, and then its order if there is one, and makes the solver that the settings choose.
+fn read_solver<A: PathAlgebra, G: RoadRead, O: RoadRead, R, T>(
+    run: &Run<'_, R, T>,
+    graph: &mut G,
+    order: &mut Option<O>,
+) -> Result<Solver<A>, RunFault>
+    ensures kind { IfOk result (λ s. is_without_diffusions s ≡ without_diffusions run.now.settings.now) }
+    ensures factors { IfOk result (λ s. is_by_factors s ≡ run.now.settings.now.factors) }
+    ensures graph { IfOk result (λ s. IsReadAs gr_rules (G.seen graph.old).left (graph_of s)) }
+    ensures read { OnOk result (HasReadGraphOrdered (G.seen graph.old) (G.seen graph.new)
+        (option_map O.seen order.old) (option_map O.seen order.new) (Ok tt)) }
+    ensures fault { IfErr result (λ f. HasReadGraphOrdered (G.seen graph.old) (G.seen graph.new)
+        (option_map O.seen order.old) (option_map O.seen order.new) (Err f)) }
+    ensures kinds { IfErr result (λ f. IsOrderedFile IsGraphFile f.file × IsNumberOf f.file f.number) }
+    ensures placed { IfErr result (λ f. f.number ≤ 3 → f.line ≡ 0) }
+{
+    let mut input = GraphInput { graph };
+    read_ordered(run, &mut input, order)
 }
 
 /// Factors the graph of a solver that answers by factors. The only error is want of memory.
@@ -125,8 +149,8 @@ fn serve_over<
     }
 }
 
-/// Reads a graph from one input, and replies to each request of another input as soon as it is
-/// whole.
+/// Reads a graph from one input, and its order of elimination from another, if there is one, and
+/// replies to each request of a further input as soon as it is whole.
 ///
 /// A request is a question text: a problem line and its lines. The reply is the text of its
 /// answers, as a batch writes it. The output is then flushed, before any further byte is waited
@@ -135,13 +159,15 @@ fn serve_over<
 /// does the same, with LINE 0.
 ///
 /// The settings are tested first (43), and if they choose factors, whether the algebra has a cost
-/// (43 too). Then the graph is read, and factored, if they choose that. A fault of the graph, or
-/// want of memory while it is factored (3, of no input), is reported before any request is read.
+/// (43 too). Then the graph is read, and the order, and the graph is factored, if they choose that:
+/// by the order, or else by one that is found. A fault of the graph or of the order, or want of
+/// memory while the graph is factored (3, of no input), is reported before any request is read.
 /// The service ends at the end of the input, after a failed read (1), at a request with more than
 /// 2^32 bytes (2), or after a failed write or flush (42).
 pub fn run_service<
     A: PathAlgebra,
     G: RoadRead,
+    O: RoadRead,
     Q: RoadRead,
     W: RoadWrite,
     R: Threads + Wait + Sync,
@@ -150,15 +176,24 @@ pub fn run_service<
     run: &Run<'_, R, T>,
     algebra: A,
     graph_in: &mut G,
+    order_in: &mut Option<O>,
     requests_in: &mut Q,
     out: &mut W,
 ) -> Result<(), RunFault>
     ensures ran { RanService (A.meaning algebra) run.now.settings.now
         (T.may_answer run.now.gate.now) (G.seen graph_in.old) (G.seen graph_in.new)
-        (Q.seen requests_in.old) (Q.seen requests_in.new) (W.seen out.old) (W.seen out.new) result }
+        (option_map O.seen order_in.old) (option_map O.seen order_in.new) (Q.seen requests_in.old) (Q.seen requests_in.new) (W.seen out.old) (W.seen out.new) result }
     ensures suited { IsRefusedUnsuited (A.arc_cost algebra) run.now.settings.now result }
 {
-    run_service_watched(run, algebra, graph_in, requests_in, out, &mut Unwatched)
+    run_service_watched(
+        run,
+        algebra,
+        graph_in,
+        order_in,
+        requests_in,
+        out,
+        &mut Unwatched,
+    )
 }
 
 /// Does what `run_service` does, and tells a watcher at each read of the requests, before it: just
@@ -167,32 +202,34 @@ pub fn run_service<
 pub fn run_service_watched<
     A: PathAlgebra,
     G: RoadRead,
+    O: RoadRead,
     Q: RoadRead,
     W: RoadWrite,
     R: Threads + Wait + Sync,
     T: Gate,
-    O: ReadWatcher<Q, W>,
+    N: ReadWatcher<Q, W>,
 >(
     run: &Run<'_, R, T>,
     algebra: A,
     graph_in: &mut G,
+    order_in: &mut Option<O>,
     requests_in: &mut Q,
     out: &mut W,
-    watcher: &mut O,
+    watcher: &mut N,
 ) -> Result<(), RunFault>
     ensures ran { RanService (A.meaning algebra) run.now.settings.now
         (T.may_answer run.now.gate.now) (G.seen graph_in.old) (G.seen graph_in.new)
-        (Q.seen requests_in.old) (Q.seen requests_in.new) (W.seen out.old) (W.seen out.new) result }
+        (option_map O.seen order_in.old) (option_map O.seen order_in.new) (Q.seen requests_in.old) (Q.seen requests_in.new) (W.seen out.old) (W.seen out.new) result }
     ensures suited { IsRefusedUnsuited (A.arc_cost algebra) run.now.settings.now result }
     ensures told { ToldOfService (A.meaning algebra) run.now.settings.now
-        (T.may_answer run.now.gate.now) O.may_become watcher.old watcher.new
+        (T.may_answer run.now.gate.now) N.may_become watcher.old watcher.new
         (G.seen graph_in.old) (Q.seen requests_in.old) (Q.seen requests_in.new) (W.seen out.old) }
 {
     if !run.settings.suit(algebra) {
         return Err(fault_of_run(SETTINGS));
     }
-    match read_solver(run, graph_in) {
+    match read_solver(run, graph_in, order_in) {
         Ok(mut solver) => serve_over(run, algebra, &mut solver, requests_in, out, watcher),
-        Err(fault) => Err(fault_in(File::Graph, fault)),
+        Err(fault) => Err(fault),
     }
 }

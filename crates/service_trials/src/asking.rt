@@ -51,7 +51,8 @@ pub(crate) fn serve<A: PathAlgebra, Q: RoadRead, W: RoadWrite, R: Threads + Wait
     out: &mut W,
 ) -> Result<(), RunFault> {
     let mut graph = Plain::new(graph.as_bytes());
-    run_service(run, algebra, &mut graph, requests, out)
+    let mut order: Option<Plain<&[u8]>> = None;
+    run_service(run, algebra, &mut graph, &mut order, requests, out)
 }
 
 /// How it ends with these settings and an open gate.

@@ -6,6 +6,8 @@
 #[cfg(test)]
 mod asking;
 #[cfg(test)]
+mod orders;
+#[cfg(test)]
 mod replies;
 #[cfg(test)]
 mod stops;

@@ -32,6 +32,7 @@ fn a_read_comes_after_the_replies(rt: HostRuntime) {
     let requests = joined(&rt, &[ONE, ONE]);
     let replies = joined(&rt, &[ONE_REPLY, ONE_REPLY]);
     let mut graph = Plain::new(FIVE.as_bytes());
+    let mut order: Option<Plain<&[u8]>> = None;
     let mut input = Pieces::new(requests.as_bytes(), ONE_BYTES, false);
     let mut out = Sheet::new(rt.alloc(), 1_024, true);
     let mut lengths = Lengths {
@@ -49,6 +50,7 @@ fn a_read_comes_after_the_replies(rt: HostRuntime) {
         &run,
         Shortest,
         &mut graph,
+        &mut order,
         &mut input,
         &mut out,
         &mut lengths,

@@ -2,7 +2,7 @@
 # ~/.local/share/bash-completion/completions/diffuse
 _diffuse() {
     local word=${COMP_WORDS[COMP_CWORD]} before=${COMP_WORDS[COMP_CWORD - 1]} engine watching
-    engine="--plain --factors --algebra --limit --width --workers --shards --deal --budget --turns --best-first --ahead --help"
+    engine="--plain --factors --order --algebra --limit --width --workers --shards --deal --budget --turns --best-first --ahead --help"
     watching="--accounts --progress --times"
     case $before in
         --algebra)
@@ -16,16 +16,16 @@ _diffuse() {
             return ;;
     esac
     if [ "$COMP_CWORD" -eq 1 ]; then
-        mapfile -t COMPREPLY < <(compgen -W "solve bundle serve check faults help --help --version" -- "$word")
+        mapfile -t COMPREPLY < <(compgen -W "solve bundle serve check order faults help --help --version" -- "$word")
         return
     fi
     case ${COMP_WORDS[1]}:$word in
         solve:-* | bundle:-*) mapfile -t COMPREPLY < <(compgen -W "$engine $watching" -- "$word") ;;
         serve:-*) mapfile -t COMPREPLY < <(compgen -W "$engine" -- "$word") ;;
         check:-*) mapfile -t COMPREPLY < <(compgen -W "--limit --help" -- "$word") ;;
-        faults:-*) mapfile -t COMPREPLY < <(compgen -W "--help" -- "$word") ;;
+        order:-* | faults:-*) mapfile -t COMPREPLY < <(compgen -W "--help" -- "$word") ;;
         faults:*) mapfile -t COMPREPLY < <(compgen -W "$(diffuse faults 2> /dev/null | sed -n 's/^fault \([0-9]*\):.*/\1/p')" -- "$word") ;;
-        help:*) mapfile -t COMPREPLY < <(compgen -W "solve bundle serve check faults" -- "$word") ;;
+        help:*) mapfile -t COMPREPLY < <(compgen -W "solve bundle serve check order faults" -- "$word") ;;
         *) mapfile -t COMPREPLY < <(compgen -f -- "$word") ;;
     esac
 }

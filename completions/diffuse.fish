@@ -1,5 +1,5 @@
 # Completion of diffuse's words in fish. To have it: put this file at ~/.config/fish/completions/diffuse.fish
-set -l commands solve bundle serve check faults help
+set -l commands solve bundle serve check order faults help
 set -l answering '__fish_seen_subcommand_from solve bundle serve'
 set -l watching '__fish_seen_subcommand_from solve bundle'
 
@@ -7,15 +7,17 @@ complete -c diffuse -f -n "not __fish_seen_subcommand_from $commands" -a solve -
 complete -c diffuse -f -n "not __fish_seen_subcommand_from $commands" -a bundle -d 'answer one input that holds both'
 complete -c diffuse -f -n "not __fish_seen_subcommand_from $commands" -a serve -d 'reply to requests as they come'
 complete -c diffuse -f -n "not __fish_seen_subcommand_from $commands" -a check -d 'judge the answers of any program'
+complete -c diffuse -f -n "not __fish_seen_subcommand_from $commands" -a order -d 'write an order of elimination for --order'
 complete -c diffuse -f -n "not __fish_seen_subcommand_from $commands" -a faults -d 'explain faults by their numbers'
 complete -c diffuse -f -n "not __fish_seen_subcommand_from $commands" -a help -d 'show what a command does'
 complete -c diffuse -f -n "not __fish_seen_subcommand_from $commands" -l version -d 'show the version'
-complete -c diffuse -f -n '__fish_seen_subcommand_from help' -a 'solve bundle serve check faults'
+complete -c diffuse -f -n '__fish_seen_subcommand_from help' -a 'solve bundle serve check order faults'
 complete -c diffuse -l help -d 'show the options and what they mean'
 complete -c diffuse -x -n $answering -l algebra -a 'shortest widest reach hops reliable within' -d 'what is best'
 complete -c diffuse -x -n "$answering; or __fish_seen_subcommand_from check" -l limit -d 'the greatest sum, with within'
 complete -c diffuse -f -n $answering -l plain -d 'one heap search for each question'
 complete -c diffuse -f -n $answering -l factors -d 'factor the graph once, and answer by substitution'
+complete -c diffuse -r -n $answering -l order -d 'factor by the order of elimination in a file'
 complete -c diffuse -x -n $answering -l width -d 'questions under way together, 1 to 64'
 complete -c diffuse -x -n $answering -l workers -d 'threads, 1 to 64'
 complete -c diffuse -x -n $answering -l shards -d 'parts of the vertices, 1 to 64'

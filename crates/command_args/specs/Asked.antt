@@ -15,7 +15,7 @@ use Rattle.batch_run.specs.declared.settings.Settings.{Settings}
 use Rattle.command_args.specs.declared.parsed.RunOptions.{RunOptions}
 use Rattle.command_args.specs.declared.parsed.WatchOptions.{WatchOptions}
 use Rattle.command_args.specs.declared.parsed.Subcommand.{Subcommand}
-use Rattle.command_args.specs.declared.parsed.Subcommand.TheVariants.{Solve, Bundle, Serve, Check, Faults}
+use Rattle.command_args.specs.declared.parsed.Subcommand.TheVariants.{Solve, Bundle, Serve, Check, Order, Faults}
 use Rattle.command_args.specs.CommandLine.{IsCommandLine}
 
 -- a text spells a number of less than so many bits, in decimal digits
@@ -58,10 +58,11 @@ pub record AreSettings (rows : List Row) (s : Settings) : Type 0 where
   pub ahead : Reads 32 (one_of (codes "ahead") rows) s.ahead
   pub dealing : IsDealing (text_of (codes "deal") rows) s.dealing
 
--- so are the algebra, its limit, and the settings
+-- so are the algebra, its limit, the name of an order, and the settings
 pub record AreOptions (rows : List Row) (o : RunOptions) : Type 0 where
   pub algebra : o.algebra.now ≡ text_of (codes "algebra") rows
   pub limit : Reads 64 (one_of (codes "limit") rows) o.limit
+  pub order : option_map (λ name. name.now) o.order ≡ first_of (codes "order") rows
   pub settings : AreSettings rows o.settings
 
 -- and what is written beside the answers
@@ -84,13 +85,15 @@ IsSubcommand name rows (Serve args) = (name ≡ codes "serve") × (args.graph.no
 IsSubcommand name rows (Check args) =
     (name ≡ codes "check") × (args.graph.now ≡ text_of (codes "GRAPH") rows) × (args.questions.now ≡ text_of (codes "QUESTIONS") rows)
     × (args.answers.now ≡ text_of (codes "ANSWERS") rows) × Reads 64 (one_of (codes "limit") rows) args.limit
+IsSubcommand name rows (Order args) = (name ≡ codes "order") × (args.graph.now ≡ text_of (codes "GRAPH") rows)
 IsSubcommand name rows (Faults numbers) =
     (name ≡ codes "faults") × AllZip IsFaultNumber (unwrap_or (all_of (codes "N") rows) []) numbers.items
 
 -- no subcommand of the program has this name
 abbrev pub IsNoName : Text → Type 0
 IsNoName name =
-    (name ≢ codes "solve") × (name ≢ codes "bundle") × (name ≢ codes "serve") × (name ≢ codes "check") × (name ≢ codes "faults")
+    (name ≢ codes "solve") × (name ≢ codes "bundle") × (name ≢ codes "serve") × (name ≢ codes "check") × (name ≢ codes "order")
+    × (name ≢ codes "faults")
 
 -- what the subcommand of a parse is, by its name and matches; none if there is none, or none of
 -- this name

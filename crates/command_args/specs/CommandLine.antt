@@ -52,6 +52,7 @@ abbrev pub settings : (algebras dealings : Names) → List Rule
 settings algebras dealings =
     flag (codes "plain")
     ∷ flag (codes "factors")
+    ∷ option (codes "order")
     ∷ algebra algebras
     ∷ limit
     ∷ usual_number (codes "width") 1 64 (codes "1")
@@ -97,6 +98,9 @@ serve algebras dealings = subcommand (codes "serve") (file (codes "GRAPH") ∷ s
 abbrev pub check : Shape
 check = subcommand (codes "check") (file (codes "GRAPH") ∷ file (codes "QUESTIONS") ∷ file (codes "ANSWERS") ∷ limit ∷ [])
 
+abbrev pub order : Shape
+order = subcommand (codes "order") (file (codes "GRAPH") ∷ [])
+
 abbrev pub faults : Shape
 faults = subcommand (codes "faults") (fault_numbers ∷ [])
 
@@ -104,7 +108,7 @@ faults = subcommand (codes "faults") (fault_numbers ∷ [])
 abbrev pub diffuse : (algebras dealings : Names) → App
 diffuse algebras dealings = record {
   top = record (new_shape (codes "diffuse")) { is_leaf = false; has_version = true; subcommand_required = true };
-  subs = solve algebras dealings ∷ bundle algebras dealings ∷ serve algebras dealings ∷ check ∷ faults ∷ [];
+  subs = solve algebras dealings ∷ bundle algebras dealings ∷ serve algebras dealings ∷ check ∷ order ∷ faults ∷ [];
 }
 
 -- the names of the algebras

@@ -2,15 +2,15 @@
 //! says of them.
 ghost use Rattle.std.specs.Prelude.{◌≡◌, [], IfOk};
 ghost use Rattle.clap.specs.Words.{app_of};
-ghost use Rattle.command_args.specs.CommandLine.{bundle, check, diffuse, faults, serve, settings, solve, watching, with_rules};
+ghost use Rattle.command_args.specs.CommandLine.{bundle, check, diffuse, faults, order, serve, settings, solve, watching, with_rules};
 
 use crate::arguments::{
     algebra, deal, fault_numbers, file, flag, limit, option, usual_number, weight,
 };
 use crate::help::{
     ACCOUNTS, AHEAD, ANSWERS, BEST_FIRST, BUDGET, BUNDLE, EXPLAINED, FACTORS, GRAPH, JUDGED, LIMIT,
-    LIMIT_OF_ANSWERS, NAMES, PLAIN, PROGRESS, PURPOSE, QUESTIONS, REPLIES, SERVE, SERVED_GRAPH,
-    SHARDS, STATUSES, TIMES, TURNS, VERDICT, VERDICTS, VERSION, WIDTH, WORKERS,
+    LIMIT_OF_ANSWERS, NAMES, ORDER, PLACES, PLAIN, PROGRESS, PURPOSE, QUESTIONS, REPLIES, SERVE,
+    SERVED_GRAPH, SHARDS, STATUSES, TIMES, TURNS, VERDICT, VERDICTS, VERSION, WIDTH, WORKERS,
 };
 use clap::Command;
 use std::alloc::{AllocError, Global};
@@ -28,6 +28,7 @@ fn with_settings<'a>(
     command
         .arg(flag(alloc, "plain", PLAIN))?
         .arg(flag(alloc, "factors", FACTORS))?
+        .arg(option(alloc, "order", "FILE", ORDER))?
         .arg(algebra(alloc, algebras))?
         .arg(limit(alloc, LIMIT))?
         .arg(usual_number(alloc, "width", (1, 64), "1", WIDTH))?
@@ -135,6 +136,20 @@ fn check<'a>(alloc: Global) -> Result<Command<'a>, AllocError>
         .arg(limit(alloc, LIMIT_OF_ANSWERS))
 }
 
+fn order<'a>(alloc: Global) -> Result<Command<'a>, AllocError>
+    ensures { IfOk result (λ r. app_of r ≡ record { top = order; subs = [] }) }
+{
+    Command::new(alloc, "order")
+        .about("Writes an order of elimination of a graph, for `--order`")
+        .after_help(PLACES)
+        .arg(file(
+            alloc,
+            "GRAPH",
+            "A road graph, a .gr file; `-` is standard input",
+            GRAPH,
+        ))
+}
+
 fn faults<'a>(alloc: Global) -> Result<Command<'a>, AllocError>
     ensures { IfOk result (λ r. app_of r ≡ record { top = faults; subs = [] }) }
 {
@@ -161,5 +176,6 @@ pub(crate) fn command<'a>(
         .subcommand(bundle(alloc, algebras, dealings)?)?
         .subcommand(serve(alloc, algebras, dealings)?)?
         .subcommand(check(alloc)?)?
+        .subcommand(order(alloc)?)?
         .subcommand(faults(alloc)?)
 }

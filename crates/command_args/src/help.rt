@@ -9,7 +9,7 @@ macro_rules! with_statuses {
             "  0  answered, valid, or help was requested\n",
             "  1  invalid\n",
             "  2  wrong usage, or fault 43\n",
-            "  3  an input is missing or malformed: faults 1, 2, and 10 to 36\n",
+            "  3  an input is missing, malformed or too dense: faults 1, 2, 10 to 36, 44\n",
             "  4  out of memory: fault 3\n",
             "  5  the output could not be written: fault 42\n",
             "  6  stopped: faults 40 and 41\n",
@@ -91,10 +91,18 @@ pub const PLAIN: &str = concat!(
 
 /// The solver by factors of the graph.
 pub const FACTORS: &str = concat!(
-    "Factor the graph once, then answer each question by substitution. Best\n",
-    "for many questions over one road graph, under shortest, within or\n",
-    "hops. Not with `--plain`. A graph that is too dense to factor, or\n",
+    "Factor the graph once, then answer each question by substitution, but\n",
+    "a pair that a search of some hundred steps decides by that search.\n",
+    "Best for many questions over one road graph, under shortest, within\n",
+    "or hops. Not with `--plain`. A graph that is too dense to factor, or\n",
     "whose sums could exceed 2^63, is answered as with `--plain`.",
+);
+
+/// An order of one's own, by which the graph is factored.
+pub const ORDER: &str = concat!(
+    "Factor the graph by the order of elimination in FILE, whose line V is\n",
+    "the place of vertex V, from 0. `diffuse order` and `ndmetis` write\n",
+    "such files. Any order gives the same answers. Only with `--factors`.",
 );
 
 /// How many questions are run together.
@@ -225,6 +233,13 @@ pub const VERDICTS: &str = with_statuses!(
     "the fewest hops and then the lowest-numbered parents, so right values from\n"
     "another program may be `invalid` for reason 4 or 5.\n"
     "\n"
+);
+
+/// What an order is.
+pub const PLACES: &str = concat!(
+    "Line V of the order is the place of vertex V, from 0. It is by approximate\n",
+    "minimum degree, the one that `--factors` finds by itself: write it once, and\n",
+    "give it with `--order` to all later runs.",
 );
 
 /// What the exit statuses mean.

@@ -7,5 +7,6 @@ mod help;
 mod parsed;
 
 pub use parsed::{
-    BundleArgs, CheckArgs, RunOptions, ServeArgs, SolveArgs, Subcommand, WatchOptions, parse_args,
+    BundleArgs, CheckArgs, OrderArgs, RunOptions, ServeArgs, SolveArgs, Subcommand, WatchOptions,
+    parse_args,
 };

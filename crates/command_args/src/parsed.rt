@@ -26,6 +26,8 @@ pub struct RunOptions<'a> {
     pub algebra: &'a str,
     /// The limit of `within`, if one is given.
     pub limit: Option<u64>,
+    /// The name of the file of an order of elimination, if one is given.
+    pub order: Option<&'a str>,
     /// How the questions are run.
     pub settings: Settings,
 }
@@ -73,6 +75,12 @@ pub struct CheckArgs<'a> {
     pub limit: Option<u64>,
 }
 
+/// The arguments of `order`: the name of its graph.
+#[derive(Clone, Copy, Debug)]
+pub struct OrderArgs<'a> {
+    pub graph: &'a str,
+}
+
 /// What a command line asks for.
 #[derive(Drop)]
 pub enum Subcommand<'a> {
@@ -85,6 +93,8 @@ pub enum Subcommand<'a> {
     /// Judge the answers of one input to the questions of another over the graph of a third, by
     /// their names.
     Check(CheckArgs<'a>),
+    /// Write an order of elimination of the graph of an input.
+    Order(OrderArgs<'a>),
     /// Explain the faults of these numbers, and without a number all.
     Faults { numbers: Vec<u64> },
 }
@@ -158,6 +168,7 @@ fn options_of<'a>(matches: &ArgMatches<'a>) -> RunOptions<'a>
     RunOptions {
         algebra: text_of(matches, "algebra"),
         limit: number_of(matches, "limit"),
+        order: matches.get_str("order"),
         settings: settings_of(matches),
     }
 }
@@ -230,6 +241,9 @@ fn subcommand_named<'a>(
             questions: text_of(found, "QUESTIONS"),
             answers: text_of(found, "ANSWERS"),
             limit: number_of(found, "limit"),
+        }))),
+        "order" => Ok(Some(Subcommand::Order(OrderArgs {
+            graph: text_of(found, "GRAPH"),
         }))),
         "faults" => {
             let numbers = numbers_of(alloc, found, "N")?;

@@ -28,6 +28,7 @@ meanings =
     ∷ (17, codes "no such vertex")
     ∷ (18, codes "more lines than the problem line announces")
     ∷ (19, codes "fewer lines than the problem line announces")
+    ∷ (20, codes "a place that an earlier line of an order has")
     ∷ (30, codes "answers that do not begin with a header")
     ∷ (31, codes "a header with wrong fields or words, or an algebra that is not here")
     ∷ (32, codes "a line of answers where it does not belong")
@@ -39,6 +40,7 @@ meanings =
     ∷ (41, codes "a gate stopped a worker")
     ∷ (42, codes "the output could not be written")
     ∷ (43, codes "options that do not go with the algebra: `--limit` or `--factors`")
+    ∷ (44, codes "a graph that is too dense to factor, so it has no order")
     ∷ []
 
 -- a table with one row for each fault, in the order of their numbers, which says what the fault

@@ -68,7 +68,7 @@ const FAULTS: &[FaultRow] = &[
         example: "`a 1 2 4294967296` in a graph",
         cause: concat!(
             "a weight above 4294967295, or more than 33554432 vertices,\n",
-            "    134217728 arcs or 1048576 questions"
+            "    134217728 arcs or 1048576 questions; in an order, places from 1 on"
         ),
     },
     FaultRow {
@@ -81,13 +81,25 @@ const FAULTS: &[FaultRow] = &[
         number: 18,
         meaning: "more lines than the problem line announces",
         example: "`p sp 2 0` and then `a 1 2 3`",
-        cause: "roads that were counted once, and written as an arc each way",
+        cause: concat!(
+            "roads that were counted once, and written as an arc each way; or an\n",
+            "    order of a graph with more vertices"
+        ),
     },
     FaultRow {
         number: 19,
         meaning: "fewer lines than the problem line announces",
         example: "`p sp 2 1` and nothing else",
-        cause: "a file that was cut short, as by a download that broke off",
+        cause: concat!(
+            "a file that was cut short, as by a download that broke off; or an\n",
+            "    order of a graph with fewer vertices"
+        ),
+    },
+    FaultRow {
+        number: 20,
+        meaning: "a place that an earlier line of an order has",
+        example: "`0` twice in an order",
+        cause: "another list of numbers, such as the parts that `gpmetis` writes",
     },
     FaultRow {
         number: 30,
@@ -162,6 +174,12 @@ const FAULTS: &[FaultRow] = &[
             "    only shortest, within and hops have. A setting out of its range is\n",
             "    wrong usage of the program, and 43 in the library"
         ),
+    },
+    FaultRow {
+        number: 44,
+        meaning: "a graph that is too dense to factor, so it has no order",
+        example: "`diffuse order` of 1000 vertices that are all joined",
+        cause: "more arcs than roads have: answer it without `--factors`",
     },
 ];
 

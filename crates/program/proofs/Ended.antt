@@ -1,14 +1,15 @@
 -- How a command ends, where its input is seen otherwise.
-use Rattle.std.specs.Prelude.{◌≡◌, ◌↔◌, ℕ, Bool, Option, Some, None, IsSome, Result}
+use Rattle.std.specs.Prelude.{◌≡◌, ◌↔◌, ℕ, Bool, Option, Some, None, IsSome, Result, Ok, Err}
 use Rattle.std.specs.Option.{option_map}
-use Rattle.std.proofs.Common.{List, ap, subst, true, false}
+use Rattle.std.proofs.Common.{List, ap, subst, true, false, inl, inr}
 use Rattle.road_graph.specs.GraphData.{GraphData}
 use Rattle.road_files.specs.Asked.{Asked}
 use Rattle.path_algebra.specs.declared.choice.AlgebraChoice.{AlgebraChoice}
 use Rattle.batch_run.specs.declared.faults.File.{File}
 use Rattle.batch_run.specs.declared.faults.RunFault.{RunFault}
 use Rattle.batch_run.specs.declared.settings.Settings.{Settings}
-use Rattle.text_lines.specs.Streams.{Output}
+use Rattle.batch_run.specs.Orders.{HasReadOrdered}
+use Rattle.text_lines.specs.Streams.{Input, Output}
 use Rattle.program.specs.Progress.{progress_text}
 use Rattle.program.specs.Watching.{EndsWatched, IsAddedIf}
 
@@ -42,3 +43,22 @@ module _ {W A E : Type 0} (chosen : AlgebraChoice) (settings : Settings) (p q : 
     ends = ends.ends;
     finishes = ends.finishes;
   }
+
+-- an order was read after inputs of which less is said
+module _ {O : Type 0} (IsRead : GraphData → Asked → Type 0) (inputs later : File → Type 0) (order order_after : Option (Input O)) where
+  ordered_as : (HasRead HasRead' : Result (Unit {0}) RunFault → Type 0) → ((o : Result (Unit {0}) RunFault) → HasRead o → HasRead' o) → (o : Result (Unit {0}) RunFault) →
+      HasReadOrdered IsRead inputs later HasRead order order_after o → HasReadOrdered IsRead inputs later HasRead' order order_after o
+  ordered_as _ _ less (Ok x) h = (less (Ok tt) h.0, h.1)
+  ordered_as _ _ less (Err f) (inl h) = inl (less (Err f) h.0, h.1, h.2)
+  ordered_as _ _ less (Err f) (inr (inl h)) = inr (inl (less (Ok tt) h.0, h.1))
+  ordered_as _ _ less (Err f) (inr (inr h)) = inr (inr (less (Err f) h.0, h.1, h.2, h.3))
+
+  -- nothing is said of the names of a pair
+  pub after_pair : (Same Same' : Type 0) (HasRead HasRead' : Result (Unit {0}) RunFault → Type 0) → ((o : Result (Unit {0}) RunFault) → HasRead o → HasRead' o) → (o : Result (Unit {0}) RunFault) →
+      HasReadOrdered IsRead inputs later (λ o. Same × Same' × HasRead o) order order_after o → HasReadOrdered IsRead inputs later HasRead' order order_after o
+  after_pair Same Same' HasRead HasRead' less = ordered_as (λ o. Same × Same' × HasRead o) HasRead' (λ o h. less o h.2)
+
+  -- nor of that of a bundle
+  pub after_bundle : (Same : Type 0) (HasRead : Result (Unit {0}) RunFault → Type 0) → (o : Result (Unit {0}) RunFault) →
+      HasReadOrdered IsRead inputs later (λ o. Same × HasRead o) order order_after o → HasReadOrdered IsRead inputs later HasRead order order_after o
+  after_bundle Same HasRead = ordered_as (λ o. Same × HasRead o) HasRead (λ o h. h.1)

@@ -4,21 +4,23 @@ use Rattle.clap.specs.declared.error.kind.ErrorKind.{ErrorKind}
 use Rattle.clap.specs.declared.error.kind.ErrorKind.TheVariants.{DisplayHelp, DisplayVersion, OutOfMemory}
 use Rattle.batch_run.specs.declared.faults.RunFault.{RunFault}
 use Rattle.command_args.specs.declared.parsed.Subcommand.{Subcommand}
-use Rattle.command_args.specs.declared.parsed.Subcommand.TheVariants.{Solve, Bundle, Serve, Check, Faults}
+use Rattle.command_args.specs.declared.parsed.Subcommand.TheVariants.{Solve, Bundle, Serve, Check, Order, Faults}
 use Rattle.command_args.specs.Asked.{AskFor, AskForNone}
 use Rattle.fault_reports.specs.declared.rows.FaultRow.{FaultRow}
 use Rattle.fault_reports.specs.Reports.{EndsAs, IsUsage, Reaches, ReportsFault, run_fault}
 use Rattle.fault_reports.specs.Explained.{Explains, IsFaultTable}
 use Rattle.program.specs.Commands.{DoesBundle, DoesCheck, DoesServe, DoesSolve}
 use Rattle.program.specs.Moments.{Moment}
+use Rattle.program.specs.Ordering.{DoesOrder}
 use Rattle.program.specs.Opening.{Tells, Tries}
 
 -- a subcommand over files of this type, a standard input of that, and new files of a third
 abbrev pub DoesSubcommand : (F I S : Type 0) → {P W E : Type 0} → Tries P → Tries P → Tells P → Subcommand → Moment P W E → Moment P W E → ℕ → Type 0
 DoesSubcommand F I S opens creates tells (Solve args) old new result = DoesSolve F I S opens creates tells args old new result
-DoesSubcommand F I S opens creates tells (Bundle args) old new result = DoesBundle I S creates tells args old new result
+DoesSubcommand F I S opens creates tells (Bundle args) old new result = DoesBundle F I S opens creates tells args old new result
 DoesSubcommand F I S opens creates tells (Serve args) old new result = DoesServe F I opens args old new result
 DoesSubcommand F I S opens creates tells (Check args) old new result = DoesCheck F I opens args old new result
+DoesSubcommand F I S opens creates tells (Order args) old new result = DoesOrder F I opens args old new result
 DoesSubcommand F I S opens creates tells (Faults numbers) old new result =
     (new.files ≡ old.files) × ((table : List FaultRow) × IsFaultTable table × Explains table numbers.items old.out new.out old.errors new.errors result)
 

@@ -1,12 +1,11 @@
 -- What the commands do: what they try, in what order, and what they then read and write.
-use Rattle.std.specs.Prelude.{◌≡◌, ◌≢◌, ℕ, ◌⊎◌, ◌↔◌, List, [], ◌∷◌, Option, Result, IsSome, is_some, false}
+use Rattle.std.specs.Prelude.{◌≡◌, ℕ, ◌⊎◌, ◌↔◌, List, [], ◌∷◌, Option, Result, IsSome, is_some, false}
 use Rattle.answer_check.specs.declared.verdict.Verdict.{Verdict}
 use Rattle.path_algebra.specs.declared.choice.AlgebraChoice.{AlgebraChoice}
 use Rattle.path_algebra.specs.Choices.{Under, arc_cost_of}
-use Rattle.batch_run.specs.declared.faults.File.TheVariants.{Graph}
 use Rattle.batch_run.specs.declared.faults.RunFault.{RunFault}
-use Rattle.batch_run.specs.declared.settings.Settings.{Settings}
 use Rattle.batch_run.specs.Inputs.{HasReadBundle, HasReadPair}
+use Rattle.batch_run.specs.Orders.{HasReadOrdered, IsOrderedFile, IsRunFile}
 use Rattle.batch_run.specs.Ran.{IsBundleFile, IsBundleOf, IsPairFile, IsPairOf}
 use Rattle.batch_run.specs.Runs.{Input, Output}
 use Rattle.batch_run.specs.Unsuited.{IsRefusedUnsuited}
@@ -19,11 +18,10 @@ use Rattle.command_args.specs.declared.parsed.WatchOptions.{WatchOptions}
 use Rattle.fault_reports.specs.Reports.{EndsAs}
 use Rattle.program.specs.declared.opened_input.OpenedInput.{OpenedInput}
 use Rattle.program.specs.declared.refusal.Refusal.{Refusal}
-use Rattle.program.specs.declared.refusal.Refusal.TheVariants.{Fault, StdinTaken}
 use Rattle.program.specs.Inputs.{stdin_name}
 use Rattle.program.specs.Judgements.{EndsCheck, RanJudge}
 use Rattle.program.specs.Moments.{Moment}
-use Rattle.program.specs.Opening.{CannotChoose, CannotCreate, CannotOpen, CreatesIf, HasOpened, IsChosen, Tells, Tries, accounts_name, inputs_judged, inputs_solved, missing, written_names}
+use Rattle.program.specs.Opening.{CannotChoose, CannotCreate, CannotOpen, CreatesIf, HasOpened, IsChosen, Tells, Tries, accounts_name, inputs_bundled, inputs_judged, inputs_served, inputs_solved, one_if, written_names}
 use Rattle.program.specs.Refusals.{Says}
 use Rattle.program.specs.Runs.{gate_is_open}
 use Rattle.program.specs.Times.{ShowsTimes}
@@ -51,16 +49,18 @@ taken_solved args = args.graph.now ∷ args.questions.now ∷ written_names
 abbrev pub taken_bundled : List (List ℕ)
 taken_bundled = stdin_name ∷ written_names
 
--- both inputs were opened, and the file of accounts was created; then the questions were answered,
+-- the inputs were opened, and the file of accounts was created; then the questions were answered,
 -- and at last times were shown, if they are wanted
-pub record SolvesOpened (F I S : Type 0) {P W E : Type 0} (creates : Tries P) (tells : Tells P) (chosen : AlgebraChoice) (args : SolveArgs) (first second : Input (OpenedInput F I)) (opened : P) (old new : Moment P W E) (result : ℕ) : Type 0 where
+pub record SolvesOpened (F I S : Type 0) {P W E : Type 0} (creates : Tries P) (tells : Tells P) (chosen : AlgebraChoice) (args : SolveArgs) (first second : Input (OpenedInput F I)) (third : Option (Input (OpenedInput F I))) (opened : P) (old new : Moment P W E) (result : ℕ) : Type 0 where
   pub accounts : Option (Output S)
   pub accounts_after : Option (Output S)
   pub answered : Moment P W E
   pub created : Creates creates tells (taken_solved args) args.watching accounts opened answered.files
   pub first_after : Input (OpenedInput F I)
   pub second_after : Input (OpenedInput F I)
-  pub ends : EndsWatched chosen args.options.settings args.watching.progress (IsPairOf first.left second.left) IsPairFile (HasReadPair first first_after second second_after)
+  pub third_after : Option (Input (OpenedInput F I))
+  pub ends : EndsWatched chosen args.options.settings args.watching.progress (IsPairOf first.left second.left) (IsOrderedFile IsPairFile)
+      (HasReadOrdered (IsPairOf first.left second.left) IsPairFile IsRunFile (HasReadPair first first_after second second_after) third third_after)
       old.out answered.out accounts accounts_after old.errors answered.errors result
   pub timed : ShowsTimes args.watching.times result answered new
 
@@ -70,9 +70,10 @@ pub record SolvesChosen (F I S : Type 0) {P W E : Type 0} (opens creates : Tries
   pub opened : P
   pub first : Input (OpenedInput F I)
   pub second : Input (OpenedInput F I)
-  pub order : HasOpened opens (inputs_solved args) (first ∷ second ∷ []) old.files opened
+  pub third : Option (Input (OpenedInput F I))
+  pub order : HasOpened opens (inputs_solved args) (first ∷ second ∷ one_if third) old.files opened
   pub ends : IsRefused (CannotCreate creates tells (taken_solved args) (accounts_name args.watching) opened) old new result
-      ⊎ SolvesOpened F I S creates tells chosen args first second opened old new result
+      ⊎ SolvesOpened F I S creates tells chosen args first second third opened old new result
 
 -- `solve` with these arguments, over files of this type, a standard input of that, and new files of
 -- a third
@@ -83,52 +84,62 @@ DoesSolve F I S opens creates tells args old new result =
     × (IsRefused (CannotOpen opens (inputs_solved args) old.files) old new result
     ⊎ SolvesChosen F I S opens creates tells chosen args old new result))
 
--- the file of accounts was created; then the questions of standard input were answered, which
--- nothing was read of before, and at last times were shown, if they are wanted
-pub record BundlesStdin (I S : Type 0) {P W E : Type 0} (creates : Tries P) (tells : Tells P) (chosen : AlgebraChoice) (args : BundleArgs) (old new : Moment P W E) (result : ℕ) : Type 0 where
-  pub text : Input I
-  pub text_after : Input I
-  pub unread : text.asked ≡ 0
+-- the file of accounts was created; then the questions of standard input were answered, and at last
+-- times were shown, if they are wanted
+pub record BundlesOpened (F I S : Type 0) {P W E : Type 0} (creates : Tries P) (tells : Tells P) (chosen : AlgebraChoice) (args : BundleArgs) (text : Input (OpenedInput F I)) (order : Option (Input (OpenedInput F I))) (opened : P) (old new : Moment P W E) (result : ℕ) : Type 0 where
+  pub text_after : Input (OpenedInput F I)
+  pub order_after : Option (Input (OpenedInput F I))
   pub accounts : Option (Output S)
   pub accounts_after : Option (Output S)
   pub answered : Moment P W E
-  pub created : Creates creates tells taken_bundled args.watching accounts old.files answered.files
-  pub ends : EndsWatched chosen args.options.settings args.watching.progress (IsBundleOf text.left) IsBundleFile (HasReadBundle text text_after)
+  pub created : Creates creates tells taken_bundled args.watching accounts opened answered.files
+  pub ends : EndsWatched chosen args.options.settings args.watching.progress (IsBundleOf text.left) (IsOrderedFile IsBundleFile)
+      (HasReadOrdered (IsBundleOf text.left) IsBundleFile IsRunFile (HasReadBundle text text_after) order order_after)
       old.out answered.out accounts accounts_after old.errors answered.errors result
   pub timed : ShowsTimes args.watching.times result answered new
 
+-- standard input and an order, if one is named, were opened; then the file of accounts was created,
+-- or that is reported; then the questions were answered
+pub record BundlesChosen (F I S : Type 0) {P W E : Type 0} (opens creates : Tries P) (tells : Tells P) (chosen : AlgebraChoice) (args : BundleArgs) (old new : Moment P W E) (result : ℕ) : Type 0 where
+  pub opened : P
+  pub text : Input (OpenedInput F I)
+  pub order : Option (Input (OpenedInput F I))
+  pub inputs : HasOpened opens (inputs_bundled args) (text ∷ one_if order) old.files opened
+  pub ends : IsRefused (CannotCreate creates tells taken_bundled (accounts_name args.watching) opened) old new result
+      ⊎ BundlesOpened F I S creates tells chosen args text order opened old new result
+
 -- `bundle` with these arguments
-abbrev pub DoesBundle : (I S : Type 0) → {P W E : Type 0} → Tries P → Tells P → BundleArgs → Moment P W E → Moment P W E → ℕ → Type 0
-DoesBundle I S creates tells args old new result =
+abbrev pub DoesBundle : (F I S : Type 0) → {P W E : Type 0} → Tries P → Tries P → Tells P → BundleArgs → Moment P W E → Moment P W E → ℕ → Type 0
+DoesBundle F I S opens creates tells args old new result =
     IsRefused (λ files refusal. (files ≡ old.files) × CannotChoose args.options (is_some args.watching.accounts) refusal) old new result
     ⊎ ((chosen : AlgebraChoice) × IsChosen args.options (is_some args.watching.accounts) chosen
-    × (IsRefused (CannotCreate creates tells taken_bundled (accounts_name args.watching) old.files) old new result
-    ⊎ BundlesStdin I S creates tells chosen args old new result))
+    × (IsRefused (CannotOpen opens (inputs_bundled args) old.files) old new result
+    ⊎ BundlesChosen F I S opens creates tells chosen args old new result))
 
--- the graph's file was opened, and then the requests of standard input were replied to; nothing was
--- read of either before
-pub record ServesOpened (F I : Type 0) {P W E : Type 0} (chosen : AlgebraChoice) (settings : Settings) (old new : Moment P W E) (result : ℕ) : Type 0 where
-  pub roads : Input F
-  pub roads_after : Input F
-  pub requests : Input I
-  pub requests_after : Input I
-  pub unread : (roads.asked ≡ 0) × (requests.asked ≡ 0)
+-- the inputs were opened, and then the requests of standard input were replied to; nothing was read
+-- of any input before
+pub record ServesOpened (F I : Type 0) {P W E : Type 0} (opens : Tries P) (chosen : AlgebraChoice) (args : ServeArgs) (old new : Moment P W E) (result : ℕ) : Type 0 where
+  pub roads : Input (OpenedInput F I)
+  pub roads_after : Input (OpenedInput F I)
+  pub requests : Input (OpenedInput F I)
+  pub requests_after : Input (OpenedInput F I)
+  pub order : Option (Input (OpenedInput F I))
+  pub order_after : Option (Input (OpenedInput F I))
+  pub inputs : HasOpened opens (inputs_served args) (roads ∷ requests ∷ one_if order) old.files new.files
   pub outcome : Result (Unit {0}) RunFault
-  pub ran : Under chosen (λ V A. RanService A settings gate_is_open roads roads_after requests requests_after old.out new.out outcome)
+  pub ran : Under chosen (λ V A. RanService A args.options.settings gate_is_open roads roads_after order order_after requests requests_after old.out new.out outcome)
   -- 43 is reported exactly of settings that are out of range, or choose factors for an algebra
   -- without a cost
-  pub suited : IsRefusedUnsuited (arc_cost_of chosen) settings outcome
+  pub suited : IsRefusedUnsuited (arc_cost_of chosen) args.options.settings outcome
   pub ends : EndsAs (λ _. 0) old.errors new.errors outcome result
 
--- `serve` with these arguments. Standard input has the requests, so the graph can't be there
+-- `serve` with these arguments. Standard input has the requests, so no file can be there
 abbrev pub DoesServe : (F I : Type 0) → {P W E : Type 0} → Tries P → ServeArgs → Moment P W E → Moment P W E → ℕ → Type 0
 DoesServe F I opens args old new result =
     IsRefused (λ files refusal. (files ≡ old.files) × CannotChoose args.options false refusal) old new result
     ⊎ ((chosen : AlgebraChoice) × IsChosen args.options false chosen
-    × (IsRefused (λ files refusal. (files ≡ old.files) × (args.graph.now ≡ stdin_name) × (refusal ≡ StdinTaken)) old new result
-    ⊎ ((args.graph.now ≢ stdin_name) × opens old.files args.graph.now new.files
-    × (IsRefused (λ _ refusal. refusal ≡ Fault (missing Graph)) old new result
-    ⊎ ServesOpened F I chosen args.options.settings old new result))))
+    × (IsRefused (CannotOpen opens (inputs_served args) old.files) old new result
+    ⊎ ServesOpened F I opens chosen args old new result))
 
 -- all three inputs were opened; then the answers were judged, and the verdict was written
 pub record ChecksOpened (F I : Type 0) {P W E : Type 0} (opens : Tries P) (args : CheckArgs) (old new : Moment P W E) (result : ℕ) : Type 0 where

@@ -4,11 +4,11 @@ pub mod Refusals
 pub mod Opening
 pub mod Accounts
 pub mod Progress
-pub mod Chosen
 pub mod Runs
 pub mod Watching
 pub mod Times
 pub mod Verdicts
 pub mod Judgements
 pub mod Commands
+pub mod Ordering
 pub mod CommandLine

@@ -1,24 +1,28 @@
 -- What a command tries before it reads: its words, the inputs of their names in order, and the file
 -- of accounts.
 use Rattle.std.specs.Prelude.{◌≡◌, ◌≢◌, ℕ, ◌⊎◌, List, [], ◌∷◌, Bool, true, false, Option, Some, None, IsSome, IfSome, All, Any, codes, map}
+use Rattle.std.specs.Borrow.{Bor}
 use Rattle.std.specs.Option.{option_map}
 use Rattle.path_algebra.specs.Names.{name_of_text}
 use Rattle.path_algebra.specs.Choices.{CannotBe, limit_of, name_of}
 use Rattle.path_algebra.specs.declared.choice.AlgebraChoice.{AlgebraChoice}
 use Rattle.batch_run.specs.declared.faults.File.{File}
-use Rattle.batch_run.specs.declared.faults.File.TheVariants.{Graph, Questions, Answers}
+use Rattle.batch_run.specs.declared.faults.File.TheVariants.{Graph, Questions, Bundle, Answers, Order}
 use Rattle.batch_run.specs.declared.faults.RunFault.{RunFault}
 use Rattle.batch_run.specs.declared.settings.Settings.{Settings}
 use Rattle.batch_run.specs.Runs.{Input}
+use Rattle.command_args.specs.declared.parsed.BundleArgs.{BundleArgs}
 use Rattle.command_args.specs.declared.parsed.CheckArgs.{CheckArgs}
+use Rattle.command_args.specs.declared.parsed.OrderArgs.{OrderArgs}
 use Rattle.command_args.specs.declared.parsed.RunOptions.{RunOptions}
+use Rattle.command_args.specs.declared.parsed.ServeArgs.{ServeArgs}
 use Rattle.command_args.specs.declared.parsed.SolveArgs.{SolveArgs}
 use Rattle.command_args.specs.declared.parsed.WatchOptions.{WatchOptions}
 use Rattle.fault_reports.specs.Reports.{run_fault}
 use Rattle.program.specs.Inputs.{NamesStdinOnce, IsNamed, stdin_name}
 use Rattle.program.specs.declared.opened_input.OpenedInput.{OpenedInput}
 use Rattle.program.specs.declared.refusal.Refusal.{Refusal}
-use Rattle.program.specs.declared.refusal.Refusal.TheVariants.{TwoSolvers, Uncounted, StdinTwice, NoFile, FileTaken, Fault}
+use Rattle.program.specs.declared.refusal.Refusal.TheVariants.{TwoSolvers, Uncounted, Unfactored, StdinTwice, NoFile, FileTaken, Fault}
 
 -- accounts are wanted, and of a solver that counts nothing: the plain one, or the one by factors
 abbrev pub IsUncounted : Bool → Settings → Type 0
@@ -28,20 +32,27 @@ IsUncounted accounts settings = (accounts ≡ true) × ((settings.plain ≡ true
 abbrev pub AreTwo : Settings → Type 0
 AreTwo settings = (settings.plain ≡ true) × (settings.factors ≡ true)
 
+-- an order of elimination is named, and the graph is not to be factored
+abbrev pub IsUnfactored : RunOptions → Type 0
+IsUnfactored options = IsSome options.order × (options.settings.factors ≡ false)
+
 -- this is the algebra that the options name, with their limit
 pub record IsChosen (options : RunOptions) (accounts : Bool) (chosen : AlgebraChoice) : Type 0 where
   pub one_solver : AreTwo options.settings → ⊥
+  pub factored : IsUnfactored options → ⊥
   pub counted : IsUncounted accounts options.settings → ⊥
   pub named : name_of_text options.algebra.now ≡ Some (name_of chosen)
   pub limited : limit_of chosen ≡ options.limit
 
--- two solvers are asked for; or, if not, accounts are wanted of a solver that counts nothing; or,
--- if not, there is no algebra of that name with that limit, which is fault 43
+-- two solvers are asked for; or, if not, an order is named without factors; or, if not, accounts are
+-- wanted of a solver that counts nothing; or, if not, there is no algebra of that name with that
+-- limit, which is fault 43
 abbrev pub CannotChoose : RunOptions → Bool → Refusal → Type 0
 CannotChoose options accounts TwoSolvers = AreTwo options.settings
-CannotChoose options accounts Uncounted = (AreTwo options.settings → ⊥) × IsUncounted accounts options.settings
+CannotChoose options accounts Unfactored = (AreTwo options.settings → ⊥) × IsUnfactored options
+CannotChoose options accounts Uncounted = (AreTwo options.settings → ⊥) × (IsUnfactored options → ⊥) × IsUncounted accounts options.settings
 CannotChoose options accounts (Fault f) =
-    (AreTwo options.settings → ⊥) × (IsUncounted accounts options.settings → ⊥) × (f ≡ run_fault 43) × CannotBe (name_of_text options.algebra.now) options.limit
+    (AreTwo options.settings → ⊥) × (IsUnfactored options → ⊥) × (IsUncounted accounts options.settings → ⊥) × (f ≡ run_fault 43) × CannotBe (name_of_text options.algebra.now) options.limit
 CannotChoose options accounts _ = ⊥
 
 -- trying to open, or to create, the file of a name leads from one state of the files to another
@@ -57,9 +68,35 @@ OpensInput opens name old new = ((name ≡ stdin_name) × (new ≡ old)) ⊎ ((n
 abbrev pub Named : Type 0
 Named = List (List ℕ × File)
 
+-- the name of an order, if one is given
+abbrev pub name_of_order : Option (Bor (List ℕ)) → Option (List ℕ)
+name_of_order name = option_map (λ n. n.now) name
+
+-- the input of an order of elimination, if one is named
+abbrev pub order_input : Option (List ℕ) → Named
+order_input None = []
+order_input (Some name) = (name, Order) ∷ []
+
+-- what there is, as a list
+abbrev pub one_if : {X : Type 0} → Option X → List X
+one_if None = []
+one_if (Some x) = x ∷ []
+
 -- those of `solve`, in order
 abbrev pub inputs_solved : SolveArgs → Named
-inputs_solved args = (args.graph.now, Graph) ∷ (args.questions.now, Questions) ∷ []
+inputs_solved args = (args.graph.now, Graph) ∷ (args.questions.now, Questions) ∷ order_input (name_of_order args.options.order)
+
+-- those of `bundle`, of which the first is standard input
+abbrev pub inputs_bundled : BundleArgs → Named
+inputs_bundled args = (stdin_name, Bundle) ∷ order_input (name_of_order args.options.order)
+
+-- those of `serve`; standard input has the requests
+abbrev pub inputs_served : ServeArgs → Named
+inputs_served args = (args.graph.now, Graph) ∷ (stdin_name, Questions) ∷ order_input (name_of_order args.options.order)
+
+-- that of `order`
+abbrev pub inputs_ordered : OrderArgs → Named
+inputs_ordered args = (args.graph.now, Graph) ∷ []
 
 -- those of `check`, in order
 abbrev pub inputs_judged : CheckArgs → Named

@@ -4,6 +4,7 @@ ghost use Rattle.std.specs.Option.{option_map};
 ghost use Rattle.path_algebra.specs.Choices.{OfChosen, Under, arc_cost_of};
 ghost use Rattle.batch_run.specs.Inputs.{HasReadPair};
 ghost use Rattle.batch_run.specs.Ran.{IsPairFile, IsPairOf};
+ghost use Rattle.batch_run.specs.Orders.{HasReadOrdered, IsOrderedFile, IsRunFile};
 ghost use Rattle.batch_run.specs.Reports.{Watched};
 ghost use Rattle.batch_run.specs.Runs.{Ran};
 ghost use Rattle.batch_run.specs.Stopping.{Stopped};
@@ -14,12 +15,11 @@ ghost use Rattle.program.specs.Watching.{EndsAccounts, EndsWatched, outcome_of};
 
 use crate::files::FileSystem;
 use crate::host::Host;
-use crate::task::{MeasuredTask, Task, Watching};
-use crate::times::{FilePhases, Phases, Unmeasured};
+use crate::task::{Task, Watching};
 use crate::watch::CommandWatcher;
 use batch_run::{
-    BatchInput, OpenGate, PairInput, Run, RunFault, WRITE, Watcher, fault_of_run, run_batch,
-    usual_turns_are_enough,
+    BatchInput, OpenGate, OrderedInput, PairInput, Run, RunFault, WRITE, Watcher, fault_of_run,
+    run_batch, usual_turns_are_enough,
 };
 use fault_reports::end_with;
 use path_algebra::with_algebra;
@@ -58,17 +58,49 @@ fn run_chosen<R: Threads + Wait + Sync, I: BatchInput, W: RoadWrite, O: Watcher>
     )
 }
 
+/// The same for an input whose graph is factored by the order of a further input, if there is one.
+fn run_ordered<R: Threads + Wait + Sync, I: BatchInput, O: RoadRead, W: RoadWrite, V: Watcher>(
+    task: &Task<'_, R>,
+    input: &mut I,
+    order: &mut Option<O>,
+    out: &mut W,
+    watcher: &mut V,
+) -> Result<(), RunFault>
+    ensures run { Under task.now.chosen (λ V A. Ran A task.now.settings.now gate_is_open
+        (I.is_read input.old) (IsOrderedFile I.is_own) (W.seen out.old) (W.seen out.new) result) }
+    ensures suited { IsRefusedUnsuited (arc_cost_of task.now.chosen) task.now.settings.now result }
+    ensures stopped { OfChosen task.now.chosen (λ S V meaning algebra. Stopped meaning algebra
+        task.now.settings.now gate_is_open (I.is_read input.old) result) }
+    ensures read { HasReadOrdered (I.is_read input.old) I.is_own IsRunFile
+        (I.has_read input.old input.new) (option_map O.seen order.old)
+        (option_map O.seen order.new) result }
+    ensures watched { Under task.now.chosen (λ X A. Watched A task.now.settings.now
+        (I.is_read input.old) V.may_become watcher.old watcher.new (W.seen out.old) (W.seen out.new)
+        result) }
+{
+    let mut ordered = OrderedInput { input, order };
+    run_chosen(task, &mut ordered, out, watcher)
+}
+
 /// Replies to the requests of one input over the graph of another, to each as soon as it is whole,
-/// under the chosen algebra.
-pub(crate) fn serve_chosen<R: Threads + Wait + Sync, G: RoadRead, Q: RoadRead, W: RoadWrite>(
+/// under the chosen algebra. The graph is factored by the order of a third, if there is one.
+pub(crate) fn serve_chosen<
+    R: Threads + Wait + Sync,
+    G: RoadRead,
+    O: RoadRead,
+    Q: RoadRead,
+    W: RoadWrite,
+>(
     task: &Task<'_, R>,
     graph: &mut G,
+    order: &mut Option<O>,
     requests: &mut Q,
     out: &mut W,
 ) -> Result<(), RunFault>
     ensures run { Under task.now.chosen (λ V A. RanService A task.now.settings.now gate_is_open
-        (G.seen graph.old) (G.seen graph.new) (Q.seen requests.old) (Q.seen requests.new)
-        (W.seen out.old) (W.seen out.new) result) }
+        (G.seen graph.old) (G.seen graph.new) (option_map O.seen order.old)
+        (option_map O.seen order.new) (Q.seen requests.old) (Q.seen requests.new) (W.seen out.old)
+        (W.seen out.new) result) }
     ensures suited { IsRefusedUnsuited (arc_cost_of task.now.chosen) task.now.settings.now result }
 {
     let gate = OpenGate;
@@ -80,7 +112,7 @@ pub(crate) fn serve_chosen<R: Threads + Wait + Sync, G: RoadRead, Q: RoadRead, W
     };
     with_algebra!(
         task.chosen,
-        |algebra| run_service(&run, algebra, graph, requests, out)
+        |algebra| run_service(&run, algebra, graph, order, requests, out)
     )
 }
 
@@ -107,29 +139,34 @@ fn outcome_of(batch: Result<(), RunFault>, kept: Result<(), RunFault>) -> Result
     }
 }
 
-/// Answers the questions of an input over its graph, writes accounts and shows progress, each if it
-/// is wanted, takes note of its phases, and gives the exit status. A fault is reported last, in one
-/// line on the error output.
-pub(crate) fn answer_in_phases<
+/// Answers the questions of an input over its graph, which is factored by the order of a further
+/// input if there is one. It writes accounts and shows progress, each if it is wanted, lets the
+/// files take note of its phases, and gives the exit status. A fault is reported last, in one line
+/// on the error output.
+fn answer_to<
     R: Threads + Wait + Sync,
-    M: Phases,
+    P: FileSystem,
     I: BatchInput,
+    O: RoadRead,
     W: RoadWrite,
     A: RoadWrite,
     E: RoadWrite,
 >(
-    measured: &MeasuredTask<'_, '_, R, M>,
+    task: &Task<'_, R>,
+    files: &P,
     input: &mut I,
+    order: &mut Option<O>,
     out: &mut W,
     watching: &mut Watching<A>,
     errors: &mut E,
 ) -> u8
-    ensures { EndsWatched measured.now.task.now.chosen measured.now.task.now.settings.now
-        watching.old.progress (I.is_read input.old) I.is_own (I.has_read input.old input.new)
-        (W.seen out.old) (W.seen out.new) (option_map A.seen watching.old.accounts)
-        (option_map A.seen watching.new.accounts) (E.seen errors.old) (E.seen errors.new) result }
+    ensures { EndsWatched task.now.chosen task.now.settings.now watching.old.progress
+        (I.is_read input.old) (IsOrderedFile I.is_own) (HasReadOrdered (I.is_read input.old)
+        I.is_own IsRunFile (I.has_read input.old input.new) (option_map O.seen order.old)
+        (option_map O.seen order.new)) (W.seen out.old) (W.seen out.new)
+        (option_map A.seen watching.old.accounts) (option_map A.seen watching.new.accounts)
+        (E.seen errors.old) (E.seen errors.new) result }
 {
-    let task = measured.task;
     let mut watch = CommandWatcher {
         name: task.chosen.name(),
         accounts: &mut watching.accounts,
@@ -137,66 +174,56 @@ pub(crate) fn answer_in_phases<
         progress: watching.progress,
         all: 0,
         errors: &mut *errors,
-        phases: measured.phases,
+        files,
     };
-    let batch = run_chosen(task, input, out, &mut watch);
+    let batch = run_ordered(task, input, order, out, &mut watch);
     usual_turns_are_enough();
     let lost = watch.lost;
     let kept = end_accounts(&mut watching.accounts, lost);
     end_with(errors, outcome_of(batch, kept))
 }
 
-/// Answers the questions of an input over its graph, as `answer_in_phases` does.
-pub fn answer<R: Threads + Wait + Sync, I: BatchInput, W: RoadWrite, A: RoadWrite, E: RoadWrite>(
-    task: &Task<'_, R>,
-    input: &mut I,
-    out: &mut W,
-    watching: &mut Watching<A>,
-    errors: &mut E,
-) -> u8
-    ensures { EndsWatched task.now.chosen task.now.settings.now watching.old.progress
-        (I.is_read input.old) I.is_own (I.has_read input.old input.new) (W.seen out.old)
-        (W.seen out.new) (option_map A.seen watching.old.accounts)
-        (option_map A.seen watching.new.accounts) (E.seen errors.old) (E.seen errors.new) result }
-{
-    let phases = Unmeasured;
-    let measured = MeasuredTask {
-        task,
-        phases: &phases,
-    };
-    answer_in_phases(&measured, input, out, watching, errors)
-}
-
-/// Answers the questions of an input over its graph, as `answer_in_phases` does. The files take
-/// note of the phases.
-pub(crate) fn answer_measured<
+/// Answers the questions of an input over its graph, as `answer_to` does.
+pub(crate) fn answer<
     R: Threads + Wait + Sync,
     I: BatchInput,
+    O: RoadRead,
     P: FileSystem,
     W: RoadWrite,
     A: RoadWrite,
     E: RoadWrite,
->(task: &Task<'_, R>, input: &mut I, host: &mut Host<P, W, E>, watching: &mut Watching<A>) -> u8
+>(
+    task: &Task<'_, R>,
+    input: &mut I,
+    order: &mut Option<O>,
+    host: &mut Host<P, W, E>,
+    watching: &mut Watching<A>,
+) -> u8
     ensures files { host.new.files ≡ host.old.files }
     ensures ends { EndsWatched task.now.chosen task.now.settings.now watching.old.progress
-        (I.is_read input.old) I.is_own (I.has_read input.old input.new) (W.seen host.old.out)
-        (W.seen host.new.out) (option_map A.seen watching.old.accounts)
-        (option_map A.seen watching.new.accounts) (E.seen host.old.errors) (E.seen host.new.errors)
-        result }
+        (I.is_read input.old) (IsOrderedFile I.is_own) (HasReadOrdered (I.is_read input.old)
+        I.is_own IsRunFile (I.has_read input.old input.new) (option_map O.seen order.old)
+        (option_map O.seen order.new)) (W.seen host.old.out) (W.seen host.new.out)
+        (option_map A.seen watching.old.accounts) (option_map A.seen watching.new.accounts)
+        (E.seen host.old.errors) (E.seen host.new.errors) result }
 {
-    let phases = FilePhases { files: &host.files };
-    let measured = MeasuredTask {
+    answer_to(
         task,
-        phases: &phases,
-    };
-    answer_in_phases(&measured, input, &mut host.out, watching, &mut host.errors)
+        &host.files,
+        input,
+        order,
+        &mut host.out,
+        watching,
+        &mut host.errors,
+    )
 }
 
-/// Answers the questions of one input over the graph of another, as `answer_measured` does.
+/// Answers the questions of one input over the graph of another, as `answer` does.
 pub(crate) fn answer_pair<
     R: Threads + Wait + Sync,
     G: RoadRead,
     Q: RoadRead,
+    O: RoadRead,
     P: FileSystem,
     W: RoadWrite,
     A: RoadWrite,
@@ -205,17 +232,20 @@ pub(crate) fn answer_pair<
     task: &Task<'_, R>,
     graph: &mut G,
     questions: &mut Q,
+    order: &mut Option<O>,
     host: &mut Host<P, W, E>,
     watching: &mut Watching<A>,
 ) -> u8
     ensures files { host.new.files ≡ host.old.files }
     ensures ends { EndsWatched task.now.chosen task.now.settings.now watching.old.progress (IsPairOf
-        (G.seen graph.old).left (Q.seen questions.old).left) IsPairFile (HasReadPair
-        (G.seen graph.old) (G.seen graph.new) (Q.seen questions.old) (Q.seen questions.new))
+        (G.seen graph.old).left (Q.seen questions.old).left) (IsOrderedFile IsPairFile)
+        (HasReadOrdered (IsPairOf (G.seen graph.old).left (Q.seen questions.old).left) IsPairFile
+        IsRunFile (HasReadPair (G.seen graph.old) (G.seen graph.new) (Q.seen questions.old)
+        (Q.seen questions.new)) (option_map O.seen order.old) (option_map O.seen order.new))
         (W.seen host.old.out) (W.seen host.new.out) (option_map A.seen watching.old.accounts)
         (option_map A.seen watching.new.accounts) (E.seen host.old.errors) (E.seen host.new.errors)
         result }
 {
     let mut input = PairInput { graph, questions };
-    answer_measured(task, &mut input, host, watching)
+    answer(task, &mut input, order, host, watching)
 }

@@ -4,7 +4,7 @@ ghost use Rattle.clap.specs.Values.{kind_of};
 ghost use Rattle.program.specs.CommandLine.{DoesCommandLine, IsSaid};
 ghost use Rattle.program.specs.Moments.{moment};
 
-use crate::commands::{bundle, check, serve, solve};
+use crate::commands::{bundle, check, order, serve, solve};
 use crate::files::{FileSystem, HostFiles};
 use crate::host::Host;
 use crate::refusal::{Refusal, refuse};
@@ -61,6 +61,7 @@ pub fn run_command_line<
         Ok(Subcommand::Bundle(args)) => bundle(rt, host, &args),
         Ok(Subcommand::Serve(args)) => serve(rt, host, &args),
         Ok(Subcommand::Check(args)) => check(rt, host, &args),
+        Ok(Subcommand::Order(args)) => order(rt, host, &args),
         Ok(Subcommand::Faults { numbers }) => {
             let numbers = numbers.as_slice();
             explain(
@@ -95,7 +96,6 @@ fn run_measured<'a, R, E: Write + Drop>(rt: &'a R, stopwatch: &Stopwatch<'a, R>,
 where
     R: Env + Files + Input + Print + Clock + AllocGlobal + Threads + Wait + Sync,
 {
-    let _taken = take_closed_streams(rt);
     let mut errors = Plain::new(errors);
     let Ok(out) = Buffered::new(rt.alloc(), Plain::new(io::writer(rt))) else {
         return report_fault(&mut errors, fault_of_run(MEMORY));

@@ -2,20 +2,22 @@
 //! line on the error output.
 ghost use Rattle.program.specs.Commands.{DoesBundle, DoesCheck, DoesServe, DoesSolve};
 ghost use Rattle.program.specs.Moments.{moment};
+ghost use Rattle.program.specs.Ordering.{DoesOrder};
 
-use crate::answering::{answer_measured, answer_pair, serve_chosen};
+use crate::answering::{answer, answer_pair, serve_chosen};
+use crate::creating::{ERRORS_NAME, OUTPUT_NAME, create_accounts};
 use crate::files::FileSystem;
 use crate::host::Host;
 use crate::judging::{end_check, judge};
 use crate::opening::{
-    ERRORS_NAME, OUTPUT_NAME, STDIN_NAME, choose, create_accounts, open_file, open_to_check,
-    open_to_solve,
+    STDIN_NAME, choose, open_to_bundle, open_to_check, open_to_order, open_to_serve, open_to_solve,
 };
-use crate::refusal::{Refusal, refuse};
+use crate::ordering::order_input;
+use crate::refusal::refuse;
 use crate::task::Task;
 use crate::times::show_times;
-use batch_run::{BundleInput, File};
-use command_args::{BundleArgs, CheckArgs, ServeArgs, SolveArgs};
+use batch_run::BundleInput;
+use command_args::{BundleArgs, CheckArgs, OrderArgs, ServeArgs, SolveArgs};
 use fault_reports::end_with;
 use std::sync::Wait;
 use std::thread::Threads;
@@ -37,7 +39,7 @@ pub fn solve<'t, R: AllocGlobal + Threads + Wait + Sync, P: FileSystem, W: RoadW
         Err(refusal) => return refuse(&mut host.errors, refusal),
     };
     host.files.measure(args.watching.times);
-    let (mut graph, mut questions) = match open_to_solve(&mut host.files, args) {
+    let (mut graph, mut questions, mut order) = match open_to_solve(&mut host.files, args) {
         Ok(opened) => opened,
         Err(refusal) => return refuse(&mut host.errors, refusal),
     };
@@ -52,12 +54,20 @@ pub fn solve<'t, R: AllocGlobal + Threads + Wait + Sync, P: FileSystem, W: RoadW
         settings: &args.options.settings,
         chosen,
     };
-    let status = answer_pair(&task, &mut graph, &mut questions, host, &mut watching);
+    let status = answer_pair(
+        &task,
+        &mut graph,
+        &mut questions,
+        &mut order,
+        host,
+        &mut watching,
+    );
     show_times(host, args.watching.times, status);
     status
 }
 
-/// Answers the bundle on standard input. The file of accounts is created before it is read.
+/// Answers the bundle on standard input. An order, if one is named, is opened, and the file of
+/// accounts is created, before it is read.
 pub fn bundle<
     't,
     R: AllocGlobal + Threads + Wait + Sync,
@@ -65,15 +75,18 @@ pub fn bundle<
     W: RoadWrite,
     E: RoadWrite,
 >(rt: &'t R, host: &mut Host<P, W, E>, args: &'t BundleArgs<'_>) -> u8
-    ensures { DoesBundle P.Stdin P.NewFile P.creates P.tells_same args.now (moment W.seen E.seen
-        host.old) (moment W.seen E.seen host.new) result }
+    ensures { DoesBundle P.File P.Stdin P.NewFile P.opens P.creates P.tells_same args.now (moment
+        W.seen E.seen host.old) (moment W.seen E.seen host.new) result }
 {
     let chosen = match choose(&args.options, args.watching.accounts.is_some()) {
         Ok(chosen) => chosen,
         Err(refusal) => return refuse(&mut host.errors, refusal),
     };
     host.files.measure(args.watching.times);
-    let mut text = host.files.stdin();
+    let (mut text, mut order) = match open_to_bundle(&mut host.files, args) {
+        Ok(opened) => opened,
+        Err(refusal) => return refuse(&mut host.errors, refusal),
+    };
     let taken = [STDIN_NAME, OUTPUT_NAME, ERRORS_NAME];
     let mut watching = match create_accounts(&mut host.files, &args.watching, &taken) {
         Ok(watching) => watching,
@@ -86,12 +99,13 @@ pub fn bundle<
         chosen,
     };
     let mut input = BundleInput { bundle: &mut text };
-    let status = answer_measured(&task, &mut input, host, &mut watching);
+    let status = answer(&task, &mut input, &mut order, host, &mut watching);
     show_times(host, args.watching.times, status);
     status
 }
 
-/// Replies to the requests of standard input over the graph of a file, which is opened first.
+/// Replies to the requests of standard input over the graph of a file, which is opened first, and
+/// then its order, if one is named.
 pub fn serve<'t, R: AllocGlobal + Threads + Wait + Sync, P: FileSystem, W: RoadWrite, E: RoadWrite>(
     rt: &'t R,
     host: &mut Host<P, W, E>,
@@ -104,21 +118,17 @@ pub fn serve<'t, R: AllocGlobal + Threads + Wait + Sync, P: FileSystem, W: RoadW
         Ok(chosen) => chosen,
         Err(refusal) => return refuse(&mut host.errors, refusal),
     };
-    if args.graph == STDIN_NAME {
-        return refuse(&mut host.errors, Refusal::StdinTaken);
-    }
-    let mut graph = match open_file(&mut host.files, args.graph, File::Graph) {
-        Ok(graph) => graph,
+    let (mut graph, mut requests, mut order) = match open_to_serve(&mut host.files, args) {
+        Ok(opened) => opened,
         Err(refusal) => return refuse(&mut host.errors, refusal),
     };
-    let mut requests = host.files.stdin();
     let task = Task {
         rt,
         alloc: rt.alloc(),
         settings: &args.options.settings,
         chosen,
     };
-    let outcome = serve_chosen(&task, &mut graph, &mut requests, &mut host.out);
+    let outcome = serve_chosen(&task, &mut graph, &mut order, &mut requests, &mut host.out);
     end_with(&mut host.errors, outcome)
 }
 
@@ -138,4 +148,21 @@ pub fn check<R: AllocGlobal + Threads + Sync, P: FileSystem, W: RoadWrite, E: Ro
     };
     let judged = judge(rt, &mut graph, &mut questions, &mut answers, args.limit);
     end_check(&mut host.out, &mut host.errors, judged)
+}
+
+/// Writes an order of elimination of the graph of an input.
+pub fn order<R: AllocGlobal, P: FileSystem, W: RoadWrite, E: RoadWrite>(
+    rt: &R,
+    host: &mut Host<P, W, E>,
+    args: &OrderArgs<'_>,
+) -> u8
+    ensures { DoesOrder P.File P.Stdin P.opens args.now (moment W.seen E.seen host.old) (moment
+        W.seen E.seen host.new) result }
+{
+    let mut graph = match open_to_order(&mut host.files, args) {
+        Ok(graph) => graph,
+        Err(refusal) => return refuse(&mut host.errors, refusal),
+    };
+    let outcome = order_input(rt.alloc(), &mut graph, &mut host.out);
+    end_with(&mut host.errors, outcome)
 }

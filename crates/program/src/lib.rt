@@ -5,23 +5,25 @@
 mod answering;
 mod command_line;
 mod commands;
+mod creating;
 mod files;
 mod host;
 mod judging;
 mod opened_input;
 mod opening;
+mod ordering;
 mod refusal;
 mod streams;
 mod task;
 mod times;
 mod watch;
 
-pub use answering::answer;
 pub use command_args::{
-    BundleArgs, CheckArgs, RunOptions, ServeArgs, SolveArgs, Subcommand, WatchOptions, parse_args,
+    BundleArgs, CheckArgs, OrderArgs, RunOptions, ServeArgs, SolveArgs, Subcommand, WatchOptions,
+    parse_args,
 };
 pub use command_line::{run, run_command_line};
-pub use commands::{bundle, check, serve, solve};
+pub use commands::{bundle, check, order, serve, solve};
 pub use fault_reports::{FaultRow, all_faults, explain, report_fault};
 pub use files::{FileSystem, HostFiles};
 pub use host::Host;
@@ -30,4 +32,4 @@ pub use opened_input::OpenedInput;
 pub use opening::choose;
 pub use refusal::Refusal;
 pub use task::{Task, Watching};
-pub use times::{Phase, Phases, Stopwatch, Times};
+pub use times::{Phase, Stopwatch, Times};

@@ -1,35 +1,33 @@
-//! What a command tries before it reads: its words, the inputs of their names in order, and the
-//! file of accounts.
+//! What a command tries before it reads: its words, and the inputs of their names in order.
 ghost use Rattle.std.specs.Prelude.{◌≡◌, ◌≢◌, ◌↔◌, [], ◌∷◌, IfOk, IfErr, IsSome, IsTrue, map};
+ghost use Rattle.std.specs.Option.{option_map};
+ghost use Rattle.batch_run.specs.declared.faults.RunFault.{RunFault};
 ghost use Rattle.program.specs.Inputs.{NamesStdinOnce, IsNamed, opened_input, stdin_name};
-ghost use Rattle.program.specs.Opening.{CannotChoose, CannotCreate, CannotOpen, CreatesIf, HasOpened, IsAmong, IsChosen, IsMissing, OpensInput, accounts_name, inputs_judged, inputs_solved, missing};
+ghost use Rattle.program.specs.Opening.{AreOpened, CannotChoose, CannotOpen, HasOpened, IsChosen, IsMissing, OpensInput, inputs_bundled, inputs_judged, inputs_ordered, inputs_served, inputs_solved, missing, name_of_order, one_if, order_input};
 
 use crate::files::FileSystem;
 use crate::opened_input::OpenedInput;
 use crate::refusal::Refusal;
-use crate::task::Watching;
-use batch_run::{File, RunFault, SETTINGS, WRITE, fault_of_run};
-use command_args::{CheckArgs, RunOptions, SolveArgs, WatchOptions};
+use batch_run::{File, RunFault, SETTINGS, fault_of_run};
+use command_args::{BundleArgs, CheckArgs, OrderArgs, RunOptions, ServeArgs, SolveArgs};
 use path_algebra::{AlgebraChoice, AlgebraName};
 use text_lines::READ_FAILED;
 
 /// The name of standard input.
 pub(crate) const STDIN_NAME: &str = "-";
 
-/// Standard output, by the name that the system gives it.
-pub(crate) const OUTPUT_NAME: &str = "/dev/fd/1";
-
-/// Standard error, by the name that the system gives it.
-pub(crate) const ERRORS_NAME: &str = "/dev/fd/2";
-
-/// The algebra that options ask for. They are refused if they ask for two solvers, if accounts are
-/// wanted of a solver that counts nothing, and if the limit is missing or does not belong.
+/// The algebra that options ask for. They are refused if they ask for two solvers, if they name an
+/// order without factors, if accounts are wanted of a solver that counts nothing, and if the limit is
+/// missing or does not belong.
 pub fn choose(options: &RunOptions<'_>, accounts: bool) -> Result<AlgebraChoice, Refusal>
     ensures chosen { IfOk result (IsChosen options.now accounts) }
     ensures refused { IfErr result (CannotChoose options.now accounts) }
 {
     if options.settings.plain && options.settings.factors {
         return Err(Refusal::TwoSolvers);
+    }
+    if options.order.is_some() && !options.settings.factors {
+        return Err(Refusal::Unfactored);
     }
     if accounts && (options.settings.plain || options.settings.factors) {
         return Err(Refusal::Uncounted);
@@ -61,22 +59,6 @@ fn missing(file: File) -> RunFault
     }
 }
 
-/// Opens the file of a name.
-pub(crate) fn open_file<P: FileSystem>(
-    files: &mut P,
-    path: &str,
-    file: File,
-) -> Result<P::File, Refusal>
-    ensures opens { P.opens files.old path.now files.new }
-    ensures unread { IfOk result (λ opened. (P.File.seen opened).asked ≡ 0) }
-    ensures fault { IfErr result (λ r. r ≡ Refusal.Fault (missing file)) }
-{
-    match files.open(path) {
-        Ok(opened) => Ok(opened),
-        Err(_) => Err(Refusal::Fault(missing(file))),
-    }
-}
-
 /// Opens the input of a name: standard input, or a file.
 fn open<P: FileSystem>(
     files: &mut P,
@@ -91,11 +73,52 @@ fn open<P: FileSystem>(
     if path == STDIN_NAME {
         return Ok(OpenedInput::Stdin(files.stdin()));
     }
-    let opened = open_file(files, path, file)?;
-    Ok(OpenedInput::File(opened))
+    match files.open(path) {
+        Ok(opened) => Ok(OpenedInput::File(opened)),
+        Err(_) => Err(Refusal::Fault(missing(file))),
+    }
 }
 
-/// Opens the inputs of `solve` in order: a graph, and questions.
+/// Opens the input of an order of elimination, if one is named.
+fn open_order<P: FileSystem>(
+    files: &mut P,
+    name: Option<&str>,
+) -> Result<Option<OpenedInput<P::File, P::Stdin>>, Refusal>
+    ensures opened { IfOk result (λ order. AreOpened P.opens (order_input (name_of_order name.entry))
+        (one_if (option_map (opened_input P.File.seen P.Stdin.seen) order)) files.old files.new) }
+    ensures refused { IfErr result (λ r. (f : RunFault) × (r ≡ Refusal.Fault f)
+        × IsMissing P.opens (order_input (name_of_order name.entry)) files.old files.new f) }
+{
+    let Some(path) = name else {
+        return Ok(None);
+    };
+    let order = open(files, path, File::Order)?;
+    Ok(Some(order))
+}
+
+/// Whether standard input is at most one of this input and an order, if one is named.
+fn is_once_with(name: &str, order: Option<&str>) -> bool
+    ensures { IsTrue result ↔ NamesStdinOnce (map (λ n. n.0) ((name.now, File.Bundle)
+        ∷ order_input (name_of_order order.entry))) }
+{
+    match order {
+        None => true,
+        Some(order) => names_stdin_once(&[name, order]),
+    }
+}
+
+/// Whether standard input is at most one of these inputs and an order, if one is named.
+fn are_once_with(first: &str, second: &str, order: Option<&str>) -> bool
+    ensures { IsTrue result ↔ NamesStdinOnce (map (λ n. n.0) ((first.now, File.Graph)
+        ∷ (second.now, File.Questions) ∷ order_input (name_of_order order.entry))) }
+{
+    match order {
+        None => names_stdin_once(&[first, second]),
+        Some(order) => names_stdin_once(&[first, second, order]),
+    }
+}
+
+/// Opens the inputs of `solve` in order: a graph, questions, and an order, if one is named.
 pub(crate) fn open_to_solve<P: FileSystem>(
     files: &mut P,
     args: &SolveArgs<'_>,
@@ -103,21 +126,89 @@ pub(crate) fn open_to_solve<P: FileSystem>(
     (
         OpenedInput<P::File, P::Stdin>,
         OpenedInput<P::File, P::Stdin>,
+        Option<OpenedInput<P::File, P::Stdin>>,
     ),
     Refusal,
 >
     ensures opened { let seen = opened_input P.File.seen P.Stdin.seen in
-        IfOk result (λ i. HasOpened P.opens (inputs_solved args.now) (seen i.0 ∷ seen i.1 ∷ [])
-        files.old files.new) }
+        IfOk result (λ i. HasOpened P.opens (inputs_solved args.now)
+        (seen i.0 ∷ seen i.1 ∷ one_if (option_map seen i.2)) files.old files.new) }
     ensures refused { IfErr result (CannotOpen P.opens (inputs_solved args.now) files.old
         files.new) }
 {
-    if !names_stdin_once(&[args.graph, args.questions]) {
+    if !are_once_with(args.graph, args.questions, args.options.order) {
         return Err(Refusal::StdinTwice);
     }
     let graph = open(files, args.graph, File::Graph)?;
     let questions = open(files, args.questions, File::Questions)?;
-    Ok((graph, questions))
+    let order = open_order(files, args.options.order)?;
+    Ok((graph, questions, order))
+}
+
+/// Opens the inputs of `bundle` in order: standard input, and an order, if one is named.
+pub(crate) fn open_to_bundle<P: FileSystem>(
+    files: &mut P,
+    args: &BundleArgs<'_>,
+) -> Result<
+    (
+        OpenedInput<P::File, P::Stdin>,
+        Option<OpenedInput<P::File, P::Stdin>>,
+    ),
+    Refusal,
+>
+    ensures opened { let seen = opened_input P.File.seen P.Stdin.seen in
+        IfOk result (λ i. HasOpened P.opens (inputs_bundled args.now)
+        (seen i.0 ∷ one_if (option_map seen i.1)) files.old files.new) }
+    ensures refused { IfErr result (CannotOpen P.opens (inputs_bundled args.now) files.old
+        files.new) }
+{
+    if !is_once_with(STDIN_NAME, args.options.order) {
+        return Err(Refusal::StdinTwice);
+    }
+    let bundle = open(files, STDIN_NAME, File::Bundle)?;
+    let order = open_order(files, args.options.order)?;
+    Ok((bundle, order))
+}
+
+/// Opens the inputs of `serve` in order: a graph, standard input with the requests, and an order, if
+/// one is named.
+pub(crate) fn open_to_serve<P: FileSystem>(
+    files: &mut P,
+    args: &ServeArgs<'_>,
+) -> Result<
+    (
+        OpenedInput<P::File, P::Stdin>,
+        OpenedInput<P::File, P::Stdin>,
+        Option<OpenedInput<P::File, P::Stdin>>,
+    ),
+    Refusal,
+>
+    ensures opened { let seen = opened_input P.File.seen P.Stdin.seen in
+        IfOk result (λ i. HasOpened P.opens (inputs_served args.now)
+        (seen i.0 ∷ seen i.1 ∷ one_if (option_map seen i.2)) files.old files.new) }
+    ensures refused { IfErr result (CannotOpen P.opens (inputs_served args.now) files.old
+        files.new) }
+{
+    if !are_once_with(args.graph, STDIN_NAME, args.options.order) {
+        return Err(Refusal::StdinTwice);
+    }
+    let graph = open(files, args.graph, File::Graph)?;
+    let requests = open(files, STDIN_NAME, File::Questions)?;
+    let order = open_order(files, args.options.order)?;
+    Ok((graph, requests, order))
+}
+
+/// Opens the input of `order`: a graph.
+pub(crate) fn open_to_order<P: FileSystem>(
+    files: &mut P,
+    args: &OrderArgs<'_>,
+) -> Result<OpenedInput<P::File, P::Stdin>, Refusal>
+    ensures opened { IfOk result (λ graph. AreOpened P.opens (inputs_ordered args.now)
+        (opened_input P.File.seen P.Stdin.seen graph ∷ []) files.old files.new) }
+    ensures refused { IfErr result (λ r. (f : RunFault) × (r ≡ Refusal.Fault f)
+        × IsMissing P.opens (inputs_ordered args.now) files.old files.new f) }
+{
+    open(files, args.graph, File::Graph)
 }
 
 /// Opens the inputs of `check` in order: a graph, questions, and answers.
@@ -145,52 +236,4 @@ pub(crate) fn open_to_check<P: FileSystem>(
     let questions = open(files, args.questions, File::Questions)?;
     let answers = open(files, args.answers, File::Answers)?;
     Ok((graph, questions, answers))
-}
-
-/// Whether a name is that of one of other files.
-#[tactic(auto, using(crate::proofs::Among::any_map, crate::proofs::Among::all_map))]
-fn is_among<P: FileSystem>(files: &P, path: &str, others: &[&str]) -> bool
-    ensures { IsAmong P.tells_same files.now path.now (map (λ name. name.now) others.now) result }
-{
-    for other in others {
-        if files.is_same_file(path, other) {
-            return true;
-        }
-    }
-    false
-}
-
-/// Creates the file of accounts, if they are wanted, unless it is one of other files.
-pub(crate) fn create_accounts<P: FileSystem>(
-    files: &mut P,
-    options: &WatchOptions<'_>,
-    others: &[&str],
-) -> Result<Watching<P::NewFile>, Refusal>
-    ensures creates { IfOk result (λ w. CreatesIf P.creates P.tells_same
-        (map (λ name. name.now) others.now) (accounts_name options.now) files.old files.new) }
-    ensures wanted { IfOk result (λ w. IsSome w.accounts ↔ IsSome options.now.accounts) }
-    ensures progress { IfOk result (λ w. w.progress ≡ options.now.progress) }
-    ensures refused { IfErr result (CannotCreate P.creates P.tells_same
-        (map (λ name. name.now) others.now) (accounts_name options.now) files.old files.new) }
-{
-    let progress = options.progress;
-    let Some(name) = options.accounts else {
-        return Ok(Watching {
-            accounts: None,
-            progress,
-        });
-    };
-    if name == STDIN_NAME {
-        return Err(Refusal::NoFile);
-    }
-    if is_among(files, name, others) {
-        return Err(Refusal::FileTaken);
-    }
-    match files.create(name) {
-        Ok(file) => Ok(Watching {
-            accounts: Some(file),
-            progress,
-        }),
-        Err(_) => Err(Refusal::Fault(fault_of_run(WRITE))),
-    }
 }

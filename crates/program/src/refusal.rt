@@ -10,9 +10,10 @@ const TWO_SOLVERS: &[u8] = b"error: `--plain` and `--factors` cannot be used tog
 const UNCOUNTED: &[u8] =
     b"error: `--plain` and `--factors` count nothing: leave out `--accounts`\n";
 
-const STDIN_TWICE: &[u8] = b"error: only one of the files can be `-`, standard input\n";
+const UNFACTORED: &[u8] = b"error: `--order` needs `--factors`\n";
 
-const STDIN_TAKEN: &[u8] = b"error: the graph cannot be `-`: standard input has the requests\n";
+const STDIN_TWICE: &[u8] =
+    b"error: only one input can be `-`, standard input; a bundle or requests take it\n";
 
 const NO_FILE: &[u8] = b"error: `--accounts` needs a file; one that is named `-` is `./-`\n";
 
@@ -28,10 +29,10 @@ pub enum Refusal {
     TwoSolvers,
     /// Accounts are wanted of a solver that counts nothing.
     Uncounted,
-    /// Standard input is named more than once.
+    /// An order of elimination is given, and the graph is not to be factored.
+    Unfactored,
+    /// Standard input is to be more than one of the inputs.
     StdinTwice,
-    /// A service is to read its graph from standard input.
-    StdinTaken,
     /// The accounts are to go to `-`, which is no file.
     NoFile,
     /// The file of the accounts is one that the command reads, or that its other output goes to.
@@ -48,8 +49,8 @@ pub(crate) fn refuse<E: RoadWrite>(errors: &mut E, refusal: Refusal) -> u8
     match refusal {
         Refusal::TwoSolvers => report_usage(errors, TWO_SOLVERS),
         Refusal::Uncounted => report_usage(errors, UNCOUNTED),
+        Refusal::Unfactored => report_usage(errors, UNFACTORED),
         Refusal::StdinTwice => report_usage(errors, STDIN_TWICE),
-        Refusal::StdinTaken => report_usage(errors, STDIN_TAKEN),
         Refusal::NoFile => report_usage(errors, NO_FILE),
         Refusal::FileTaken => report_usage(errors, FILE_TAKEN),
         Refusal::NoText => report_usage(errors, NO_TEXT),

@@ -14,13 +14,6 @@ pub struct Task<'t, R> {
     pub chosen: AlgebraChoice,
 }
 
-/// A task, and what takes note of its phases.
-#[derive(Drop)]
-pub(crate) struct MeasuredTask<'m, 't, R, M> {
-    pub task: &'m Task<'t, R>,
-    pub phases: &'m M,
-}
-
 /// What is written beside the answers.
 #[derive(Drop)]
 pub struct Watching<A> {

@@ -5,8 +5,7 @@ mod shown;
 mod stopwatch;
 mod timed_writer;
 
-pub(crate) use phases::{FilePhases, Unmeasured};
-pub use phases::{Phase, Phases};
+pub use phases::Phase;
 pub use shown::Times;
 pub(crate) use shown::show_times;
 pub use stopwatch::Stopwatch;

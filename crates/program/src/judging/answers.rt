@@ -11,7 +11,9 @@ ghost use Rattle.program.specs.Verdicts.{AreInputs, IsAnswersFault, IsReadingFau
 
 use answer_check::{Verdict, check};
 use answer_text::{Answers, read_answers};
-use batch_run::{BatchInput, File, PairInput, RunFault, SETTINGS, fault_in, fault_of_run};
+use batch_run::{
+    BatchInput, BatchRead, File, PairInput, RunFault, SETTINGS, fault_in, fault_of_run,
+};
 use path_algebra::{AlgebraChoice, AlgebraName, with_algebra};
 use road_files::Questions;
 use road_graph::{Memory, OutGraph};
@@ -98,14 +100,14 @@ fn read_inputs<G: RoadRead, Q: RoadRead, S: RoadRead>(
         graph: graph_in,
         questions: questions_in,
     };
-    let (graph, questions): (OutGraph, Questions) = match pair.read(alloc) {
+    let read: BatchRead<OutGraph> = match pair.read(alloc) {
         Ok(read) => read,
         Err(fault) => return Err(fault),
     };
-    match read_answers(alloc, answers_in, graph.vertices()) {
+    match read_answers(alloc, answers_in, read.graph.vertices()) {
         Ok(answers) => Ok(Inputs {
-            graph,
-            questions,
+            graph: read.graph,
+            questions: read.questions,
             answers,
         }),
         Err(fault) => Err(fault_in(File::Answers, fault)),

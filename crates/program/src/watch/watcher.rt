@@ -4,7 +4,8 @@ ghost use Rattle.program.specs.Accounts.{account_of};
 ghost use Rattle.program.specs.Progress.{all_after, shown_at};
 ghost use Rattle.program.specs.Watching.{HasAccounts, IsAddedIf, Notes};
 
-use crate::times::{Phase, Phases};
+use crate::files::FileSystem;
+use crate::times::Phase;
 use crate::watch::accounts::write_report;
 use crate::watch::progress::show_report;
 use batch_run::{Progress, Watcher};
@@ -13,7 +14,7 @@ use text_lines::RoadWrite;
 
 /// A watcher of a batch.
 #[derive(Drop)]
-pub(crate) struct CommandWatcher<'a, 'm, A, E, M> {
+pub(crate) struct CommandWatcher<'a, 'f, A, E, P> {
     /// The name of the batch's algebra.
     pub name: AlgebraName,
     /// Where accounts are written, if they are wanted.
@@ -27,7 +28,7 @@ pub(crate) struct CommandWatcher<'a, 'm, A, E, M> {
     /// Where progress is shown.
     pub errors: &'a mut E,
     /// What takes note of the command's phases.
-    pub phases: &'m M,
+    pub files: &'f P,
 }
 
 /// Adds to the accounts what a report says, and says whether they are lost.
@@ -69,20 +70,20 @@ fn show_if_wanted<E: RoadWrite>(errors: &mut E, progress: bool, all: u32, report
 }
 
 /// Takes note that the next question is solved, once the questions were read or one was answered.
-fn note_phase<M: Phases>(phases: &M, report: &Progress) {
+fn note_phase<P: FileSystem>(files: &P, report: &Progress) {
     match report {
         Progress::Factored { .. } | Progress::Gathered { .. } => {}
-        Progress::Begun { .. } | Progress::Answered { .. } => phases.enter(Phase::Solving),
+        Progress::Begun { .. } | Progress::Answered { .. } => files.enter(Phase::Solving),
     }
 }
 
-impl<A: RoadWrite, E: RoadWrite, M: Phases> Watcher for CommandWatcher<'_, '_, A, E, M> {
+impl<A: RoadWrite, E: RoadWrite, P: FileSystem> Watcher for CommandWatcher<'_, '_, A, E, P> {
     ghost may_become = { Notes A.seen E.seen };
 
     fn report(&mut self, report: Progress) {
         self.lost = add_to_accounts(self.accounts, self.lost, self.name, &report);
         show_if_wanted(self.errors, self.progress, self.all, &report);
         self.all = all_after(self.all, &report);
-        note_phase(self.phases, &report);
+        note_phase(self.files, &report);
     }
 }

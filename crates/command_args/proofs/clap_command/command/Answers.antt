@@ -15,4 +15,5 @@ returns c =
     let with_bundle = c.in_ok-subcommand-2.ensures.shape (no_globals _ (ap (λ (a : App). a.top.is_plain) c.in_ok-bundle.ensures)) ∙ ap₂ with_subcommand with_solve (ap (λ (a : App). a.top) c.in_ok-bundle.ensures) in
     let with_serve = c.in_ok-subcommand-3.ensures.shape (no_globals _ (ap (λ (a : App). a.top.is_plain) c.in_ok-serve.ensures)) ∙ ap₂ with_subcommand with_bundle (ap (λ (a : App). a.top) c.in_ok-serve.ensures) in
     let with_check = c.in_ok-subcommand-4.ensures.shape (no_globals _ (ap (λ (a : App). a.top.is_plain) c.in_ok-check.ensures)) ∙ ap₂ with_subcommand with_serve (ap (λ (a : App). a.top) c.in_ok-check.ensures) in
-    IfOk-weaker c.subcommand-5.result _ _ (λ r h. h.shape (no_globals _ (ap (λ (a : App). a.top.is_plain) c.in_ok-faults.ensures)) ∙ ap₂ with_subcommand with_check (ap (λ (a : App). a.top) c.in_ok-faults.ensures)) c.subcommand-5.ensures
+    let with_order = c.in_ok-subcommand-5.ensures.shape (no_globals _ (ap (λ (a : App). a.top.is_plain) c.in_ok-order.ensures)) ∙ ap₂ with_subcommand with_check (ap (λ (a : App). a.top) c.in_ok-order.ensures) in
+    IfOk-weaker c.subcommand-6.result _ _ (λ r h. h.shape (no_globals _ (ap (λ (a : App). a.top.is_plain) c.in_ok-faults.ensures)) ∙ ap₂ with_subcommand with_order (ap (λ (a : App). a.top) c.in_ok-faults.ensures)) c.subcommand-6.ensures

@@ -1,5 +1,5 @@
 use Rattle.std.proofs.Common.{inl, map, refl, rules, string_bytes}
-use Rattle.command_args.specs.declared.parsed.Subcommand.TheVariants.{Solve, Bundle, Serve, Check, Faults}
+use Rattle.command_args.specs.declared.parsed.Subcommand.TheVariants.{Solve, Bundle, Serve, Check, Order, Faults}
 use Rattle.command_args.specs.Asked.{AskFor}
 use Rattle.program.proofs.command_line.run_command_line.Goals as goal
 
@@ -31,3 +31,8 @@ pub returns-in-Ok-Check : goal.returns-in-Ok-Check
 returns-in-Ok-Check g c =
     let asked : AskFor (map (λ word. string_bytes word) c.args.words.now) (Check c.in-Ok-Check.args) = search rules in
     inl (Check c.in-Ok-Check.args, asked, c.check.ensures)
+
+pub returns-in-Ok-Order : goal.returns-in-Ok-Order
+returns-in-Ok-Order g c =
+    let asked : AskFor (map (λ word. string_bytes word) c.args.words.now) (Order c.in-Ok-Order.args) = search rules in
+    inl (Order c.in-Ok-Order.args, asked, c.order.ensures)

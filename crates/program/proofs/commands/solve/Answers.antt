@@ -1,4 +1,5 @@
 use Rattle.std.proofs.Common.{◌≡◌, inl, inr, refl, rules, subst}
+use Rattle.std.specs.Option.{option_map}
 use Rattle.std.specs.Prelude.{is_some}
 use Rattle.program.specs.Inputs.{opened_input}
 use Rattle.program.specs.Moments.{moment}
@@ -16,6 +17,7 @@ returns-in-Err-create_accounts g c =
         opened = _;
         first = opened_input g.P.File.RoadRead.seen g.P.Stdin.RoadRead.seen c.in-Ok-open_to_solve.opened.0;
         second = opened_input g.P.File.RoadRead.seen g.P.Stdin.RoadRead.seen c.in-Ok-open_to_solve.opened.1;
+        third = option_map (opened_input g.P.File.RoadRead.seen g.P.Stdin.RoadRead.seen) c.in-Ok-open_to_solve.opened.2;
         order = c.in-Ok-open_to_solve.ensures.opened;
         ends = inl (record {
           refusal = c.in-Err-create_accounts.refusal;
@@ -36,6 +38,7 @@ returns g c =
         opened = _;
         first = opened_input g.P.File.RoadRead.seen g.P.Stdin.RoadRead.seen c.in-Ok-open_to_solve.opened.0;
         second = opened_input g.P.File.RoadRead.seen g.P.Stdin.RoadRead.seen c.in-Ok-open_to_solve.opened.1;
+        third = option_map (opened_input g.P.File.RoadRead.seen g.P.Stdin.RoadRead.seen) c.in-Ok-open_to_solve.opened.2;
         order = c.in-Ok-open_to_solve.ensures.opened;
         ends = inr (record {
           accounts = _;
@@ -47,6 +50,7 @@ returns g c =
           };
           first_after = _;
           second_after = _;
+          third_after = _;
           ends = ends_as _ _ _ _ _ _ _ _ _ _ _ _ _ _ _ c.in-Ok-create_accounts.ensures.progress (λ o h. h) c.answer_pair-status.ensures.ends;
           timed = c.show_times.ensures;
         });

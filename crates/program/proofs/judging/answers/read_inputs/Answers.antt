@@ -19,8 +19,8 @@ returns-in-Ok-read_answers-clause-read g c = record {
 pub returns-in-Err-read_answers-clause-answers : goal.returns-in-Err-read_answers-clause-answers
 returns-in-Err-read_answers-clause-answers g c = λ _. subst⁻¹ (IsAnswersFault (g.G.RoadRead.seen c.args.graph_in.now).left (g.Q.RoadRead.seen c.args.questions_in.now).left
     (g.S.RoadRead.seen c.args.answers_in.now).left) c.fault_in.ensures (record {
-      roads = c.in-Ok.read.0;
-      asked = asked_of c.in-Ok.read.1;
+      roads = c.in-Ok.read.graph;
+      asked = asked_of c.in-Ok.read.questions;
       read = c.in-Ok.ensures.read;
       fault = λ text. subst (λ n. IfSome (g.S.RoadRead.seen c.args.answers_in.now).left (λ b. text_read (answer_rules n) b ≡ Err c.in-Err-read_answers.fault)) c.vertices.ensures.count
           (c.in-Err-read_answers.ensures.fault text.0 text.1);

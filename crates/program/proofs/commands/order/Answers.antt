@@ -1,0 +1,12 @@
+use Rattle.std.proofs.Common.{inr}
+use Rattle.program.proofs.commands.order.Goals as goal
+
+pub returns : goal.returns
+returns g c = inr (record {
+  roads = _;
+  roads_after = _;
+  input = c.in-Ok.ensures.opened;
+  outcome = c.order_input-outcome.result;
+  ran = c.order_input-outcome.ensures;
+  ends = c.end_with.ensures;
+})

@@ -1,0 +1,55 @@
+-- What the command `order` does.
+use Rattle.std.specs.Prelude.{◌≡◌, ℕ, ◌⊎◌, List, [], ◌∷◌, Result, Ok, Err}
+use Rattle.road_graph.specs.GraphData.{GraphData}
+use Rattle.text_lines.specs.declared.faults.ReadFault.{ReadFault}
+use Rattle.text_lines.specs.Reads.{ReadsText}
+use Rattle.text_lines.specs.Streams.{Input, Output}
+use Rattle.graph_text.specs.GraphFiles.{gr_rules}
+use Rattle.order_files.specs.WrittenOrders.{places_text}
+use Rattle.path_factors.specs.Factors.{HasEachVertex}
+use Rattle.batch_run.specs.declared.faults.File.TheVariants.{Graph}
+use Rattle.batch_run.specs.declared.faults.RunFault.{RunFault}
+use Rattle.command_args.specs.declared.parsed.OrderArgs.{OrderArgs}
+use Rattle.fault_reports.specs.Reports.{EndsAs, Reaches, run_fault}
+use Rattle.program.specs.declared.opened_input.OpenedInput.{OpenedInput}
+use Rattle.program.specs.declared.refusal.Refusal.TheVariants.{Fault}
+use Rattle.program.specs.Commands.{IsRefused}
+use Rattle.program.specs.Moments.{Moment}
+use Rattle.program.specs.Opening.{AreOpened, IsMissing, Tries, inputs_ordered}
+
+-- nothing was written: the graph was too dense to factor, or memory was refused
+abbrev pub HasNoOrder : {W : Type 0} → Output W → Output W → Result (Unit {0}) RunFault → Type 0
+HasNoOrder out out_after (Ok _) = ⊥
+HasNoOrder out out_after (Err f) = (out_after ≡ out) × ((f ≡ run_fault 44) ⊎ (f ≡ run_fault 3))
+
+-- the output has the places of n vertices, each place once, or a write of them failed; or nothing
+-- was written
+abbrev pub WritesPlaces : {W : Type 0} → ℕ → Output W → Output W → Result (Unit {0}) RunFault → Type 0
+WritesPlaces n out out_after outcome =
+    ((places : List ℕ) × HasEachVertex n places × Reaches (places_text places) out out_after outcome)
+    ⊎ HasNoOrder out out_after outcome
+
+-- the vertices of a graph that was read were ordered; a fault of the graph is that of the command
+abbrev pub OrdersRead : {W : Type 0} → Result GraphData ReadFault → Output W → Output W → Result (Unit {0}) RunFault → Type 0
+OrdersRead (Ok g) out out_after outcome = WritesPlaces g.vertices out out_after outcome
+OrdersRead (Err f) out out_after outcome = (outcome ≡ Err (record { number = f.number; file = Graph; line = f.line })) × (out_after ≡ out)
+
+-- a graph was read, and its vertices were ordered
+abbrev pub RanOrder : {G W : Type 0} → Input G → Input G → Output W → Output W → Result (Unit {0}) RunFault → Type 0
+RanOrder roads roads_after out out_after outcome =
+    (graph : Result GraphData ReadFault) × ReadsText roads roads_after gr_rules (λ g. g) 10 19 graph × OrdersRead graph out out_after outcome
+
+-- the graph was opened, and then it was ordered
+pub record OrdersOpened (F I : Type 0) {P W E : Type 0} (opens : Tries P) (args : OrderArgs) (old new : Moment P W E) (result : ℕ) : Type 0 where
+  pub roads : Input (OpenedInput F I)
+  pub roads_after : Input (OpenedInput F I)
+  pub input : AreOpened opens (inputs_ordered args) (roads ∷ []) old.files new.files
+  pub outcome : Result (Unit {0}) RunFault
+  pub ran : RanOrder roads roads_after old.out new.out outcome
+  pub ends : EndsAs (λ _. 0) old.errors new.errors outcome result
+
+-- `order` with these arguments
+abbrev pub DoesOrder : (F I : Type 0) → {P W E : Type 0} → Tries P → OrderArgs → Moment P W E → Moment P W E → ℕ → Type 0
+DoesOrder F I opens args old new result =
+    IsRefused (λ files refusal. (f : RunFault) × (refusal ≡ Fault f) × IsMissing opens (inputs_ordered args) old.files files f) old new result
+    ⊎ OrdersOpened F I opens args old new result

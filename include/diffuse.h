@@ -71,7 +71,7 @@ struct diffuse_stop {
 enum diffuse_status {
     DIFFUSE_STATUS_DONE = 0,
     DIFFUSE_STATUS_NO_ROUTE = 1,        /* no walk from the source to the target has a value */
-    DIFFUSE_STATUS_NO_ROOM = 2,         /* route, near and arcs_from: fewer places than are needed; tree and check: a list
+    DIFFUSE_STATUS_NO_ROOM = 2,         /* route, route_arcs, near and arcs_from: fewer places than are needed; tree and check: a list
                                            does not have exactly one place for each vertex (for tree, or none); table: the list
                                            does not have exactly n_sources * n_targets elements; read: a text of more than 2^32
                                            bytes */
@@ -95,7 +95,9 @@ enum diffuse_status {
     DIFFUSE_STATUS_TOO_FEW = 19,        /* read: fewer arc lines than announced */
     DIFFUSE_STATUS_NO_ALGEBRA = 43,     /* there is no such algebra, or its limit is above 2^63 */
     DIFFUSE_STATUS_NO_LINK = 44,        /* reweigh: an arc between vertices between which the factors have no link */
-    DIFFUSE_STATUS_STOPPED = 45         /* route, tree, near and table: the handle's stop was set before there was an answer */
+    DIFFUSE_STATUS_STOPPED = 45,        /* route, tree, near and table: the handle's stop was set before there was an answer */
+    DIFFUSE_STATUS_OTHER_ARCS = 46,     /* number: the arcs are not those of the graph */
+    DIFFUSE_STATUS_NO_NUMBERS = 47      /* route_arcs: the arcs of the graph were not numbered */
 };
 
 /* What is best, and what a code is. Only DIFFUSE_ALGEBRA_WITHIN reads the limit of a call. Any number of 32 bits may be given;
@@ -157,8 +159,8 @@ enum diffuse_status diffuse_graph_open(uint32_t vertices, const struct diffuse_a
 DIFFUSE_CHECKED((3))
 enum diffuse_status diffuse_graph_read(const uint8_t *bytes, size_t n_bytes, struct diffuse_graph *graph, uint64_t *line);
 
-/* Opens a second, closed handle with the graph of an open one, and with the factors that this one has. Both have one copy of
-   the graph, of its factors, and of its arcs by head, which are made now if no call has needed them yet.
+/* Opens a second, closed handle with the graph of an open one, and with the factors and the numbers that this one has. Both have
+   one copy of the graph, of its factors, of the numbers, and of its arcs by head, which are made now if no call has needed them yet.
    OPEN, CLOSED, MEMORY or DONE. */
 DIFFUSE_CHECKED((1, 2))
 enum diffuse_status diffuse_graph_share(struct diffuse_graph *graph, struct diffuse_graph *second);
@@ -186,6 +188,24 @@ enum diffuse_status diffuse_graph_arcs_from(struct diffuse_graph *graph, uint32_
 DIFFUSE_CHECKED((1))
 enum diffuse_status diffuse_graph_route(struct diffuse_graph *graph, enum diffuse_algebra algebra, uint64_t limit,
     uint32_t source, uint32_t target, uint64_t *code, uint32_t *hops, uint32_t *room, size_t n_room);
+
+/* Numbers the arcs of the graph by their places in a list, counted from 0, so that diffuse_graph_route_arcs tells parallel arcs
+   apart: the list is that which was given to open, or has the same arcs in another order, if those of one tail are in the order
+   in which diffuse_graph_arcs_from reads them back. It may be changed or freed afterwards. The numbers take 4 bytes an arc and 4 a
+   vertex, and while they are made 32 and 12; a later call puts others in their place. If they are other arcs, nothing changes.
+   CLOSED, OTHER_ARCS, MEMORY or DONE. */
+DIFFUSE_CHECKED((1))
+enum diffuse_status diffuse_graph_number(struct diffuse_graph *graph, const struct diffuse_arc *arcs, size_t n_arcs);
+
+/* What diffuse_graph_route writes, and the numbers of the hops arcs that the route takes: at each step, of the arcs that lead to
+   its next vertex, the one that makes the best of its value so far, and of those that do the one with the least number. So the code
+   is that of these arcs. The places after them are left as they are. If the room is shorter than hops + 1, or the places for arcs are
+   fewer than hops, code and hops are written all the same, and neither list is. The handle of a graph that was opened by
+   diffuse_graph_reweigh has no numbers until it is numbered.
+   CLOSED, NO_NUMBERS, NO_VERTEX, NO_ALGEBRA, MEMORY, STOPPED, NO_ROUTE, NO_ROOM or DONE. */
+DIFFUSE_CHECKED((1))
+enum diffuse_status diffuse_graph_route_arcs(struct diffuse_graph *graph, enum diffuse_algebra algebra, uint64_t limit,
+    uint32_t source, uint32_t target, uint64_t *code, uint32_t *hops, uint32_t *room, size_t n_room, uint32_t *arcs, size_t n_arcs);
 
 /* For each vertex v, in place v - 1: the best value from the nearest of the sources, as a code, its least hops and its least
    parent. An unreached vertex has DIFFUSE_UNREACHED, 0 and 0; a source has parent 0. A list of no places is not wanted. With factors,
@@ -281,6 +301,9 @@ enum diffuse_status diffuse_graph_arcs_from_of_library(struct diffuse_graph *gra
 DIFFUSE_CHECKED((1, 6, 7))
 enum diffuse_status diffuse_graph_route_of_library(struct diffuse_graph *graph, enum diffuse_algebra algebra, uint64_t limit, uint32_t source, uint32_t target,
     uint64_t *code, uint32_t *hops, uint32_t *room, size_t n_room) __asm__("diffuse_graph_route");
+DIFFUSE_CHECKED((1, 6, 7))
+enum diffuse_status diffuse_graph_route_arcs_of_library(struct diffuse_graph *graph, enum diffuse_algebra algebra, uint64_t limit, uint32_t source, uint32_t target,
+    uint64_t *code, uint32_t *hops, uint32_t *room, size_t n_room, uint32_t *arcs, size_t n_arcs) __asm__("diffuse_graph_route_arcs");
 DIFFUSE_CHECKED((1, 14))
 enum diffuse_status diffuse_graph_near_of_library(struct diffuse_graph *graph, enum diffuse_algebra algebra, uint64_t limit, const uint32_t *sources, size_t n_sources,
     uint32_t *vertices, size_t n_vertices, uint64_t *codes, size_t n_codes, uint32_t *hops, size_t n_hops, uint32_t *parents, size_t n_parents,
@@ -301,6 +324,7 @@ enum diffuse_status diffuse_graph_check_of_library(struct diffuse_graph *graph, 
 #define diffuse_graph_read_of_library diffuse_graph_read
 #define diffuse_graph_arcs_from_of_library diffuse_graph_arcs_from
 #define diffuse_graph_route_of_library diffuse_graph_route
+#define diffuse_graph_route_arcs_of_library diffuse_graph_route_arcs
 #define diffuse_graph_near_of_library diffuse_graph_near
 #define diffuse_graph_check_of_library diffuse_graph_check
 #endif
@@ -328,6 +352,16 @@ enum diffuse_status DIFFUSE_NULLABLE(diffuse_graph_route)(struct diffuse_graph *
 }
 
 DIFFUSE_INLINE DIFFUSE_CHECKED((1))
+enum diffuse_status DIFFUSE_NULLABLE(diffuse_graph_route_arcs)(struct diffuse_graph *graph, enum diffuse_algebra algebra,
+    uint64_t limit, uint32_t source, uint32_t target, uint64_t *code, uint32_t *hops, uint32_t *room, size_t n_room, uint32_t *arcs,
+    size_t n_arcs) {
+    uint64_t unwanted_code = 0;
+    uint32_t unwanted_hops = 0;
+    return diffuse_graph_route_arcs_of_library(graph, algebra, limit, source, target, code ? code : &unwanted_code,
+        hops ? hops : &unwanted_hops, room, n_room, arcs, n_arcs);
+}
+
+DIFFUSE_INLINE DIFFUSE_CHECKED((1))
 enum diffuse_status DIFFUSE_NULLABLE(diffuse_graph_near)(struct diffuse_graph *graph, enum diffuse_algebra algebra,
     uint64_t limit, const uint32_t *sources, size_t n_sources, uint32_t *vertices, size_t n_vertices, uint64_t *codes,
     size_t n_codes, uint32_t *hops, size_t n_hops, uint32_t *parents, size_t n_parents, size_t *count) {
@@ -349,6 +383,7 @@ enum diffuse_status DIFFUSE_NULLABLE(diffuse_graph_check)(struct diffuse_graph *
 #define diffuse_graph_read diffuse_graph_read_nullable
 #define diffuse_graph_arcs_from diffuse_graph_arcs_from_nullable
 #define diffuse_graph_route diffuse_graph_route_nullable
+#define diffuse_graph_route_arcs diffuse_graph_route_arcs_nullable
 #define diffuse_graph_near diffuse_graph_near_nullable
 #define diffuse_graph_check diffuse_graph_check_nullable
 #endif
@@ -389,6 +424,8 @@ static inline const char *diffuse_status_text(int32_t status) {
     case DIFFUSE_STATUS_NO_ALGEBRA: return "no such algebra, or a limit above 9223372036854775808";
     case DIFFUSE_STATUS_NO_LINK: return "an arc between vertices between which the factors have no link";
     case DIFFUSE_STATUS_STOPPED: return "stopped before there was an answer";
+    case DIFFUSE_STATUS_OTHER_ARCS: return "arcs that are not those of the graph";
+    case DIFFUSE_STATUS_NO_NUMBERS: return "a graph whose arcs were not numbered";
     default: return "no status";
     }
 }

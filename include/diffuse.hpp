@@ -44,6 +44,11 @@ struct route {
     std::uint32_t hops() const noexcept { return vertices.empty() ? 0 : static_cast<std::uint32_t>(vertices.size() - 1); }
 };
 
+// A route and its arcs: the place of each in the list by which the arcs of the graph were numbered.
+struct numbered_route : route {
+    std::vector<std::uint32_t> arcs;
+};
+
 // Of each vertex v, in place v - 1, what diffuse_graph_tree writes.
 struct tree {
     std::vector<std::uint64_t> codes;
@@ -119,7 +124,7 @@ public:
         return made;
     }
 
-    // A second graph over the same arcs and factors, for another thread.
+    // A second graph over the same arcs, factors and numbers, for another thread.
     graph share() {
         graph second;
         expect(diffuse_graph_share(&at, &second.at));
@@ -159,6 +164,26 @@ public:
         if (status == DIFFUSE_STATUS_NO_ROUTE) return {};
         expect(status);
         found.vertices.resize(std::size_t(hops) + 1);
+        return found;
+    }
+
+    // Numbers the arcs by their places in this list, counted from 0; see diffuse_graph_number.
+    void number(const std::vector<arc>& arcs) { expect(diffuse_graph_number(&at, arcs.data(), arcs.size())); }
+
+    // The route and its arcs, of a graph that was numbered.
+    numbered_route route_arcs(std::uint32_t source, std::uint32_t target, algebra by = DIFFUSE_ALGEBRA_SHORTEST, std::uint64_t limit = 0) {
+        numbered_route found;
+        std::uint32_t hops = 63;
+        auto ask = [&] {
+            found.vertices.resize(std::size_t(hops) + 1), found.arcs.resize(hops);
+            return diffuse_graph_route_arcs(&at, by, limit, source, target, &found.code, &hops, found.vertices.data(), found.vertices.size(),
+                                            found.arcs.data(), found.arcs.size());
+        };
+        auto status = ask();
+        if (status == DIFFUSE_STATUS_NO_ROOM) status = ask();
+        if (status == DIFFUSE_STATUS_NO_ROUTE) return {};
+        expect(status);
+        found.vertices.resize(std::size_t(hops) + 1), found.arcs.resize(hops);
         return found;
     }
 
@@ -212,7 +237,7 @@ public:
         return status;
     }
 
-    // A second graph with these arcs on the same vertices, factored as this one is, over its links.
+    // A second graph with these arcs on the same vertices, factored as this one is, over its links. Its arcs are not numbered.
     graph reweigh(const std::vector<arc>& arcs) {
         graph second;
         expect(diffuse_graph_reweigh(&at, arcs.data(), arcs.size(), &second.at));

@@ -5,3 +5,4 @@ mod NearLists
 mod Spelled
 mod Tabling
 mod Telling
+mod RouteArcs

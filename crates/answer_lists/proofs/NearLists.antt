@@ -19,7 +19,7 @@ module _ (chosen : AlgebraChoice) (g : GraphData) (sources found all_codes all_h
       BeginsOrNone (length found) vertices found → BeginsOrNone (length found) codes all_codes → BeginsOrNone (length found) hops all_hops →
       BeginsOrNone (length found) parents all_parents →
       Under chosen (λ V A. AreNearLists A g sources count vertices codes hops parents)
-  found_listed vertices codes hops parents v c h p = under_weaker chosen _ _ (λ V A lines. record {
+  found_listed vertices codes hops parents v c h p = under_weaker chosen (λ V A. AreNearLines A g sources found all_codes all_hops all_parents) (λ V A. AreNearLists A g sources count vertices codes hops parents) (λ V A lines. record {
     all_vertices = found;
     all_codes = all_codes;
     all_hops = all_hops;

@@ -13,6 +13,7 @@ mod near;
 mod near_lists;
 mod reweigh;
 mod route;
+mod route_arcs;
 mod shared_graph;
 mod sources;
 mod status;
@@ -27,6 +28,7 @@ pub use near::answer_near;
 pub use path_plain::Stop;
 pub use reweigh::reweigh_graph;
 pub use route::answer_route;
+pub use route_arcs::answer_route_arcs;
 pub use shared_graph::SharedGraph;
 pub use status::{
     DENSE, DONE, HEAVY, MEMORY, NO_ALGEBRA, NO_FACTORS, NO_LINK, NO_ROOM, NO_ROUTE, NO_VERTEX,

@@ -140,7 +140,7 @@ fn write_route(found: &Found, room: &mut [u32]) -> i32
 }
 
 /// Finds a route by the chosen algebra and writes it.
-fn answer(
+pub(crate) fn answer(
     alloc: Global,
     chosen: AlgebraChoice,
     shared: &mut SharedGraph,

@@ -27,6 +27,7 @@ use Rattle.diffuse_c.specs.contracts.loose.Loose as loose
 use Rattle.diffuse_c.specs.contracts.held.Held as held
 use Rattle.road_graph.specs.GraphData.{GraphData}
 use Rattle.path_plain.specs.declared.halt.Stop.{Stop}
+use Rattle.arc_numbers.specs.Numbering.{Numbering}
 use Rattle.diffuse_c.specs.Holding.{held_at, has_graph}
 use Rattle.std.specs.Prelude.{Option, Some, None}
 use prog.Model.{Model}
@@ -80,11 +81,11 @@ abbrev pub alone : Ptr → Val
 alone p = vstruct (vcons (ptr_val p) vnil)
 
 module _ {M : Type 1} {𝓤 : Ura M} {𝓛 : Logic 𝓤} {K : Type 0} {Γ : List (Item 𝓤)} {G : Goal 𝓤 𝓛.H} where
-  pub held_out : K → (d : (held.the_row).Denot) (vs : List Val) → (vs ≡ alone d.at ∷ [] → Seq K 𝓛 (‵ (held_at d.at d.roads d.stop) ∷ Γ) G) → Seq K 𝓛 (‵ ((held.the_row).own_val d vs) ∷ Γ) G
+  pub held_out : K → (d : (held.the_row).Denot) (vs : List Val) → (vs ≡ alone d.at ∷ [] → Seq K 𝓛 (‵ (held_at d.at d.roads d.stop d.numbers) ∷ Γ) G) → Seq K 𝓛 (‵ ((held.the_row).own_val d vs) ∷ Γ) G
   held_out t d vs k = fsplit t $ fpick t (λ vss. fsplit t $ feq_l t (λ ev. fsplit t $ feq_l t (λ ep. drop t $
       k (subst (λ (ps : List Val). vs ≡ vstruct (of_list (ps ++ [])) ∷ []) ep ev))))
 
-  pub held_in : K → (p : Ptr) (x : Option (GraphData)) (y : Option Stop) →
-      Step K 𝓛 (‵ ((held.the_row).own_val (record { at = p; roads = x; stop = y }) (alone p ∷ [])) ∷ Γ) G (‵ (held_at p x y) ∷ Γ) G
-  held_in t p x y = step (λ s. nothing t $ feq_i t (List Val) (ptr_val p ∷ []) (ptr_val p ∷ []) refl $ fjoin t $ feq_i t (List Val) (alone p ∷ []) (alone p ∷ []) refl $ fjoin t $
+  pub held_in : K → (p : Ptr) (x : Option (GraphData)) (y : Option Stop) (w : Option Numbering) →
+      Step K 𝓛 (‵ ((held.the_row).own_val (record { at = p; roads = x; stop = y; numbers = w }) (alone p ∷ [])) ∷ Γ) G (‵ (held_at p x y w) ∷ Γ) G
+  held_in t p x y w = step (λ s. nothing t $ feq_i t (List Val) (ptr_val p ∷ []) (ptr_val p ∷ []) refl $ fjoin t $ feq_i t (List Val) (alone p ∷ []) (alone p ∷ []) refl $ fjoin t $
       fpack t (Valss (RawPtr ∷ [])) (within (shape held.the_type) (p, tt) (alone p ∷ [])) (ptr_val p ∷ [], tt) $ fjoin t $ s)

@@ -22,6 +22,7 @@ pub extern "C" fn diffuse_graph_factor(
 ) -> i32
     ensures kept { handle.new.held.roads ≡ handle.old.held.roads }
     ensures stop { handle.new.held.stop ≡ handle.old.held.stop }
+    ensures numbers { handle.new.held.numbers ≡ handle.old.held.numbers }
     ensures heavy { OfGraph handle.old.held.roads (λ g. result ≡ pos 8 → OfAlgebra algebra 0
         (λ V A. IsTooHeavy A g)) }
     ensures algebra { OfGraph handle.old.held.roads

@@ -9,7 +9,7 @@ ghost use Rattle.diffuse_c.specs.Lent.{IsBadlyJoined, IsTooLarge, lent};
 use crate::arcs::DiffuseArc;
 use crate::handle::{DiffuseGraph, put, take};
 use crate::opening::owner_of;
-use crate::owners::try_clone;
+use crate::owners::{Owner, try_clone};
 use crate::status::{CLOSED, OPEN};
 use answer_lists::{DONE, MEMORY};
 use road_graph::Memory;
@@ -26,6 +26,7 @@ pub extern "C" fn diffuse_graph_open(
     ensures graph { result ≡ pos 0 → handle.new.held.roads ≡ Some (lent vertices arcs.now) }
     ensures kept { result ≢ pos 0 → handle.new.held.roads ≡ handle.old.held.roads }
     ensures stop { handle.new.held.stop ≡ handle.old.held.stop }
+    ensures numbers { handle.new.held.numbers ≡ handle.old.held.numbers }
     ensures status { IsOneOf (0 ∷ 3 ∷ 5 ∷ 16 ∷ 17 ∷ []) result }
     ensures open { (result ≡ pos 5) ↔ (has_graph handle.old.held.roads ≡ true) }
     ensures limit { (result ≡ pos 16) ↔ ((handle.old.held.roads ≡ None) × IsTooLarge vertices
@@ -56,9 +57,12 @@ pub extern "C" fn diffuse_graph_share(
 ) -> i32
     ensures kept { handle.new.held.roads ≡ handle.old.held.roads }
     ensures stop { handle.new.held.stop ≡ handle.old.held.stop }
+    ensures numbers { handle.new.held.numbers ≡ handle.old.held.numbers }
     ensures graph { result ≡ pos 0 → second.new.held.roads ≡ handle.old.held.roads }
     ensures unchanged { result ≢ pos 0 → second.new.held.roads ≡ second.old.held.roads }
     ensures unstopped { result ≡ pos 0 → second.new.held.stop ≡ None }
+    ensures second_numbers { result ≡ pos 0 → second.new.held.numbers ≡ handle.old.held.numbers }
+    ensures numbers_kept { result ≢ pos 0 → second.new.held.numbers ≡ second.old.held.numbers }
     ensures stop_kept { result ≢ pos 0 → second.new.held.stop ≡ second.old.held.stop }
     ensures status { IsOneOf (0 ∷ 3 ∷ 4 ∷ 5 ∷ []) result }
     ensures open { (result ≡ pos 5) ↔ (has_graph second.old.held.roads ≡ true) }
@@ -71,7 +75,12 @@ pub extern "C" fn diffuse_graph_share(
     let Some(mut owner) = take(alloc, handle) else {
         return CLOSED;
     };
-    let status = match try_clone(alloc, &mut owner.shared) {
+    let Owner {
+        shared,
+        numbers,
+        ..
+    } = &mut *owner;
+    let status = match try_clone(alloc, shared, numbers) {
         Ok(other) => {
             put(second, other);
             DONE
@@ -88,6 +97,7 @@ pub extern "C" fn diffuse_graph_share(
 pub extern "C" fn diffuse_graph_close(alloc: Global, handle: &mut DiffuseGraph)
     ensures roads { handle.new.held.roads ≡ None }
     ensures stop { handle.new.held.stop ≡ None }
+    ensures numbers { handle.new.held.numbers ≡ None }
 {
     let _owner = take(alloc, handle);
 }
@@ -97,6 +107,7 @@ pub extern "C" fn diffuse_graph_close(alloc: Global, handle: &mut DiffuseGraph)
 pub extern "C" fn diffuse_graph_vertices(alloc: Global, handle: &mut DiffuseGraph) -> u32
     ensures kept { handle.new.held.roads ≡ handle.old.held.roads }
     ensures stop { handle.new.held.stop ≡ handle.old.held.stop }
+    ensures numbers { handle.new.held.numbers ≡ handle.old.held.numbers }
     ensures count { MatchOption handle.old.held.roads (result ≡ 0) (λ g. result ≡ g.vertices) }
 {
     let Some(owner) = take(alloc, handle) else {
@@ -112,6 +123,7 @@ pub extern "C" fn diffuse_graph_vertices(alloc: Global, handle: &mut DiffuseGrap
 pub extern "C" fn diffuse_graph_arcs(alloc: Global, handle: &mut DiffuseGraph) -> usize
     ensures kept { handle.new.held.roads ≡ handle.old.held.roads }
     ensures stop { handle.new.held.stop ≡ handle.old.held.stop }
+    ensures numbers { handle.new.held.numbers ≡ handle.old.held.numbers }
     ensures count { MatchOption handle.old.held.roads (result ≡ 0) (λ g. result ≡ length g.arcs) }
 {
     let Some(owner) = take(alloc, handle) else {

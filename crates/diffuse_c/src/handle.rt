@@ -1,7 +1,7 @@
 //! The handle that C keeps.
 
-ghost use Rattle.std.specs.Prelude.{◌≡◌, Some, None, MatchOption, true, false};
-ghost use Rattle.diffuse_c.specs.Holding.{has_graph};
+ghost use Rattle.std.specs.Prelude.{◌≡◌, Some, None, IfSome, MatchOption, true, false};
+ghost use Rattle.diffuse_c.specs.Holding.{AreNumbersOf, has_graph};
 
 use crate::held::{Held, discard, hold, nothing, release};
 use crate::loose::Loose;
@@ -17,12 +17,14 @@ pub struct DiffuseGraph {
     pub(crate) is_open: bool,
     ghost agrees: { has_graph held.roads ≡ is_open },
     ghost unstopped: { held.roads ≡ None → held.stop ≡ None },
+    ghost numbered: { AreNumbersOf held.roads held.numbers },
 }
 
 /// A closed handle.
 pub(crate) fn closed() -> DiffuseGraph
     ensures roads { result.held.roads ≡ None }
     ensures stop { result.held.stop ≡ None }
+    ensures numbers { result.held.numbers ≡ None }
 {
     DiffuseGraph {
         held: nothing(),
@@ -32,8 +34,10 @@ pub(crate) fn closed() -> DiffuseGraph
 
 /// An open handle with this owner.
 fn opened(owner: Box<Owner>) -> DiffuseGraph
+    requires { AreNumbersOf (Some owner.value.shared) owner.value.numbers }
     ensures roads { result.held.roads ≡ Some owner.value.shared }
     ensures stop { result.held.stop ≡ owner.value.stop }
+    ensures numbers { result.held.numbers ≡ owner.value.numbers }
 {
     DiffuseGraph {
         held: hold(Loose::of(owner)),
@@ -47,8 +51,12 @@ pub(crate) fn take(alloc: Global, handle: &mut DiffuseGraph) -> Option<Box<Owner
         Some b.value.shared) }
     ensures stop { MatchOption result (handle.old.held.stop ≡ None) (λ b. handle.old.held.stop ≡
         b.value.stop) }
+    ensures numbers { MatchOption result (handle.old.held.numbers ≡ None)
+        (λ b. handle.old.held.numbers ≡ b.value.numbers) }
+    ensures numbered { IfSome result (λ b. AreNumbersOf (Some b.value.shared) b.value.numbers) }
     ensures closed { handle.new.held.roads ≡ None }
     ensures unstopped { handle.new.held.stop ≡ None }
+    ensures unnumbered { handle.new.held.numbers ≡ None }
 {
     let DiffuseGraph { held, is_open } = mem::replace(handle, closed());
     if is_open {
@@ -61,9 +69,11 @@ pub(crate) fn take(alloc: Global, handle: &mut DiffuseGraph) -> Option<Box<Owner
 
 /// Puts an owner into a closed handle.
 pub(crate) fn put(handle: &mut DiffuseGraph, owner: Box<Owner>)
-    requires { handle.old.held.roads ≡ None }
+    requires closed { handle.old.held.roads ≡ None }
+    requires numbers { AreNumbersOf (Some owner.value.shared) owner.value.numbers }
     ensures roads { handle.new.held.roads ≡ Some owner.value.shared }
     ensures stop { handle.new.held.stop ≡ owner.value.stop }
+    ensures numbers { handle.new.held.numbers ≡ owner.value.numbers }
 {
     let DiffuseGraph { held, is_open: _ } = mem::replace(handle, opened(owner));
     discard(held);

@@ -3,6 +3,7 @@
 ghost use Rattle.std.specs.Prelude.{◌≡◌, Option, Some, None, true};
 ghost use Rattle.road_graph.specs.GraphData.{GraphData};
 ghost use Rattle.path_plain.specs.declared.halt.Stop.{Stop};
+ghost use Rattle.arc_numbers.specs.Numbering.{Numbering};
 ghost use Rattle.diffuse_c.specs.Holding.{has_graph};
 
 use crate::loose::Loose;
@@ -11,19 +12,20 @@ use std::alloc::Global;
 use std::marker::{Model, Send};
 use std::ptr::null_mut;
 
-/// Nothing, or an owner in a block of the heap: of this graph, with this stop. It cannot be
-/// dropped, so the owner is not lost.
+/// Nothing, or an owner in a block of the heap: of this graph, with this stop and these numbers of
+/// arcs. It cannot be dropped, so the owner is not lost.
 #[repr(C)]
 pub struct Held {
     at: *mut u8,
     pub ghost roads: { Option GraphData },
     pub ghost stop: { Option Stop },
+    pub ghost numbers: { Option Numbering },
 }
 
 impl Model for Held {
     ghost use Rattle.diffuse_c.specs.Holding.{held_at};
 
-    ghost also_owns = { λ h. held_at h.at h.roads h.stop };
+    ghost also_owns = { λ h. held_at h.at h.roads h.stop h.numbers };
 }
 
 // What it owns may move to another thread, so it may too.
@@ -31,14 +33,15 @@ unsafe impl Send for Held {}
 
 /// Holds nothing.
 pub(crate) fn nothing() -> Held
-    ensures { (result.roads ≡ None) × (result.stop ≡ None) }
+    ensures { (result.roads ≡ None) × (result.stop ≡ None) × (result.numbers ≡ None) }
 {
     Held { at: null_mut() }
 }
 
 /// Holds an owner of a graph.
 pub(crate) fn hold(owner: Loose<Owner, Global>) -> Held
-    ensures { (result.roads ≡ Some owner.value.shared) × (result.stop ≡ owner.value.stop) }
+    ensures { (result.roads ≡ Some owner.value.shared) × (result.stop ≡ owner.value.stop)
+        × (result.numbers ≡ owner.value.numbers) }
 {
     let Loose { at, alloc: _ } = owner;
     Held { at: at as *mut u8 }
@@ -47,7 +50,8 @@ pub(crate) fn hold(owner: Loose<Owner, Global>) -> Held
 /// Gives the owner back.
 pub(crate) fn release(alloc: Global, held: Held) -> Loose<Owner, Global>
     requires { has_graph held.roads ≡ true }
-    ensures { (held.roads ≡ Some result.value.shared) × (held.stop ≡ result.value.stop) }
+    ensures { (held.roads ≡ Some result.value.shared) × (held.stop ≡ result.value.stop)
+        × (held.numbers ≡ result.value.numbers) }
 {
     let Held { at } = held;
     Loose {

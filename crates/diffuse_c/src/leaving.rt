@@ -62,6 +62,7 @@ pub extern "C" fn diffuse_graph_arcs_from(
 ) -> i32
     ensures kept { handle.new.held.roads ≡ handle.old.held.roads }
     ensures stop { handle.new.held.stop ≡ handle.old.held.stop }
+    ensures numbers { handle.new.held.numbers ≡ handle.old.held.numbers }
     ensures count { OfGraph handle.old.held.roads (λ g. IsFound result →
         IsCountFrom g vertex count.new) }
     ensures arcs { OfGraph handle.old.held.roads (λ g. result ≡ pos 0 →

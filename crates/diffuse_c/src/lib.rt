@@ -13,6 +13,7 @@ mod joining;
 mod leaving;
 mod loose;
 mod near;
+mod numbers;
 mod opening;
 mod owners;
 mod questions;
@@ -31,6 +32,7 @@ pub use graphs::{
 pub use handle::DiffuseGraph;
 pub use leaving::diffuse_graph_arcs_from;
 pub use near::diffuse_graph_near;
+pub use numbers::{diffuse_graph_number, diffuse_graph_route_arcs};
 pub use questions::{diffuse_graph_check, diffuse_graph_route, diffuse_graph_tree};
 pub use reading::diffuse_graph_read;
 pub use reweigh::diffuse_graph_reweigh;

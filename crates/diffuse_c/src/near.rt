@@ -32,6 +32,7 @@ pub extern "C" fn diffuse_graph_near(
 ) -> i32
     ensures kept { handle.new.held.roads ≡ handle.old.held.roads }
     ensures stop { handle.new.held.stop ≡ handle.old.held.stop }
+    ensures numbers { handle.new.held.numbers ≡ handle.old.held.numbers }
     ensures count { OfGraph handle.old.held.roads (λ g. IsFound result → OfAlgebra algebra limit
         (λ V A. IsReachedCount A g sources.now count.new)) }
     ensures near { OfGraph handle.old.held.roads (λ g. result ≡ pos 0 → OfAlgebra algebra limit
@@ -56,7 +57,7 @@ pub extern "C" fn diffuse_graph_near(
     let Some(mut owner) = take(alloc, handle) else {
         return CLOSED;
     };
-    let Owner { shared, stop } = &mut *owner;
+    let Owner { shared, stop, .. } = &mut *owner;
     let status = answer_near(
         alloc, algebra, limit, shared, stop, sources, vertices, codes, hops, parents, count,
     );

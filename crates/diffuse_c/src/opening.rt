@@ -36,6 +36,7 @@ pub(crate) fn graph_of(alloc: Global, vertices: u32, arcs: &[DiffuseArc]) -> Res
 pub(crate) fn owner_of(alloc: Global, vertices: u32, arcs: &[DiffuseArc]) -> Result<Box<Owner>, i32>
     ensures graph { IfOk result (λ b. b.value.shared ≡ lent vertices arcs.now) }
     ensures stop { IfOk result (λ b. b.value.stop ≡ None) }
+    ensures numbers { IfOk result (λ b. b.value.numbers ≡ None) }
     ensures fits { IfOk result (λ b. Fits vertices arcs.now) }
     ensures fault { IfErr result (λ n. IsFault vertices arcs.now n) }
 {

@@ -3,22 +3,30 @@
 ghost use Rattle.std.specs.Prelude.{◌≡◌, ◌↔◌, IfOk, IsSome, None};
 
 use answer_lists::{SharedGraph, Stop};
+use arc_numbers::ArcNumbers;
 use road_graph::{Memory, OutGraph};
 use std::alloc::{AllocError, Global};
 
-/// What a handle owns: its part of a graph, and the stop that its calls look at, if it has one.
+/// What a handle owns: its part of a graph, the stop that its calls look at, if it has one, and the
+/// numbers of its arcs, if they were numbered.
 #[derive(Drop)]
 pub(crate) struct Owner {
     pub(crate) shared: SharedGraph,
     pub(crate) stop: Option<Stop>,
+    pub(crate) numbers: Option<ArcNumbers>,
 }
 
-/// An owner in a block of the heap. It has no stop.
+/// An owner in a block of the heap. It has no stop and no numbers.
 pub(crate) fn boxed(alloc: Global, shared: SharedGraph) -> Result<Box<Owner>, AllocError>
     ensures graph { IfOk result (λ b. b.value.shared ≡ shared) }
     ensures stop { IfOk result (λ b. b.value.stop ≡ None) }
+    ensures numbers { IfOk result (λ b. b.value.numbers ≡ None) }
 {
-    let owner = Owner { shared, stop: None };
+    let owner = Owner {
+        shared,
+        stop: None,
+        numbers: None,
+    };
     Ok(Box::new(alloc, owner).map_err(AllocError::from)?)
 }
 
@@ -26,21 +34,40 @@ pub(crate) fn boxed(alloc: Global, shared: SharedGraph) -> Result<Box<Owner>, Al
 pub(crate) fn owned(alloc: Global, graph: OutGraph) -> Result<Box<Owner>, AllocError>
     ensures graph { IfOk result (λ b. b.value.shared ≡ graph) }
     ensures stop { IfOk result (λ b. b.value.stop ≡ None) }
+    ensures numbers { IfOk result (λ b. b.value.numbers ≡ None) }
 {
     let shared = SharedGraph::of(alloc, graph)?;
     boxed(alloc, shared)
 }
 
-/// One more owner of the same graph. The rows by head are made first, so that both have one copy of
-/// them.
-pub(crate) fn try_clone(alloc: Global, shared: &mut SharedGraph) -> Result<Box<Owner>, Memory>
+/// One more owner of the same numbers, if there are any.
+fn numbers_again(numbers: &Option<ArcNumbers>) -> Result<Option<ArcNumbers>, AllocError>
+    ensures { IfOk result (λ again. again ≡ numbers.now) }
+{
+    match numbers {
+        Some(numbers) => Ok(Some(numbers.try_clone()?)),
+        None => Ok(None),
+    }
+}
+
+/// One more owner of the same graph, with the same numbers. The rows by head are made first, so
+/// that both have one copy of them.
+pub(crate) fn try_clone(
+    alloc: Global,
+    shared: &mut SharedGraph,
+    numbers: &Option<ArcNumbers>,
+) -> Result<Box<Owner>, Memory>
     ensures kept { shared.new ≡ shared.old }
     ensures same { IfOk result (λ b. b.value.shared ≡ shared.old) }
     ensures stop { IfOk result (λ b. b.value.stop ≡ None) }
+    ensures numbers { IfOk result (λ b. b.value.numbers ≡ numbers.now) }
 {
     let _rows = shared.rows(alloc)?;
     let second = shared.try_clone()?;
-    Ok(boxed(alloc, second)?)
+    let numbers = numbers_again(numbers)?;
+    let mut owner = boxed(alloc, second)?;
+    owner.numbers = numbers;
+    Ok(owner)
 }
 
 /// One more owner of the same stop, if there is one.

@@ -31,6 +31,7 @@ pub extern "C" fn diffuse_graph_route(
 ) -> i32
     ensures kept { handle.new.held.roads ≡ handle.old.held.roads }
     ensures stop { handle.new.held.stop ≡ handle.old.held.stop }
+    ensures numbers { handle.new.held.numbers ≡ handle.old.held.numbers }
     ensures tells { OfGraph handle.old.held.roads (λ g. IsAnswered result → OfAlgebra algebra limit
         (λ V A. ReportsRoute A g source target result code.new hops.new room.new)) }
     ensures short { result ≡ pos 2 → length room.old < hops.new + 1 }
@@ -50,7 +51,7 @@ pub extern "C" fn diffuse_graph_route(
         return CLOSED;
     };
     let (s, t) = (Vertex(source), Vertex(target));
-    let Owner { shared, stop } = &mut *owner;
+    let Owner { shared, stop, .. } = &mut *owner;
     let status = answer_route(alloc, algebra, limit, shared, stop, s, t, code, hops, room);
     put(handle, owner);
     status
@@ -74,6 +75,7 @@ pub extern "C" fn diffuse_graph_tree(
 ) -> i32
     ensures kept { handle.new.held.roads ≡ handle.old.held.roads }
     ensures stop { handle.new.held.stop ≡ handle.old.held.stop }
+    ensures numbers { handle.new.held.numbers ≡ handle.old.held.numbers }
     ensures tree { OfGraph handle.old.held.roads (λ g. result ≡ pos 0 → OfAlgebra algebra limit
         (λ V A. AreWantedLists A g sources.now codes.new hops.new parents.new)) }
     ensures lists { (result ≡ pos 0 → ⊥) → (codes.new ≡ codes.old) × (hops.new ≡ hops.old) ×
@@ -87,7 +89,7 @@ pub extern "C" fn diffuse_graph_tree(
     let Some(mut owner) = take(alloc, handle) else {
         return CLOSED;
     };
-    let Owner { shared, stop } = &mut *owner;
+    let Owner { shared, stop, .. } = &mut *owner;
     let status = answer_tree(
         alloc, algebra, limit, shared, stop, sources, codes, hops, parents,
     );
@@ -114,6 +116,7 @@ pub extern "C" fn diffuse_graph_check(
 ) -> i32
     ensures kept { handle.new.held.roads ≡ handle.old.held.roads }
     ensures stop { handle.new.held.stop ≡ handle.old.held.stop }
+    ensures numbers { handle.new.held.numbers ≡ handle.old.held.numbers }
     ensures right { OfGraph handle.old.held.roads (λ g. result ≡ pos 0 → OfAlgebra algebra limit
         (λ V A. AreTreeLists A g sources.now codes.now hops.now parents.now)) }
     ensures wrong { OfGraph handle.old.held.roads (λ g. result ≡ pos 6 → OfAlgebra algebra limit

@@ -67,6 +67,7 @@ fn owner_read(alloc: Global, bytes: &[u8]) -> Result<Box<Owner>, ReadFault>
     ensures graph { IfOk result (λ b. text_read gr_rules bytes.now ≡ Ok b.value.shared) }
     ensures fault { IfErr result (λ f. IsReadFaultOf bytes.now f) }
     ensures stop { IfOk result (λ b. b.value.stop ≡ None) }
+    ensures numbers { IfOk result (λ b. b.value.numbers ≡ None) }
     ensures memory { IfErr result (λ f. f.number ≡ 3 → IsShortOfMemory bytes.now) }
 {
     let graph = read_graph(alloc, bytes)?;
@@ -106,6 +107,7 @@ pub extern "C" fn diffuse_graph_read(
     ensures graph { result ≡ pos 0 → IsGraphOf bytes.now handle.new.held.roads }
     ensures kept { result ≢ pos 0 → handle.new.held.roads ≡ handle.old.held.roads }
     ensures stop { handle.new.held.stop ≡ handle.old.held.stop }
+    ensures numbers { handle.new.held.numbers ≡ handle.old.held.numbers }
     ensures status { IsOneOf (0 ∷ 2 ∷ 3 ∷ 5 ∷ []) result ⊎ IsFaultReported bytes.now result
         line.new }
     ensures memory { result ≡ pos 3 → IsShortOfMemory bytes.now }

@@ -26,6 +26,7 @@ fn owner_reweighed(
 ) -> Result<Box<Owner>, i32>
     ensures graph { IfOk result (λ b. b.value.shared ≡ lent first.now.vertices arcs.now) }
     ensures stop { IfOk result (λ b. b.value.stop ≡ None) }
+    ensures numbers { IfOk result (λ b. b.value.numbers ≡ None) }
     ensures fits { IfOk result (λ b. Fits first.now.vertices arcs.now) }
     ensures fault { IfErr result (IsReweighFault first.now arcs.now) }
 {
@@ -51,10 +52,13 @@ pub extern "C" fn diffuse_graph_reweigh(
 ) -> i32
     ensures kept { handle.new.held.roads ≡ handle.old.held.roads }
     ensures stop { handle.new.held.stop ≡ handle.old.held.stop }
+    ensures numbers { handle.new.held.numbers ≡ handle.old.held.numbers }
     ensures graph { OfGraph handle.old.held.roads (λ g. result ≡ pos 0 →
         second.new.held.roads ≡ Some (lent g.vertices arcs.now)) }
     ensures unchanged { result ≢ pos 0 → second.new.held.roads ≡ second.old.held.roads }
     ensures unstopped { result ≡ pos 0 → second.new.held.stop ≡ None }
+    ensures second_numbers { result ≡ pos 0 → second.new.held.numbers ≡ None }
+    ensures numbers_kept { result ≢ pos 0 → second.new.held.numbers ≡ second.old.held.numbers }
     ensures stop_kept { result ≢ pos 0 → second.new.held.stop ≡ second.old.held.stop }
     ensures status { IsOneOf (0 ∷ 3 ∷ 4 ∷ 5 ∷ 8 ∷ 16 ∷ 17 ∷ 44 ∷ []) result }
     ensures open { (result ≡ pos 5) ↔ (has_graph second.old.held.roads ≡ true) }

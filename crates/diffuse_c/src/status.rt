@@ -6,3 +6,7 @@ pub(crate) const CLOSED: i32 = 4;
 pub(crate) const OPEN: i32 = 5;
 /// There are too many vertices or arcs.
 pub(crate) const LIMIT: i32 = 16;
+/// The arcs are not those of the graph.
+pub(crate) const OTHER_ARCS: i32 = 46;
+/// The arcs of the graph were not numbered.
+pub(crate) const NO_NUMBERS: i32 = 47;

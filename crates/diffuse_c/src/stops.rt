@@ -97,6 +97,7 @@ pub extern "C" fn diffuse_graph_stop_by(
     stop: &mut DiffuseStop,
 ) -> i32
     ensures kept { handle.new.held.roads ≡ handle.old.held.roads }
+    ensures numbers { handle.new.held.numbers ≡ handle.old.held.numbers }
     ensures given { result ≡ pos 0 → (IsSome handle.new.held.stop ↔
         IsSome stop.old.handle.held.stop) }
     ensures unchanged { result ≢ pos 0 → handle.new.held.stop ≡ handle.old.held.stop }

@@ -28,6 +28,7 @@ pub extern "C" fn diffuse_graph_table(
 ) -> i32
     ensures kept { handle.new.held.roads ≡ handle.old.held.roads }
     ensures stop { handle.new.held.stop ≡ handle.old.held.stop }
+    ensures numbers { handle.new.held.numbers ≡ handle.old.held.numbers }
     ensures table { OfGraph handle.old.held.roads (λ g. result ≡ pos 0 → OfAlgebra algebra limit
         (λ V A. AreTableCodes A g sources.now targets.now codes.new)) }
     ensures places { (result ≡ pos 0 → ⊥) → codes.new ≡ codes.old }
@@ -40,7 +41,7 @@ pub extern "C" fn diffuse_graph_table(
     let Some(mut owner) = take(alloc, handle) else {
         return CLOSED;
     };
-    let Owner { shared, stop } = &mut *owner;
+    let Owner { shared, stop, .. } = &mut *owner;
     let status = answer_table(alloc, algebra, limit, shared, stop, sources, targets, codes);
     put(handle, owner);
     status

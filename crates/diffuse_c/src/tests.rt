@@ -4,10 +4,10 @@ use crate::held::discard;
 use crate::{
     DiffuseArc, DiffuseGraph, DiffuseStop, diffuse_graph_arcs, diffuse_graph_arcs_from,
     diffuse_graph_check, diffuse_graph_close, diffuse_graph_factor, diffuse_graph_near,
-    diffuse_graph_open, diffuse_graph_read, diffuse_graph_reweigh, diffuse_graph_route,
-    diffuse_graph_share, diffuse_graph_stop_by, diffuse_graph_table, diffuse_graph_tree,
-    diffuse_graph_vertices, diffuse_stop_clear, diffuse_stop_free, diffuse_stop_new,
-    diffuse_stop_set, diffuse_version,
+    diffuse_graph_number, diffuse_graph_open, diffuse_graph_read, diffuse_graph_reweigh,
+    diffuse_graph_route, diffuse_graph_route_arcs, diffuse_graph_share, diffuse_graph_stop_by,
+    diffuse_graph_table, diffuse_graph_tree, diffuse_graph_vertices, diffuse_stop_clear,
+    diffuse_stop_free, diffuse_stop_new, diffuse_stop_set, diffuse_version,
 };
 use std::alloc::Global;
 use std::marker::Send;
@@ -20,14 +20,9 @@ fn arc(tail: u32, head: u32, weight: u32) -> DiffuseArc {
 /// A handle may move to another thread.
 fn assert_send<T: Send>(_x: &T) {}
 
-/// Opens a handle with the five vertices and shares it.
-fn assert_opened(
-    rt: &impl Abort,
-    alloc: Global,
-    first: &mut DiffuseGraph,
-    second: &mut DiffuseGraph,
-) {
-    let arcs = [
+/// The arcs of the five vertices.
+fn five() -> [DiffuseArc; 7] {
+    [
         arc(1, 2, 4),
         arc(1, 3, 1),
         arc(3, 2, 2),
@@ -35,8 +30,17 @@ fn assert_opened(
         arc(3, 4, 8),
         arc(4, 4, 0),
         arc(5, 1, 3),
-    ];
-    assert_eq!(rt; diffuse_graph_open(alloc, 5, &arcs, first), 0);
+    ]
+}
+
+/// Opens a handle with the five vertices and shares it.
+fn assert_opened(
+    rt: &impl Abort,
+    alloc: Global,
+    first: &mut DiffuseGraph,
+    second: &mut DiffuseGraph,
+) {
+    assert_eq!(rt; diffuse_graph_open(alloc, 5, &five(), first), 0);
     assert_eq!(rt; diffuse_graph_share(alloc, first, second), 0);
 }
 
@@ -53,6 +57,31 @@ fn assert_arcs_from(rt: &impl Abort, alloc: Global, handle: &mut DiffuseGraph) {
     for &(i, head, weight) in &[(0, 2, 2), (1, 4, 8), (2, 7, 7)] {
         assert_eq!(rt; (arcs[i].head, arcs[i].weight), (head, weight));
     }
+}
+
+/// The route from 1 to 4 has this status, and these are its arcs.
+fn assert_route_arcs(
+    rt: &impl Abort,
+    alloc: Global,
+    handle: &mut DiffuseGraph,
+    wanted: i32,
+    numbers: [u32; 4],
+) {
+    let (mut code, mut hops, mut room, mut arcs) = (0, 0, [0; 4], [7; 4]);
+    let status = diffuse_graph_route_arcs(
+        alloc, handle, 0, 0, 1, 4, &mut code, &mut hops, &mut room, &mut arcs,
+    );
+    assert_eq!(rt; status, wanted);
+    assert_eq!(rt; arcs, numbers);
+}
+
+/// The arcs are numbered, but by no others.
+fn assert_numbered(rt: &impl Abort, alloc: Global, handle: &mut DiffuseGraph) {
+    let arcs = five();
+    assert_route_arcs(rt, alloc, handle, 47, [7; 4]);
+    assert_eq!(rt; diffuse_graph_number(alloc, handle, &arcs[1..]), 46);
+    assert_eq!(rt; diffuse_graph_number(alloc, handle, &arcs), 0);
+    assert_route_arcs(rt, alloc, handle, 0, [1, 2, 3, 7]);
 }
 
 fn close(alloc: Global, mut handle: DiffuseGraph) {
@@ -399,6 +428,7 @@ fn a_handle_is_opened_shared_asked_and_closed(rt: HostRuntime) {
     assert_checks(&rt, alloc, &mut second);
     assert_table(&rt, alloc, &mut second);
     assert_stops(&rt, alloc, &mut second);
+    assert_numbered(&rt, alloc, &mut second);
     assert_factored(&rt, alloc, &mut second);
     assert_reweighed(&rt, alloc, &mut second);
     close(alloc, second);

@@ -22,6 +22,7 @@ use Rattle.std.proofs.alloc.Global.TheLaws as heap_laws
 use Rattle.std.specs.contracts.impls.GlobalAllocator.TheImpl.{ghosts}
 use Rattle.road_graph.specs.GraphData.{GraphData}
 use Rattle.path_plain.specs.declared.halt.Stop.{Stop}
+use Rattle.arc_numbers.specs.Numbering.{Numbering}
 use Rattle.diffuse_c.specs.Holding.{owner_row}
 use Rattle.diffuse_c.proofs.Values.{both, Loose, loose_good, loose_out, alone, held_in}
 use Rattle.diffuse_c.specs.contracts.held.hold.{ended, clauses}
@@ -35,13 +36,13 @@ hold_spec 𝓤 𝓛 𝓜 𝓡 wired =
     let R = owner_row in let Z = heap.the_row in let LZ = heap_laws.the_row_laws in let L = Loose R Z LZ ghosts in
     let hs : Stays ended.signature.params ended.kept = (stay_dropped (plain (λ _. L)) ended.kept.0, tt) in
     proved_at 𝓛 ended hs c 𝓜 𝓡 (Goes-blank 𝓛 0 (plain (λ _. L)) ended.kept.0 (λ κs x f. tt), tt) #self fn (code.unfolded 𝓤 H 𝓜 𝓡 wired) (λ z are.
-    let v = z.0.3.0 in let g : GraphData = v.value.shared in let y : Option Stop = v.value.stop in let Post : Val → SProp 𝓤 = (walk_of 𝓛 ended hs c).post z in let Run : List Val → SProp 𝓤 = λ ws. WpFn 𝓤 H 𝓣.C 𝓣.Λ fn ws Post in
+    let v = z.0.3.0 in let g : GraphData = v.value.shared in let y : Option Stop = v.value.stop in let n : Option Numbering = v.value.numbers in let Post : Val → SProp 𝓤 = (walk_of 𝓛 ended hs c).post z in let Run : List Val → SProp 𝓤 = λ ws. WpFn 𝓤 H 𝓣.C 𝓣.Λ fn ws Post in
     qed 𝓛 ((‵ ftrue ⊛ ‵ (owns (L ∷ []) z.0.3 z.0.4)) ∷ raw (emp 𝓤) ∷ []) ∵ split ! $ move ! (1 ∷ []) $ fsplit ! $ loose_out R Z LZ ghosts ! v z.0.4.0 (λ b o h e ws fits.
     suffices ! (Run (both (vptr b o) h ∷ [])) (subst (λ (us : List Val). ent 𝓤 (Run (both (vptr b o) h ∷ [])) (Run us)) (sym (λ i. ws i ++ [])) (id⊢ 𝓤 (Run (both (vptr b o) h ∷ [])))) $
     keep ! (0 ∷ []) $ enter ! 𝓣.C 𝓣.Λ fn (both (vptr b o) h ∷ []) Post $ alloc_all ! (λ l. pass_all ! refl (loose_good R Z LZ ghosts b o h fits, tt) $
     sets ! (of_opd ! (get_in ! (fld ! refl (stop !)) (sub ! 0 refl (whole !)))) refl (tt, tt) $ sets ! (of_opd ! (get ! refl)) refl (tt, tt) $
     sets ! (agg ! (and_then ! (get ! refl) (no_more !))) refl (tt, (tt, tt)) $
     returns ! (look_at ! 0 refl) $ free_all ! refl $
-    held_in ! (block_ptr b o) (Some g) y $ use0 𝓛
-    (raw (fact 𝓤 ((Some g ≡ Some g) × (y ≡ y)))) (fact_i 𝓤 ((Some g ≡ Some g) × (y ≡ y)) (emp 𝓤) (refl, refl)) $ nothing ! $ nothing ! $ fjoin ! $ nothing ! $ keep ! (0 ∷ 1 ∷ 3 ∷ 2 ∷ []) $
-    by ! (leaves 𝓛 ended hs c z (alone (block_ptr b o)) (record { at = block_ptr b o; roads = Some g; stop = y }) (tt, tt) (tt, tt)))))
+    held_in ! (block_ptr b o) (Some g) y n $ use0 𝓛
+    (raw (fact 𝓤 ((Some g ≡ Some g) × (y ≡ y) × (n ≡ n)))) (fact_i 𝓤 ((Some g ≡ Some g) × (y ≡ y) × (n ≡ n)) (emp 𝓤) (refl, refl, refl)) $ nothing ! $ nothing ! $ fjoin ! $ nothing ! $ keep ! (0 ∷ 1 ∷ 3 ∷ 2 ∷ []) $
+    by ! (leaves 𝓛 ended hs c z (alone (block_ptr b o)) (record { at = block_ptr b o; roads = Some g; stop = y; numbers = n }) (tt, tt) (tt, tt)))))

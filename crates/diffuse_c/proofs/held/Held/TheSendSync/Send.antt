@@ -13,7 +13,9 @@ use Rattle.road_graph.specs.GraphData.{GraphData}
 use Rattle.answer_lists.specs.contracts.kept_searcher.KeptSearcher as kept
 use Rattle.answer_lists.specs.contracts.kept_tree.KeptTree as kept_tree
 use Rattle.path_plain.specs.declared.halt.Stop.{Stop}
+use Rattle.arc_numbers.specs.Numbering.{Numbering}
 use Rattle.path_plain.specs.contracts.halt.Stop as stop
+use Rattle.arc_numbers.specs.contracts.numbers.ArcNumbers as numbers
 use Rattle.answer_lists.specs.contracts.shared_graph.SharedGraph as shared
 use Rattle.diffuse_c.specs.Holding.{held_at, owner_of, owner_row, the_heap}
 use Rattle.diffuse_c.specs.contracts.held.Held.{the_row, the_type}
@@ -34,12 +36,15 @@ sharing = search (sendable, crosses, searching, growing) depth 60 fits 100000
 stopping : IsSend stop.the_row
 stopping = search (sendable, crosses) depth 60 fits 100000
 
-inside : IsSend owner_row
-inside = search (sendable, crosses, sharing, stopping) depth 60 fits 100000
+numbering : IsSend numbers.the_row
+numbering = search (sendable, crosses) depth 60 fits 100000
 
-keyless : (p : Ptr) (x : Option GraphData) (y : Option Stop) → Keyless (held_at p x y)
-keyless p None y = tt
-keyless p (Some g) y = (lies owner_row inside p (owner_of g y), frees.frees the_heap (raw (lone owner_row.mir)) p)
+inside : IsSend owner_row
+inside = search (sendable, crosses, sharing, stopping, numbering) depth 60 fits 100000
+
+keyless : (p : Ptr) (x : Option GraphData) (y : Option Stop) (n : Option Numbering) → Keyless (held_at p x y n)
+keyless p None y n = tt
+keyless p (Some g) y n = (lies owner_row inside p (owner_of g y n), frees.frees the_heap (raw (lone owner_row.mir)) p)
 
 pub send : IsSend the_row
-send = let ps : IsSend RawPtr = search sendable in owning_send the_type (ps, tt) (λ d. keyless d.at d.roads d.stop) (λ k x w. tt)
+send = let ps : IsSend RawPtr = search sendable in owning_send the_type (ps, tt) (λ d. keyless d.at d.roads d.stop d.numbers) (λ k x w. tt)

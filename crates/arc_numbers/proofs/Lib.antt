@@ -1,0 +1,5 @@
+mod Reordered
+mod Following
+mod Choosing
+mod BestSteps
+mod MoreRows

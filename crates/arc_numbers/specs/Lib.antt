@@ -1,0 +1,4 @@
+pub mod Numbering
+pub mod Rows
+pub mod BestRoad
+pub mod RouteArcs

@@ -2,6 +2,7 @@
 import tempfile
 import unittest
 from array import array
+from copy import copy
 from pathlib import Path
 from unittest import mock
 
@@ -118,6 +119,48 @@ class Answers(unittest.TestCase):
             self.assertRaises(diffuse.Closed, call)
         graph.close()
         self.assertEqual(listed(tree), list(BEST["shortest", None]))
+
+
+PARALLEL = [(1, 2, 5), (1, 2, 3), (2, 3, 4), (1, 2, 3), (2, 3, 4), (3, 3, 0), (2, 3, 2), (1, 3, 9), (4, 1, 3)]
+"""Parallel arcs of different and of equal weight, a loop, and a vertex that only its own arc joins."""
+
+
+class Numbers(unittest.TestCase):
+    def test_the_arcs_of_routes(self):
+        graph = Graph(4, PARALLEL)
+        self.assertIsNone(graph.route(1, 3).arcs)
+        graph.number()
+        for graph in (graph, copy(graph)):
+            for _ in range(2):  # by searches, and then by factors
+                for algebra, limit, ends, value, vertices, arcs in (
+                        ("shortest", None, (1, 3), 5, [1, 2, 3], [1, 6]), ("widest", None, (1, 3), 9, [1, 3], [7]),
+                        ("widest", None, (4, 2), 3, [4, 1, 2], [8, 0]), ("reach", None, (1, 2), 0, [1, 2], [0]),
+                        ("hops", None, (2, 3), 1, [2, 3], [2]), ("reliable", None, (1, 2), 5000000, [1, 2], [0]),
+                        ("within", 3, (1, 2), 3, [1, 2], [1]), ("shortest", None, (3, 3), 0, [3], [])):
+                    self.assertEqual(graph.route(*ends, algebra, limit), Route(value, len(arcs), vertices, arcs))
+                self.assertRaises(diffuse.NoRoute, graph.route, 1, 4)
+                graph.factor()
+
+    def test_another_order_of_arcs(self):
+        text = "p sp 4 9\n" + "".join("a {} {} {}\n".format(*arc) for arc in PARALLEL)
+        graph = Graph.from_gr(text.encode())
+        self.assertRaisesRegex(diffuse.InputError, "does not keep its arcs", graph.number)
+        graph.number(sorted(PARALLEL, key=lambda arc: -arc[0]))
+        self.assertEqual(graph.route(1, 3).arcs, [6, 4])
+        for other in (PARALLEL[1::-1] + PARALLEL[2:], PARALLEL[1:], PARALLEL[:-1] + [(4, 1, 4)], []):
+            self.assertRaises(diffuse.OtherArcs, graph.number, other)
+        self.assertRaises(diffuse.NoVertex, graph.number, [(1, 5, 1)])
+        self.assertEqual(graph.route(1, 3).arcs, [6, 4])
+
+    def test_other_weights_are_not_numbered(self):
+        graph = Graph(4, PARALLEL)
+        graph.number()
+        second = graph.with_weights([1] * 9)
+        self.assertIsNone(second.route(1, 2).arcs)
+        second.number()
+        self.assertEqual((second.route(1, 2).arcs, graph.route(1, 2).arcs), ([0], [1]))
+        graph.close()
+        self.assertRaises(diffuse.Closed, graph.number)
 
 
 class Checks(unittest.TestCase):
@@ -307,7 +350,7 @@ class Refusals(unittest.TestCase):
     def test_classes_by_status(self):
         from diffuse.errors import BY_STATUS
 
-        self.assertEqual(sorted(BY_STATUS), [*range(1, 20), 43, 44, 45])
+        self.assertEqual(sorted(BY_STATUS), [*range(1, 20), *range(43, 48)])
         for status, kind in BY_STATUS.items():
             self.assertTrue(issubclass(kind, diffuse.DiffuseError) and 400 <= kind.http < 600, status)
         error = diffuse.NoRoute("no route leads from 1 to 5")

@@ -8,8 +8,8 @@ from ._library import version
 from .algebras import ALGEBRAS, UNREACHED, Algebra
 from .answers import Near, Route, Tree
 from .errors import (
-    AlreadyOpen, BadProblemLine, BadShape, Closed, DiffuseError, InputError, NoAlgebra, NoFactors, NoLink, NoProblemLine, NoRoom,
-    NoRoute, NotANumber, NotFactored, NoVertex, OutOfMemory, OutOfRange, Reason, SecondProblemLine, Stopped, TextFault, TooDense, TooFewArcs,
+    AlreadyOpen, BadProblemLine, BadShape, Closed, DiffuseError, InputError, NoAlgebra, NoFactors, NoLink, NoNumbers, NoProblemLine,
+    NoRoom, NoRoute, NotANumber, NotFactored, NoVertex, OtherArcs, OutOfMemory, OutOfRange, Reason, SecondProblemLine, Stopped, TextFault, TooDense, TooFewArcs,
     TooHeavy, TooManyArcs, UnknownLine, WrongFields, WrongTree,
 )
 from .between import BetweenPoints
@@ -28,8 +28,8 @@ __version__ = "1.1.0"
 
 __all__ = [
     "Algebra", "ALGEBRAS", "AlreadyOpen", "BadProblemLine", "BadShape", "BetweenPoints", "Closed", "DiffuseError", "DRIVING", "Graph",
-    "InputError", "Isochrone", "NamedRoute", "NamedTable", "NamedTree", "Near", "Network", "NoAlgebra", "NoFactors", "NoLink", "NoProblemLine",
-    "NoRoom", "NoRoute", "NotANumber", "NotFactored", "NoVertex", "OutOfMemory", "OutOfRange", "Places", "Reason", "Route",
+    "InputError", "Isochrone", "NamedRoute", "NamedTable", "NamedTree", "Near", "Network", "NoAlgebra", "NoFactors", "NoLink", "NoNumbers", "NoProblemLine",
+    "NoRoom", "NoRoute", "NotANumber", "NotFactored", "NoVertex", "OtherArcs", "OutOfMemory", "OutOfRange", "Places", "Reason", "Route",
     "SecondProblemLine", "Snap", "Step", "Stop", "Stopped", "TextFault", "TooDense", "TooFewArcs", "TooHeavy", "TooManyArcs", "Tree", "UnknownLine",
     "UNREACHED", "version", "WALKING", "WrongFields", "WrongTree",
 ]

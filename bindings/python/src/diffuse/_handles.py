@@ -7,7 +7,7 @@ from typing import Any, Iterable, Iterator, Optional
 
 from ._library import DONE, Handle, library
 from ._locks import ForkLock
-from .columns import address, reweighed
+from .columns import address, arc_count, reweighed
 from .errors import Closed, InputError, refusal
 from .stops import Stop, take_from
 
@@ -16,7 +16,7 @@ class Handles:
     """A first handle, of which others are made by diffuse_graph_share as threads need them.
 
     Only one call at a time may use a handle. A lock guards the list of those that are free, and the first handle. When the
-    graph is factored another handle becomes the first, with a new generation, and those of the one before are closed as their
+    graph is factored or its arcs are numbered another handle becomes the first, with a new generation, and those of the one before are closed as their
     calls end. A forked child has the first handle and the free ones; those that calls of other threads used are lost to it.
     `given` are the arcs in the order in which they were given, if that is known.
     """
@@ -77,7 +77,7 @@ class Handles:
         status = library().diffuse_graph_share(byref(self._first), byref(handle))
         if status != DONE:
             raise refusal(status)
-        handle.generation = self._generation
+        handle.generation, handle.is_numbered = self._generation, self._first.is_numbered
         return handle
 
     def _give_back(self, handle: Handle) -> None:
@@ -96,20 +96,40 @@ class Handles:
                 handle = self._unused()
             status: int = library().diffuse_graph_factor(byref(handle), algebra)
             if status == DONE:
-                self._begin_with(handle, algebra)
+                self._begin_with(handle, {algebra})
             else:
                 self._give_back(handle)
         return status
 
-    def _begin_with(self, handle: Handle, algebra: int) -> None:
-        """Makes a handle with new factors the first, and closes those that calls do not use."""
+    def number(self, arcs: Any) -> int:
+        """The status of numbering the arcs of the graph, by their places among these or among those that were given. Other calls go
+        on meanwhile. Raises InputError if the arcs are not known, Closed, or OutOfMemory."""
+        with self._factoring:
+            with self._lock:
+                handle, arcs = self._unused(), self._given if arcs is None else arcs
+            done = False
+            try:
+                if arcs is None:
+                    raise InputError("a graph that was read from a text does not keep its arcs: give them, in the order of the text")
+                status: int = library().diffuse_graph_number(byref(handle), address(arcs), arc_count(arcs))
+                done = status == DONE
+            finally:
+                if not done:
+                    self._give_back(handle)
+            if done:
+                handle.is_numbered = True
+                self._begin_with(handle)
+        return status
+
+    def _begin_with(self, handle: Handle, factored: Iterable[int] = ()) -> None:
+        """Makes a handle with new factors or numbers the first, and closes those that calls do not use."""
         with self._lock:
             old = [handle]
             if not self._closed:
                 old = [self._first, *self._free]
                 self._first, self._free = handle, []
                 self._generation = handle.generation = self._generation + 1
-                self._factored.add(algebra)
+                self._factored.update(factored)
         for handle in old:
             library().diffuse_graph_close(byref(handle))
 

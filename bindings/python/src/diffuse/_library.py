@@ -19,13 +19,22 @@ class Handle(ctypes.Structure):
     _fields_ = [("at", c_void_p), ("is_open", c_bool)]
     generation: int = 0
     """How often the graph was factored before the handle was made."""
+    is_numbered: bool = False
+    """Whether the arcs of its graph were numbered before the handle was made."""
     _places: Optional["ctypes.Array[c_uint32]"] = None
+    _steps: Optional["ctypes.Array[c_uint32]"] = None
 
     def places(self, vertices: int) -> "ctypes.Array[c_uint32]":
         """Room for the longest route of its graph: made once, and used by one call after the other, as the handle is."""
         if self._places is None:
             self._places = (c_uint32 * vertices)()
         return self._places
+
+    def steps(self, vertices: int) -> "ctypes.Array[c_uint32]":
+        """Room for the arcs of the longest route, in the same way."""
+        if self._steps is None:
+            self._steps = (c_uint32 * vertices)()
+        return self._steps
 
 
 class StopHandle(ctypes.Structure):
@@ -46,6 +55,8 @@ _CALLS = {
     "diffuse_graph_vertices": (c_uint32, [_HANDLE]),
     "diffuse_graph_arcs": (c_size_t, [_HANDLE]),
     "diffuse_graph_route": (c_int32, [*_QUESTION, c_uint32, c_uint32, _CODE, _NUMBER, *_LIST]),
+    "diffuse_graph_number": (c_int32, [_HANDLE, *_LIST]),
+    "diffuse_graph_route_arcs": (c_int32, [*_QUESTION, c_uint32, c_uint32, _CODE, _NUMBER, *_LIST, *_LIST]),
     "diffuse_graph_tree": (c_int32, [*_QUESTION, *_LIST, *_LIST, *_LIST, *_LIST]),
     "diffuse_graph_check": (c_int32, [*_QUESTION, *_LIST, *_LIST, *_LIST, *_LIST, _NUMBER, _NUMBER]),
     "diffuse_graph_table": (c_int32, [*_QUESTION, *_LIST, *_LIST, *_LIST]),

@@ -19,12 +19,15 @@ Line = tuple[int, int, int]
 class Route:
     """A best route: its value, its number of arcs, and its vertices from the source on.
 
-    Of the routes of best value it has least hops, and each vertex is the least possible parent of the next.
+    Of the routes of best value it has least hops, and each vertex is the least possible parent of the next. If the graph was
+    numbered, `arcs` are the places of its arcs in the list of arcs, from 0. Of parallel arcs a route takes the one that extends
+    its value best, and of those that do the first; so its value is that of these arcs.
     """
 
     value: int
     hops: int
     vertices: list[int]
+    arcs: Optional[list[int]] = None
 
 
 @dataclass(frozen=True, eq=False)

@@ -189,6 +189,11 @@ def arcs_of(arcs: Any, vertices: int) -> Any:
     return arcs_of_columns(zip(*rows) if rows else ((), (), ()), arguments, vertices)
 
 
+def arc_count(arcs: Any) -> int:
+    """How many arcs the memory of arcs has."""
+    return len(arcs) if getattr(arcs, "ndim", 1) == 2 else len(arcs) // 3
+
+
 def reweighed(arcs: Any, weights: Any) -> Any:
     """The memory of the same arcs with other weights."""
     if np is not None:

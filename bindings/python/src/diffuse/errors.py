@@ -229,10 +229,22 @@ class Stopped(DiffuseError):
     status = 45
 
 
+class OtherArcs(InputError):
+    """The arcs that were to be numbered are not those of the graph."""
+
+    status = 46
+
+
+class NoNumbers(DiffuseError):
+    """The arcs of the graph were not numbered. The package never asks for this."""
+
+    status = 47
+
+
 _KINDS: tuple[type[DiffuseError], ...] = (
     NoRoute, NoRoom, OutOfMemory, Closed, AlreadyOpen, WrongTree, TooDense, TooHeavy, NoFactors, NoProblemLine, SecondProblemLine,
     BadProblemLine, UnknownLine, WrongFields, NotANumber, OutOfRange, NoVertex, TooManyArcs, TooFewArcs, NoAlgebra,
-    NoLink, Stopped,
+    NoLink, Stopped, OtherArcs, NoNumbers,
 )
 BY_STATUS = {kind.status: kind for kind in _KINDS}
 

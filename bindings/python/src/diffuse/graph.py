@@ -7,7 +7,7 @@ from typing import Any, Iterable, Optional, Union
 from ._library import DONE, NO_ROOM, NO_ROUTE, WRONG, library
 from .algebras import Algebra, AnyAlgebra, algebra_of, question_of
 from .answers import Near, Route, Tree
-from .columns import MOST_64, WEIGHTS, Argument, Span, address, first_of, index_of, is_truth, numbers, room, rows_of, vertex_number
+from .columns import MOST_64, WEIGHTS, Argument, Span, address, arcs_of, first_of, index_of, is_truth, numbers, room, rows_of, vertex_number
 from .errors import NoRoom, NoRoute, NoVertex, WrongTree, refusal
 from .opening import Opened
 from .stops import Stop
@@ -33,7 +33,7 @@ class Graph(Opened):
 
     def route(self, source: int, target: int, algebra: AnyAlgebra = Algebra.SHORTEST, limit: Optional[int] = None,
               stop: Optional[Stop] = None) -> Route:
-        """The best route from a source to a target.
+        """The best route from a source to a target, with its arcs if the graph was numbered (see `number`).
 
         Raises NoRoute if no walk has a value, NoVertex, NoAlgebra, OutOfMemory, Closed, or Stopped if the stop is set before.
         """
@@ -42,14 +42,19 @@ class Graph(Opened):
         code, hops = c_uint64(), c_uint32()
         with self._handles.borrowed(stop) as handle:
             places = handle.places(self._vertices)
-            status = library().diffuse_graph_route(
-                byref(handle), number, bound, *ends, byref(code), byref(hops), addressof(places), self._vertices)
+            steps = handle.steps(self._vertices) if handle.is_numbered else None
+            question = (byref(handle), number, bound, *ends, byref(code), byref(hops), addressof(places), self._vertices)
+            if steps is None:
+                status = library().diffuse_graph_route(*question)
+            else:
+                status = library().diffuse_graph_route_arcs(*question, addressof(steps), self._vertices)
             vertices = places[:hops.value + 1] if status == DONE else []
+            arcs = None if steps is None else steps[:hops.value]
         if status == NO_ROUTE:
             raise NoRoute(f"no route leads from {ends[0]} to {ends[1]}")
         if status != DONE:
             raise refusal(status)
-        return Route(code.value, hops.value, vertices)
+        return Route(code.value, hops.value, vertices, arcs)
 
     def tree(self, sources: Union[int, Iterable[int]], algebra: AnyAlgebra = Algebra.SHORTEST,
              limit: Optional[int] = None, stop: Optional[Stop] = None) -> Tree:
@@ -138,6 +143,21 @@ class Graph(Opened):
         Raises NoFactors, TooDense or TooHeavy, after which the graph is searched as before; NoAlgebra, OutOfMemory or Closed.
         """
         status = self._handles.factor(algebra_of(algebra).factored_as)
+        if status != DONE:
+            raise refusal(status)
+
+    def number(self, arcs: Any = None) -> None:
+        """Numbers the arcs by their places in the list from which the graph was made, so that `route(..).arcs` tells parallel ones
+        apart.
+
+        Another list of the same arcs may be given instead, if those of one tail are in the same order; it is needed for a graph
+        that was read from a text, which does not keep its arcs. The numbers take 4 bytes an arc and 4 a vertex. Copies of the
+        graph have them, and a graph that `with_weights` makes does not. Calls of other threads go on meanwhile.
+
+        Raises OtherArcs if they are not the arcs of the graph, InputError, NotANumber, OutOfRange, NoVertex, BadShape, OutOfMemory
+        or Closed.
+        """
+        status = self._handles.number(None if arcs is None else arcs_of(arcs, self._vertices))
         if status != DONE:
             raise refusal(status)
 

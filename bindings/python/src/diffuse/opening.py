@@ -9,7 +9,7 @@ from typing import Any, NoReturn, Optional, TypeVar, Union
 from ._handles import Handles
 from ._library import DONE, Handle, library
 from .columns import (
-    MOST_ARCS, MOST_VERTICES, WEIGHTS, Argument, Column, Span, address, arcs_of, arcs_of_columns, greatest, numbers, whole_number,
+    MOST_ARCS, MOST_VERTICES, WEIGHTS, Argument, Column, Span, address, arc_count, arcs_of, arcs_of_columns, greatest, numbers, whole_number,
 )
 from .errors import BadShape, NoVertex, OutOfRange, refusal, shown
 from .gr_text import text_refusal
@@ -64,7 +64,7 @@ class Opened:
         return graph
 
     def _open(self, vertices: int, arcs: Any) -> None:
-        handle, count = Handle(), _arc_count(arcs)
+        handle, count = Handle(), arc_count(arcs)
         if count > MOST_ARCS:
             raise OutOfRange(f"{count} arcs are more than 2^27")
         status = library().diffuse_graph_open(vertices, address(arcs), count, byref(handle))
@@ -127,7 +127,3 @@ class Opened:
 
 def _vertex_count(vertices: object) -> int:
     return whole_number(vertices, "vertices", 0, MOST_VERTICES)
-
-
-def _arc_count(arcs: Any) -> int:
-    return len(arcs) if getattr(arcs, "ndim", 1) == 2 else len(arcs) // 3

@@ -54,6 +54,20 @@ unsafe extern "C" {
         room: *mut u32,
         n_room: usize,
     ) -> i32;
+    pub fn diffuse_graph_number(graph: *mut Handle, arcs: *const Arc, n_arcs: usize) -> i32;
+    pub fn diffuse_graph_route_arcs(
+        graph: *mut Handle,
+        algebra: u32,
+        limit: u64,
+        source: u32,
+        target: u32,
+        code: *mut u64,
+        hops: *mut u32,
+        room: *mut u32,
+        n_room: usize,
+        arcs: *mut u32,
+        n_arcs: usize,
+    ) -> i32;
     pub fn diffuse_graph_tree(
         graph: *mut Handle,
         algebra: u32,

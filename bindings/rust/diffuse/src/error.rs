@@ -24,6 +24,10 @@ pub enum Error {
     NoLink,
     /// The stop of the graph was set before there was an answer.
     Stopped,
+    /// The arcs that were to be numbered are not those of the graph.
+    OtherArcs,
+    /// The arcs of the graph were not numbered.
+    NoNumbers,
     /// A text is longer than 2^32 bytes.
     TextTooLong,
     /// The first fault of a text, and its line, counted from 1.
@@ -83,6 +87,8 @@ pub(crate) fn done(status: i32) -> Result<(), Error> {
         43 => Error::LimitTooGreat,
         44 => Error::NoLink,
         45 => Error::Stopped,
+        46 => Error::OtherArcs,
+        47 => Error::NoNumbers,
         other => Error::Other(other),
     })
 }
@@ -109,6 +115,8 @@ impl fmt::Display for Error {
             Error::NoFactors => out.write_str("an algebra without factors"),
             Error::NoLink => out.write_str("an arc between vertices between which the factors have no link"),
             Error::Stopped => out.write_str("stopped before there was an answer"),
+            Error::OtherArcs => out.write_str("arcs that are not those of the graph"),
+            Error::NoNumbers => out.write_str("a graph whose arcs were not numbered"),
             Error::TextTooLong => out.write_str("a text of more than 2^32 bytes"),
             Error::Text { fault, line } => write!(out, "fault {} in line {line}", *fault as i32),
             Error::Other(status) => write!(out, "status {status}"),

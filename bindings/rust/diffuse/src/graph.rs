@@ -1,6 +1,6 @@
 use crate::error::{self, Error};
 use crate::tree::{Label, Tree, Wrong};
-use crate::{Algebra, Arc, Route, Stop, Table};
+use crate::{Algebra, Arc, NumberedRoute, Route, Stop, Table};
 use diffuse_sys::*;
 use std::cell::UnsafeCell;
 use std::fmt;
@@ -43,7 +43,7 @@ impl Graph {
         Ok(graph)
     }
 
-    /// The same graph in memory, with the factors that it has, for another thread.
+    /// The same graph in memory, with the factors and the numbers of arcs that it has, for another thread.
     pub fn share(&self) -> Result<Graph, Error> {
         let second = Graph::closed();
         // SAFETY: a `Graph` is not `Sync`, so no other call uses its handle during this one; this holds for all calls below.
@@ -114,6 +114,49 @@ impl Graph {
         vertices.truncate(hops as usize + 1);
         vertices.shrink_to_fit();
         Ok(Some(Route { code, vertices }))
+    }
+
+    /// Numbers the arcs by their places in a list, for [`route_arcs`](Graph::route_arcs): the arcs that were given to
+    /// [`open`](Graph::open), or the same in another order, if those of one tail are in the order of [`arcs_from`](Graph::arcs_from).
+    ///
+    /// Refused with [`Error::OtherArcs`] if they are other arcs. A graph that [`reweigh`](Graph::reweigh) makes is not numbered.
+    pub fn number(&self, arcs: &[Arc]) -> Result<(), Error> {
+        // SAFETY: as in `share`; the slice is valid for its length.
+        error::done(unsafe { diffuse_graph_number(self.handle.get(), arcs.as_ptr(), arcs.len()) })
+    }
+
+    /// A best route from a source to a target and the arcs that it takes; none if no walk between them has a value.
+    ///
+    /// Refused with [`Error::NoNumbers`] if the arcs were not numbered.
+    pub fn route_arcs(&self, algebra: Algebra, source: u32, target: u32) -> Result<Option<NumberedRoute>, Error> {
+        let (number, limit) = algebra.number_and_limit();
+        let n = self.vertices() as usize;
+        let (mut code, mut hops, mut vertices, mut arcs) = (0, 0, vec![0; n], vec![0; n]);
+        // SAFETY: as in `share`; each slice is valid for its length, which suffices for every route.
+        let status = unsafe {
+            diffuse_graph_route_arcs(
+                self.handle.get(),
+                number,
+                limit,
+                source,
+                target,
+                &mut code,
+                &mut hops,
+                vertices.as_mut_ptr(),
+                vertices.len(),
+                arcs.as_mut_ptr(),
+                arcs.len(),
+            )
+        };
+        if status == NO_ROUTE {
+            return Ok(None);
+        }
+        error::done(status)?;
+        vertices.truncate(hops as usize + 1);
+        arcs.truncate(hops as usize);
+        vertices.shrink_to_fit();
+        arcs.shrink_to_fit();
+        Ok(Some(NumberedRoute { code, vertices, arcs }))
     }
 
     /// For each vertex what is best from the nearest of the sources.

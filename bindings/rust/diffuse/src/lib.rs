@@ -33,7 +33,7 @@ pub use algebra::Algebra;
 pub use diffuse_sys::Arc;
 pub use error::{Error, TextFault};
 pub use graph::Graph;
-pub use route::Route;
+pub use route::{NumberedRoute, Route};
 pub use stop::Stop;
 pub use table::Table;
 pub use tree::{Label, Reason, Tree, Wrong};

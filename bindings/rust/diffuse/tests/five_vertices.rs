@@ -1,5 +1,5 @@
 //! The five vertices of the README, all worked out by hand, and each refusal.
-use diffuse::{Algebra, Arc, Error, Graph, Label, Reason, Route, Stop, TextFault, Tree, Wrong, version};
+use diffuse::{Algebra, Arc, Error, Graph, Label, NumberedRoute, Reason, Route, Stop, TextFault, Tree, Wrong, version};
 use std::thread;
 
 const TEXT: &[u8] = b"p sp 5 7\na 1 2 4\na 1 3 1\na 3 2 2\na 2 4 5\na 3 4 8\na 4 4 0\na 5 1 3\n";
@@ -131,6 +131,60 @@ fn arcs_are_read_back() {
     let star: Vec<Arc> = (1..=20).map(|v| arc(1, v, v)).collect();
     let graph = Graph::open(21, &star).unwrap();
     assert_eq!((graph.arcs_from(1), graph.arcs_from(21)), (Ok(star), Ok(vec![])));
+}
+
+/// Parallel arcs of different and of equal weight, a loop, and a vertex that only its own arc joins.
+fn parallel() -> Vec<Arc> {
+    [(1, 2, 5), (1, 2, 3), (2, 3, 4), (1, 2, 3), (2, 3, 4), (3, 3, 0), (2, 3, 2), (1, 3, 9), (4, 1, 3)]
+        .map(|(t, h, w)| arc(t, h, w))
+        .into()
+}
+
+#[test]
+fn the_arcs_of_a_route() {
+    let graph = Graph::open(4, &parallel()).unwrap();
+    assert_eq!(graph.route_arcs(Algebra::Shortest, 1, 3), Err(Error::NoNumbers));
+    graph.number(&parallel()).unwrap();
+    for graph in [&graph, &graph.share().unwrap()] {
+        for _ in 0..2 {
+            for (algebra, source, target, code, vertices, arcs) in [
+                (Algebra::Shortest, 1, 3, 5, &[1, 2, 3][..], &[1, 6][..]),
+                (Algebra::Widest, 1, 3, 9, &[1, 3], &[7]),
+                (Algebra::Widest, 4, 2, 3, &[4, 1, 2], &[8, 0]),
+                (Algebra::Reach, 1, 2, 0, &[1, 2], &[0]),
+                (Algebra::Hops, 2, 3, 1, &[2, 3], &[2]),
+                (Algebra::Reliable, 1, 2, 5_000_000, &[1, 2], &[0]),
+                (Algebra::Within(3), 1, 2, 3, &[1, 2], &[1]),
+                (Algebra::Shortest, 3, 3, 0, &[3], &[]),
+            ] {
+                let wanted = NumberedRoute { code, vertices: vertices.to_vec(), arcs: arcs.to_vec() };
+                assert_eq!(graph.route_arcs(algebra, source, target), Ok(Some(wanted)), "{algebra:?}");
+            }
+            assert_eq!(graph.route_arcs(Algebra::Within(4), 1, 3), Ok(None));
+            assert_eq!(graph.route_arcs(Algebra::Shortest, 1, 5), Err(Error::NoVertex));
+            graph.factor(Algebra::Shortest).unwrap();
+        }
+    }
+    assert_eq!(graph.reweigh(&parallel()).unwrap().route_arcs(Algebra::Shortest, 1, 3), Err(Error::NoNumbers));
+}
+
+#[test]
+fn arcs_are_numbered_in_another_order() {
+    let (graph, mut arcs) = (Graph::open(4, &parallel()).unwrap(), parallel());
+    arcs.sort_by_key(|arc| 4 - arc.tail);
+    graph.number(&arcs).unwrap();
+    let numbers = |graph: &Graph| graph.route_arcs(Algebra::Shortest, 1, 3).unwrap().unwrap().arcs;
+    assert_eq!(numbers(&graph), [6, 4]);
+    let mut swapped = parallel();
+    swapped.swap(0, 1);
+    let mut heavier = parallel();
+    heavier[8].weight = 4;
+    for other in [swapped, heavier, parallel()[1..].to_vec(), vec![arc(1, 5, 1)], vec![]] {
+        assert_eq!(graph.number(&other), Err(Error::OtherArcs));
+        assert_eq!(numbers(&graph), [6, 4]);
+    }
+    assert_eq!(Error::OtherArcs.to_string(), "arcs that are not those of the graph");
+    assert_eq!(Error::NoNumbers.to_string(), "a graph whose arcs were not numbered");
 }
 
 #[test]

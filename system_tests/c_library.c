@@ -32,17 +32,17 @@ struct places {
     struct diffuse_graph graph, second;
     uint64_t line, code, codes[5], table[4];
     size_t count;
-    uint32_t length, route[5], hops[5], parents[5], vertex, reason;
+    uint32_t length, route[5], steps[5], hops[5], parents[5], vertex, reason;
 };
 
 static const uint32_t SOURCE = 1, SOURCES[] = {1, 5}, TARGETS[] = {4, 1};
 
 /* A ROUTE_AFTER or NEAR_AFTER is asked of a handle that keeps the searcher of another algebra, and a ROUTE_ON of one that keeps a searcher
    by its own, from another source. From BY_FACTORS on the calls are made after the graph was factored. */
-enum call { OPEN, READ, SHARE, ROUTE, ROUTE_AFTER, ROUTE_ON, TREE, NEAR, NEAR_AFTER, CHECK, TABLE, FACTOR, BY_FACTORS,
+enum call { OPEN, READ, SHARE, ROUTE, ROUTE_AFTER, ROUTE_ON, TREE, NEAR, NEAR_AFTER, CHECK, TABLE, NUMBER, SHARE_NUMBERS, ROUTE_ARCS, FACTOR, BY_FACTORS,
             SHARE_FACTORS = BY_FACTORS, ROUTE_BY, TREE_BY, TABLE_BY, REWEIGH, CALLS };
 static const char *const NAMES[] = {"open", "read", "share", "route", "route after another algebra", "route from another source",
-                                    "tree", "near", "near after another algebra", "check", "table", "factor", "share of factors", "route by factors", "tree by factors",
+                                    "tree", "near", "near after another algebra", "check", "table", "number", "share of numbers", "route of arcs", "factor", "share of factors", "route by factors", "tree by factors",
                                     "table by factors", "reweigh"};
 
 /* A route before that of a call, to places of its own. */
@@ -57,11 +57,12 @@ static int32_t near_by(enum diffuse_algebra algebra, struct places *p) {
     return diffuse_graph_near(&p->graph, algebra, 0, &SOURCE, 1, p->route, 5, p->codes, 5, p->hops, 5, p->parents, 5, &p->count);
 }
 
-static int is_route(enum call call) { return call == ROUTE || call == ROUTE_AFTER || call == ROUTE_ON || call == ROUTE_BY; }
+static int is_route(enum call call) { return call == ROUTE || call == ROUTE_AFTER || call == ROUTE_ON || call == ROUTE_ARCS || call == ROUTE_BY; }
 
 /* Whether a route that was asked is that from 1 to 4, and what is near its vertices. */
 static int is_right(enum call call, const struct places *p) {
-    static const uint32_t WANTED[] = {1, 3, 2, 4};
+    static const uint32_t WANTED[] = {1, 3, 2, 4}, STEPS[] = {1, 2, 3};
+    if (call == ROUTE_ARCS && memcmp(p->steps, STEPS, sizeof STEPS) != 0) return 0;
     if (call == NEAR || call == NEAR_AFTER) return p->count == 4 && p->codes[3] == 8 && memcmp(p->route, WANTED, sizeof WANTED) == 0;
     return !is_route(call) || (p->code == 8 && p->length == 3 && memcmp(p->route, WANTED, sizeof WANTED) == 0);
 }
@@ -70,13 +71,16 @@ static int32_t make(enum call call, struct places *p) {
     switch (call) {
     case OPEN: return diffuse_graph_open(5, ARCS, 7, &p->graph);
     case READ: return diffuse_graph_read((const uint8_t *)TEXT, sizeof TEXT - 1, &p->graph, &p->line);
-    case SHARE: case SHARE_FACTORS: return diffuse_graph_share(&p->graph, &p->second);
+    case SHARE: case SHARE_NUMBERS: case SHARE_FACTORS: return diffuse_graph_share(&p->graph, &p->second);
     case ROUTE: case ROUTE_AFTER: case ROUTE_ON: case ROUTE_BY:
         return diffuse_graph_route(&p->graph, DIFFUSE_ALGEBRA_SHORTEST, 0, 1, 4, &p->code, &p->length, p->route, 5);
     case TREE: case TREE_BY: return diffuse_graph_tree(&p->graph, DIFFUSE_ALGEBRA_SHORTEST, 0, &SOURCE, 1, p->codes, 5, p->hops, 5,
                                          p->parents, 5);
     case NEAR: case NEAR_AFTER: return near_by(DIFFUSE_ALGEBRA_SHORTEST, p);
     case TABLE: case TABLE_BY: return diffuse_graph_table(&p->graph, DIFFUSE_ALGEBRA_SHORTEST, 0, SOURCES, 2, TARGETS, 2, p->table, 4);
+    case NUMBER: return diffuse_graph_number(&p->graph, ARCS, 7);
+    case ROUTE_ARCS:
+        return diffuse_graph_route_arcs(&p->graph, DIFFUSE_ALGEBRA_SHORTEST, 0, 1, 4, &p->code, &p->length, p->route, 5, p->steps, 5);
     case FACTOR: return diffuse_graph_factor(&p->graph, DIFFUSE_ALGEBRA_SHORTEST);
     case REWEIGH: return diffuse_graph_reweigh(&p->graph, ARCS, 6, &p->second);
     default: return diffuse_graph_check(&p->graph, DIFFUSE_ALGEBRA_SHORTEST, 0, &SOURCE, 1, p->codes, 5, p->hops, 5,
@@ -92,6 +96,7 @@ static int begin(enum call call, struct places *p) {
     if (call == ROUTE_AFTER && route_before(DIFFUSE_ALGEBRA_WIDEST, 1, p) != DIFFUSE_STATUS_DONE) return 0;
     if (call == ROUTE_ON && route_before(DIFFUSE_ALGEBRA_SHORTEST, 5, p) != DIFFUSE_STATUS_DONE) return 0;
     if (call == NEAR_AFTER && near_by(DIFFUSE_ALGEBRA_WIDEST, p) != DIFFUSE_STATUS_DONE) return 0;
+    if ((call == SHARE_NUMBERS || call == ROUTE_ARCS) && make(NUMBER, p) != DIFFUSE_STATUS_DONE) return 0;
     if (call >= BY_FACTORS && make(FACTOR, p) != DIFFUSE_STATUS_DONE) return 0;
     return call != CHECK || make(TREE, p) == DIFFUSE_STATUS_DONE;
 }
@@ -144,7 +149,7 @@ static void *ask(void *at) {
     struct places p = {.graph = *(struct diffuse_graph *)at, .second = DIFFUSE_CLOSED};
     long right = 0;
     for (int i = 0; i < 1000; i++) {
-        int done = make(ROUTE, &p) == DIFFUSE_STATUS_DONE && make(NEAR, &p) == DIFFUSE_STATUS_DONE && make(TREE, &p) == DIFFUSE_STATUS_DONE
+        int done = make(ROUTE, &p) == DIFFUSE_STATUS_DONE && make(ROUTE_ARCS, &p) == DIFFUSE_STATUS_DONE && is_right(ROUTE_ARCS, &p) && make(NEAR, &p) == DIFFUSE_STATUS_DONE && make(TREE, &p) == DIFFUSE_STATUS_DONE
             && make(CHECK, &p) == DIFFUSE_STATUS_DONE && make(TABLE, &p) == DIFFUSE_STATUS_DONE && (i % 100 || make(REWEIGH, &p) == DIFFUSE_STATUS_DONE);
         diffuse_graph_close(&p.second);
         right += done && p.code == 8 && p.length == 3 && p.codes[1] == 3 && p.parents[3] == 2 && p.table[2] == 11;
@@ -158,7 +163,7 @@ static int threads(void) {
     struct diffuse_graph graph = DIFFUSE_CLOSED, each[4] = {DIFFUSE_CLOSED, DIFFUSE_CLOSED, DIFFUSE_CLOSED, DIFFUSE_CLOSED};
     pthread_t started[4];
     void *right;
-    if (diffuse_graph_open(5, ARCS, 7, &graph) != DIFFUSE_STATUS_DONE) return 1;
+    if (diffuse_graph_open(5, ARCS, 7, &graph) != DIFFUSE_STATUS_DONE || diffuse_graph_number(&graph, ARCS, 7) != DIFFUSE_STATUS_DONE) return 1;
     for (int i = 0; i < 4; i++) {
         if (i == 2 && diffuse_graph_factor(&graph, DIFFUSE_ALGEBRA_SHORTEST) != DIFFUSE_STATUS_DONE) return 1;
         if (diffuse_graph_share(&graph, &each[i]) != DIFFUSE_STATUS_DONE) return 1;
@@ -181,6 +186,7 @@ static int opens(long count) {
         if (i % 2 && make(READ, &p) != DIFFUSE_STATUS_DONE) return 1;
         if (i % 3 == 0 && make(FACTOR, &p) != DIFFUSE_STATUS_DONE) return 1;
         if (i % 3 == 0 && make(REWEIGH, &p) != DIFFUSE_STATUS_DONE) return 1;
+        if (i % 5 == 0 && (make(NUMBER, &p) != DIFFUSE_STATUS_DONE || make(ROUTE_ARCS, &p) != DIFFUSE_STATUS_DONE)) return 1;
         diffuse_graph_close(&p.second);
         if (make(SHARE, &p) != DIFFUSE_STATUS_DONE || route_before(DIFFUSE_ALGEBRA_WIDEST, 1, &p) != DIFFUSE_STATUS_DONE) return 1;
         if (make(ROUTE, &p) != DIFFUSE_STATUS_DONE || !is_right(ROUTE, &p)) return 1;

@@ -395,6 +395,77 @@ static void near_lists(void) {
     IS(0, p.count);
 }
 
+/* Parallel arcs of different and of equal weight, a loop, and a vertex that only its own arc joins. */
+static const struct diffuse_arc PARALLEL[] = {{1, 2, 5}, {1, 2, 3}, {2, 3, 4}, {1, 2, 3}, {2, 3, 4}, {3, 3, 0}, {2, 3, 2}, {1, 3, 9}, {4, 1, 3}};
+static uint32_t numbers[4];
+
+static enum diffuse_status route_arcs(struct diffuse_graph *of, int algebra, uint64_t limit, uint32_t source, uint32_t target, size_t n, size_t m) {
+    return diffuse_graph_route_arcs(of, (enum diffuse_algebra)algebra, limit, source, target, &code, &hops, room, n, numbers, m);
+}
+
+/* The arcs of routes by a handle that is numbered; 7 stands in the places after them, and in all if none is written. */
+static void ask_arcs(struct diffuse_graph *of) {
+    static const struct { int algebra; uint32_t source, target, n, m; int status; uint64_t code; uint32_t room[4], numbers[4]; } ROWS[] = {
+        {DIFFUSE_ALGEBRA_SHORTEST, 1, 3, 4, 4, DIFFUSE_STATUS_DONE, 5, {1, 2, 3, 7}, {1, 6, 7, 7}},
+        {DIFFUSE_ALGEBRA_SHORTEST, 1, 3, 3, 2, DIFFUSE_STATUS_DONE, 5, {1, 2, 3, 7}, {1, 6, 7, 7}},
+        {DIFFUSE_ALGEBRA_SHORTEST, 1, 3, 2, 4, DIFFUSE_STATUS_NO_ROOM, 5, {7, 7, 7, 7}, {7, 7, 7, 7}},
+        {DIFFUSE_ALGEBRA_SHORTEST, 1, 3, 4, 1, DIFFUSE_STATUS_NO_ROOM, 5, {7, 7, 7, 7}, {7, 7, 7, 7}},
+        {DIFFUSE_ALGEBRA_WIDEST, 1, 3, 4, 4, DIFFUSE_STATUS_DONE, 9, {1, 3, 7, 7}, {7, 7, 7, 7}},
+        {DIFFUSE_ALGEBRA_WIDEST, 4, 2, 4, 4, DIFFUSE_STATUS_DONE, 3, {4, 1, 2, 7}, {8, 0, 7, 7}},
+        {DIFFUSE_ALGEBRA_REACH, 1, 2, 4, 4, DIFFUSE_STATUS_DONE, 0, {1, 2, 7, 7}, {0, 7, 7, 7}},
+        {DIFFUSE_ALGEBRA_HOPS, 2, 3, 4, 4, DIFFUSE_STATUS_DONE, 1, {2, 3, 7, 7}, {2, 7, 7, 7}},
+        {DIFFUSE_ALGEBRA_RELIABLE, 1, 2, 4, 4, DIFFUSE_STATUS_DONE, 5000000, {1, 2, 7, 7}, {0, 7, 7, 7}},
+        {DIFFUSE_ALGEBRA_WITHIN, 1, 2, 4, 4, DIFFUSE_STATUS_DONE, 3, {1, 2, 7, 7}, {1, 7, 7, 7}},
+        {DIFFUSE_ALGEBRA_WITHIN, 1, 3, 4, 4, DIFFUSE_STATUS_NO_ROUTE, 77, {7, 7, 7, 7}, {7, 7, 7, 7}},
+        {DIFFUSE_ALGEBRA_SHORTEST, 3, 3, 1, 0, DIFFUSE_STATUS_DONE, 0, {3, 7, 7, 7}, {7, 7, 7, 7}},
+        {DIFFUSE_ALGEBRA_SHORTEST, 1, 4, 4, 4, DIFFUSE_STATUS_NO_ROUTE, 77, {7, 7, 7, 7}, {7, 7, 7, 7}},
+        {DIFFUSE_ALGEBRA_SHORTEST, 1, 5, 4, 4, DIFFUSE_STATUS_NO_VERTEX, 77, {7, 7, 7, 7}, {7, 7, 7, 7}},
+        {6, 1, 3, 4, 4, DIFFUSE_STATUS_NO_ALGEBRA, 77, {7, 7, 7, 7}, {7, 7, 7, 7}}};
+    for (size_t i = 0; i < sizeof ROWS / sizeof *ROWS; i++) {
+        for (int k = 0; k < 4; k++) room[k] = numbers[k] = 7;
+        code = 77;
+        IS(ROWS[i].status, route_arcs(of, ROWS[i].algebra, 4, ROWS[i].source, ROWS[i].target, ROWS[i].n, ROWS[i].m));
+        IS(ROWS[i].code, code);
+        IS(0, memcmp(room, ROWS[i].room, sizeof ROWS[i].room));
+        IS(0, memcmp(numbers, ROWS[i].numbers, sizeof numbers));
+    }
+}
+
+/* A graph that is not numbered, or by other arcs, or by its own in another order; and handles of the same graph and of another. */
+static void arcs_of_routes(void) {
+    static const struct diffuse_arc BY_TAIL[] = {{4, 1, 3}, {3, 3, 0}, {2, 3, 4}, {2, 3, 4}, {2, 3, 2}, {1, 2, 5}, {1, 2, 3}, {1, 2, 3}, {1, 3, 9}};
+    static const struct diffuse_arc SWAPPED[] = {{1, 2, 3}, {1, 2, 5}, {2, 3, 4}, {1, 2, 3}, {2, 3, 4}, {3, 3, 0}, {2, 3, 2}, {1, 3, 9}, {4, 1, 3}};
+    diffuse_graph_close(&graph);
+    IS(DIFFUSE_STATUS_CLOSED, diffuse_graph_number(&graph, PARALLEL, 9));
+    IS(DIFFUSE_STATUS_CLOSED, route_arcs(&graph, DIFFUSE_ALGEBRA_SHORTEST, 0, 1, 3, 4, 4));
+    open(PARALLEL, 4, 9);
+    IS(DIFFUSE_STATUS_NO_NUMBERS, route_arcs(&graph, DIFFUSE_ALGEBRA_SHORTEST, 0, 1, 9, 4, 4));
+    is_short_of_memory = 1;
+    IS(DIFFUSE_STATUS_MEMORY, diffuse_graph_number(&graph, PARALLEL, 9));
+    is_short_of_memory = 0;
+    IS(DIFFUSE_STATUS_NO_NUMBERS, route_arcs(&graph, DIFFUSE_ALGEBRA_SHORTEST, 0, 1, 3, 4, 4));
+    IS(DIFFUSE_STATUS_DONE, diffuse_graph_number(&graph, PARALLEL, 9));
+    for (int i = 0; i < 2; i++) { /* by searches, and then by factors */
+        ask_arcs(&graph);
+        IS(DIFFUSE_STATUS_DONE, diffuse_graph_share(&graph, &second));
+        ask_arcs(&second);
+        diffuse_graph_close(&second);
+        IS(DIFFUSE_STATUS_DONE, diffuse_graph_factor(&graph, DIFFUSE_ALGEBRA_SHORTEST));
+    }
+    IS(DIFFUSE_STATUS_DONE, diffuse_graph_reweigh(&graph, PARALLEL, 9, &second));
+    IS(DIFFUSE_STATUS_NO_NUMBERS, route_arcs(&second, DIFFUSE_ALGEBRA_SHORTEST, 0, 1, 3, 4, 4));
+    diffuse_graph_close(&second);
+    IS(DIFFUSE_STATUS_OTHER_ARCS, diffuse_graph_number(&graph, SWAPPED, 9));
+    IS(DIFFUSE_STATUS_OTHER_ARCS, diffuse_graph_number(&graph, PARALLEL, 8));
+    IS(DIFFUSE_STATUS_OTHER_ARCS, diffuse_graph_number(&graph, BAD, 2));
+    IS(DIFFUSE_STATUS_OTHER_ARCS, diffuse_graph_number(&graph, NULL, 0));
+    ask_arcs(&graph);
+    IS(DIFFUSE_STATUS_DONE, diffuse_graph_number(&graph, BY_TAIL, 9));
+    IS(DIFFUSE_STATUS_DONE, diffuse_graph_route_arcs(&graph, DIFFUSE_ALGEBRA_SHORTEST, 0, 1, 3, NULL, NULL, room, 4, numbers, 4));
+    IS(6, numbers[0]);
+    IS(4, numbers[1]);
+}
+
 /* NULL for each single number that is not wanted: the others are written, and the statuses are the same. */
 static void unwanted_numbers(void) {
     static const uint8_t BAD_TEXT[] = "p sp 2 1\na 1 3 3\n";
@@ -569,7 +640,7 @@ static void texts(void) {
                 IS(0, strcmp(diffuse_reason_text((uint32_t)i), diffuse_reason_text(0)));
         }
     }
-    IS(23, statuses);
+    IS(25, statuses);
     IS(6, reasons);
 }
 
@@ -581,6 +652,7 @@ static void *all(void *nothing) {
     rooms();
     arcs_from();
     near_lists();
+    arcs_of_routes();
     unwanted_numbers();
     empty_lists();
     unwanted_lists();

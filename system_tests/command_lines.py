@@ -16,15 +16,19 @@ FILES = {
     "own": SHORTEST.replace("shortest", "own"), "30": "s 1\n", "31": "p ans ss 1 fastest\n", "32": "p ans ss 1 shortest\nq 1 2\n",
     "33": "p ans ss 1 shortest\ns\n", "34": "p ans ss 1 shortest\ns x\n", "35": "p ans ss 1048577 shortest\n", "36": "p ans ss 1 shortest\n",
     "-": FROM_ONE, "pairs": "p aux sp p2p 2\nq 4 1\nq 1 4\n", "three": "p aux sp p2p 3\nq 1 4\nq 4 1\nq 5 5\n", "lists": "p aux sp ms 2\nm 5 4\nm 1\n", "none.ss": "p aux sp ss 0\n",
+    # Orders of the five vertices: first to last, last to first; and each fault.
+    "upward": "c places\n0\n\n1\n 2\t\r\n03\n4", "downward": "4\n3\n2\n1\n0\n", "o14": "0\n1 2\n", "o15": "0\nx\n", "o16": "0\n1\n5\n",
+    "o18": "4\n3\n2\n1\n0\nc\nx y\n", "o19": "4\n3\n2\n1\n", "o20": "3\n0\n3\n", "one": "0\n", "single": "p sp 1 0\n",
+    "dense": "p sp 300 44850\n" + "".join(f"a {u} {v} 1\n" for v in range(1, 301) for u in range(1, v)),
 }
 
-STDIN_TWICE = "error: only one of the files can be `-`, standard input\n"
+STDIN_TWICE = "error: only one input can be `-`, standard input; a bundle or requests take it\n"
 TWO_SOLVERS = "error: `--plain` and `--factors` cannot be used together\n"
 NO_FILE = "error: `--accounts` needs a file; one that is named `-` is `./-`\n"
 FILE_TAKEN = "error: `--accounts` would overwrite an input, or the output or error output\n"
 UNCOUNTED = "error: `--plain` and `--factors` count nothing: leave out `--accounts`\n"
 NO_SUCH_FAULT = "error: no fault has this number; `diffuse faults` lists them\n"
-GRAPH_TAKEN = "error: the graph cannot be `-`: standard input has the requests\n"
+UNFACTORED = "error: `--order` needs `--factors`\n"
 VERSION = "diffuse 1.1.0 (rattle-kit-13f)\n"
 THIRTEEN = """fault 13: a line that this file does not have
   example: `x 1 2 3` in a graph, `q 1 2` in a .ss file
@@ -104,6 +108,33 @@ COMMANDS = [
     ("bundle --accounts -", "", NO_FILE, 2),
     ("solve g q --accounts a --plain", "", UNCOUNTED, 2),
     ("bundle --plain --accounts a", "", UNCOUNTED, 2),
+    ("solve g q --factors --order upward", SHORTEST, "", 0),
+    ("solve g q --order downward --algebra hops --factors", HOPS, "", 0),
+    ("solve g q --factors --order=upward --algebra within --limit 0", WITHIN, "", 0),
+    ("solve g q --order upward", "", UNFACTORED, 2),
+    ("solve g q --order upward --plain", "", UNFACTORED, 2),
+    ("bundle --order upward --accounts a", "", UNFACTORED, 2),
+    ("serve none --order none --limit 5", "", UNFACTORED, 2),
+    ("solve g q --order upward --plain --factors", "", TWO_SOLVERS, 2),
+    ("solve g q --order upward --factors --accounts a", "", UNCOUNTED, 2),
+    ("solve g q --order upward --factors --algebra widest", "", fault("43"), 2),
+    ("solve g q --factors --order none", "", fault("1 order"), 3),
+    ("solve g none --factors --order none", "", fault("1 questions"), 3),
+    ("solve q g --factors --order none", "", fault("1 order"), 3),
+    ("solve q g --factors --order o14", "", fault("12 graph line 1"), 3),
+    ("solve g g --factors --order o14", "", fault("12 questions line 1"), 3),
+    *((f"solve g q --factors --order {name}", "", fault(f"{place}"), 3) for name, place in (
+        ("o14", "14 order line 2"), ("o15", "15 order line 2"), ("o16", "16 order line 3"), ("o18", "18 order line 7"), ("o19", "19 order line 5"),
+        ("o20", "20 order line 3"), ("one", "19 order line 2"), ("g", "14 order line 1"), ("q", "14 order line 1"))),
+    ("solve - q --factors --order -", "", STDIN_TWICE, 2),
+    ("solve g - --factors --order -", "", STDIN_TWICE, 2),
+    ("bundle --factors --order -", "", STDIN_TWICE, 2),
+    ("bundle --factors --order none", "", fault("1 order"), 3),
+    ("serve g --factors --order -", "", STDIN_TWICE, 2),
+    ("order single", "0\n", "", 0),
+    ("order none", "", fault("1 graph"), 3),
+    ("order q", "", fault("12 graph line 1"), 3),
+    ("order dense", "", fault("44"), 3),
     ("faults 13", THIRTEEN, "", 0),
     ("faults 42 13", FORTY_TWO + THIRTEEN, "", 0),
     ("faults 13 14 4", "", NO_SUCH_FAULT, 2),
@@ -121,7 +152,19 @@ GIVEN = [
     ("serve ./-", FROM_ONE, "", fault("12 graph line 1"), 3),
     ("serve none", FROM_ONE, "", fault("1 graph"), 3),
     ("serve none --limit 5", FROM_ONE, "", fault("43"), 2),
-    ("serve -", FIVE, "", GRAPH_TAKEN, 2),
+    ("serve -", FIVE, "", STDIN_TWICE, 2),
+    ("serve g --factors --order downward", FROM_ONE * 2, SHORTEST * 2, "", 0),
+    ("serve --factors g --order o20", FROM_ONE, "", fault("20 order line 3"), 3),
+    ("serve --factors q --order o20", FROM_ONE, "", fault("12 graph line 1"), 3),
+    ("serve --factors g --order none", FROM_ONE, "", fault("1 order"), 3),
+    ("bundle --factors --order downward", FIVE + FROM_ONE, SHORTEST, "", 0),
+    ("bundle --factors --order o19", FIVE + FROM_ONE, "", fault("19 order line 5"), 3),
+    ("bundle --factors --order o19", FIVE, "", fault("10 bundle line 9"), 3),
+    ("solve g q --factors --order -", "0\n1\n2\n3\n4\n", SHORTEST, "", 0),
+    ("solve g q --factors --order -", "0\n1\n1\n", "", fault("20 order line 3"), 3),
+    ("solve g q --factors --order ./-", FIVE, "", fault("14 order line 1"), 3),
+    ("order -", "p sp 0 0\n", "", "", 0),
+    ("order -", "p sp 2 0\nx\n", "", fault("13 graph line 2"), 3),
     ("solve - q", FIVE, SHORTEST, "", 0),
     ("solve g -", FROM_ONE, SHORTEST, "", 0),
     ("solve g ./-", FIVE, SHORTEST, "", 0),
@@ -171,7 +214,7 @@ ACCOUNTS = [
 # Help and wrong usage, with the status: narrow lines to one output alone.
 HELP = [
     ("--help", 0), ("-h", 0), ("help check", 0), ("solve --help", 0), ("solve -h", 0), ("bundle --help", 0), ("serve --help", 0), ("serve -h", 0),
-    ("help serve", 0), ("check --help", 0), ("faults --help", 0), ("faults", 0), ("faults 4", 2), ("solve - -", 2), ("serve -", 2),
+    ("help serve", 0), ("check --help", 0), ("order --help", 0), ("order", 2), ("order g q", 2), ("order g --factors", 2), ("faults --help", 0), ("faults", 0), ("faults 4", 2), ("solve - -", 2), ("serve -", 2),
     ("solve g q --plain --accounts a", 2), ("", 2), ("solve g", 2), ("bundle --algebra own", 2),
 ]
-FAULTS = [1, 2, 3, *range(10, 20), *range(30, 37), *range(40, 44)]
+FAULTS = [1, 2, 3, *range(10, 21), *range(30, 37), *range(40, 45)]

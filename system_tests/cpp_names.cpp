@@ -60,6 +60,13 @@ int main() {
     stop.set();
     second.stop_by_none();
     expect(second.table({1}, {4}) == codes({8}), "no stop");
+    expect(refused(DIFFUSE_STATUS_NO_NUMBERS, [&] { graph.route_arcs(1, 4); }), "no numbers");
+    graph.number(arcs);
+    auto numbered = graph.route_arcs(1, 4);
+    expect(numbered.found() && numbered.code == 8 && numbered.vertices == numbers({1, 3, 2, 4}) && numbered.arcs == numbers({1, 2, 3}), "route_arcs");
+    expect(!graph.route_arcs(1, 5).found() && graph.route_arcs(4, 4).arcs.empty(), "no arcs");
+    expect(graph.share().route_arcs(1, 4, DIFFUSE_ALGEBRA_HOPS).arcs == numbers({0, 3}), "numbers that are shared");
+    expect(refused(DIFFUSE_STATUS_OTHER_ARCS, [&] { graph.number({{1, 2, 4}}); }), "other arcs");
     diffuse::graph moved = std::move(graph);
     expect(moved.route(1, 4).code == 8, "move");
     graph = std::move(moved);
@@ -77,6 +84,11 @@ int main() {
     std::string text = "p sp 100 99\n";
     for (int v = 1; v < 100; v++) text += "a " + std::to_string(v) + " " + std::to_string(v + 1) + " 1\n";
     expect(diffuse::graph::read(text).route(1, 100).hops() == 99, "a long route");
+    auto long_one = diffuse::graph::read(text);
+    std::vector<diffuse::arc> chain;
+    for (std::uint32_t v = 1; v < 100; v++) chain.push_back({v, v + 1, 1});
+    long_one.number(chain);
+    expect(long_one.route_arcs(1, 100).arcs.back() == 98, "the arcs of a long route");
     std::vector<diffuse::arc> star;
     for (std::uint32_t v = 2; v <= 3000; v++) star.push_back({1, v, v});
     expect(diffuse::graph(3000, star).near({1}).vertices.back() == 3000, "near with many places");

@@ -12,6 +12,21 @@ const WRONG: i32 = 6;
 /// Room for so many vertices is given first; if more are near, it is asked again with room for them.
 const FEW: usize = 1024;
 
+/// Whether a call has written a route, and not found that there is none.
+fn is_route(status: i32) -> Result<bool, Error> {
+    if status == NO_ROUTE {
+        return Ok(false);
+    }
+    error::done(status).map(|()| true)
+}
+
+/// The first places of a list, and no memory for the others.
+fn first(mut list: Vec<u32>, count: u32) -> Vec<u32> {
+    list.truncate(count as usize);
+    list.shrink_to_fit();
+    list
+}
+
 /// A graph in memory. It is freed with the last that shares it.
 pub struct Graph {
     handle: UnsafeCell<Handle>,
@@ -107,13 +122,10 @@ impl Graph {
                 vertices.len(),
             )
         };
-        if status == NO_ROUTE {
+        if !is_route(status)? {
             return Ok(None);
         }
-        error::done(status)?;
-        vertices.truncate(hops as usize + 1);
-        vertices.shrink_to_fit();
-        Ok(Some(Route { code, vertices }))
+        Ok(Some(Route { code, vertices: first(vertices, hops + 1) }))
     }
 
     /// Numbers the arcs by their places in a list, for [`route_arcs`](Graph::route_arcs): the arcs that were given to
@@ -148,15 +160,10 @@ impl Graph {
                 arcs.len(),
             )
         };
-        if status == NO_ROUTE {
+        if !is_route(status)? {
             return Ok(None);
         }
-        error::done(status)?;
-        vertices.truncate(hops as usize + 1);
-        arcs.truncate(hops as usize);
-        vertices.shrink_to_fit();
-        arcs.shrink_to_fit();
-        Ok(Some(NumberedRoute { code, vertices, arcs }))
+        Ok(Some(NumberedRoute { code, vertices: first(vertices, hops + 1), arcs: first(arcs, hops) }))
     }
 
     /// For each vertex what is best from the nearest of the sources.

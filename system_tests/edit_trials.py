@@ -1,0 +1,153 @@
+"""Tries must-fail edits: whether the prover refuses the function that an edit changes, and nothing else.
+
+The edits of a crate are tried in turn, each over what was proved for those before it. Of a crate only the functions that its
+edits change are proved, and those that they call."""
+import os
+import re
+import shutil
+import subprocess
+import tempfile
+from concurrent.futures import ThreadPoolExecutor
+from pathlib import Path
+from threading import Lock
+
+from common import TOP
+
+FUNCTION = re.compile(r"^ *(?:pub(?:\([a-z]+\))? )?(?:const )?(?:unsafe )?(?:extern \"C\" )?fn (\w+)", re.M)
+IMPL = re.compile(r"^impl\b(?:<.*?>)? ?(.*?)(?:\{|$)", re.M)
+TOLD = re.compile(r"^(?:note: )?(?:\./)?(src|specs|proofs)/\S*?:\d+:\d+:")
+NOT_PROVED = re.compile(r"^fn \S+: (?:not proved|no proof)")
+UNREAD = re.compile(r"is not in scope|has no field|is no name|operand is missing|expected the end|cannot continue")
+
+
+def libraries():
+    """The libraries that each crate of crates.txt names, and the crates that are static libraries."""
+    named, static = {}, set()
+    for line in (TOP / "crates.txt").read_text().splitlines():
+        head, colon, names = line.partition("#")[0].partition(":")
+        if colon:
+            crate, *words = head.split()
+            named[crate] = names.split()
+            static |= {crate} if "staticlib" in words else set()
+    return named, static
+
+
+class Prover:
+    """Checks copies of crates over the libraries that `rt ci` built in a tree."""
+
+    def __init__(self, tree):
+        self.kit = Path(subprocess.run(["rt", "doc"], stdout=subprocess.PIPE, text=True, check=True).stdout.strip()).parent
+        self.tree, (self.named, self.static) = tree, libraries()
+
+    def words(self, crate):
+        """The words that check a crate from within its folder."""
+        own = {it: self.tree / "crates" / it / "out/rlib" for it in self.named}
+        words = ["--crate-name", crate, "src/lib.rt", "--extern", f"std={self.kit}/rlibs/std.rlib", "-L", f"dependency={self.kit}/rlibs"]
+        for name in self.named[crate]:
+            words += ["--extern", f"{name}={own.get(name, self.kit / 'rlibs')}/{name}.rlib"]
+        for folder in own.values():
+            words += ["-L", f"dependency={folder}"]
+        words += ["--crate-type", "staticlib"] if crate in self.static else []
+        return [*words, "--antt-project", self.kit / "rattle/logic/antt-project.json", "--logic-built", self.kit / "logic_built"]
+
+    def check(self, crate, folder, kept, functions):
+        """Checks these functions of a copy of a crate, or if there are none, all; gives the status and the lines."""
+        only = [word for it in functions for word in ("--only", it)]
+        ran = subprocess.run([self.kit / "bin/rattle", "check", *self.words(crate), "--incremental", kept, *only], cwd=folder,
+                             stdin=subprocess.DEVNULL, stdout=subprocess.PIPE, stderr=subprocess.STDOUT, errors="replace")
+        return ran.returncode, ran.stdout.splitlines()
+
+
+def function_at(text, at, file):
+    """The function in which a place of a source file is: its path below the crate, or its type and name; or the module."""
+    module = "::".join(Path(file).with_suffix("").parts[1:]).removesuffix("lib")
+    name = [it[1] for it in FUNCTION.finditer(text, 0, at)][-1:]
+    impl = [it for it in IMPL.finditer(text, 0, at) if "\n}" not in text[it.start():at]]
+    of_type = re.findall(r"\w+", impl[-1][1])[:1] if impl else []
+    if not name or impl and (not of_type or " for " in impl[-1][1]):
+        return module
+    return "::".join([*(of_type or filter(None, [module])), *name])
+
+
+def applied(edit, pairs, folder):
+    """Applies the edit to a copy of its crate, and gives the functions that it changes."""
+    functions = []
+    for file, old, new in pairs:
+        path = folder / file.strip()
+        text = path.read_text()
+        functions.append(function_at(text, text.index(old), file.strip()))
+        path.write_text(text.replace(old, new))
+    return list(dict.fromkeys(functions))
+
+
+def why_not_refused(status, lines, functions, whole):
+    """Nothing if the prover has refused one of these functions, and nothing else; otherwise what is wrong."""
+    last = lines[-1] if lines else ""
+    if status == 0:
+        return "it is still proved"
+    if status != 1 or not last.startswith("logic=not-proved" if whole else "only="):
+        return "it did not reach the prover: " + " | ".join(lines[:6])
+    told = [it for it in lines if TOLD.match(it)]
+    unread = [it for it in told if ": error" in it and TOLD.match(it)[1] in ("src", "specs") and UNREAD.search(it)]
+    if unread:
+        return f"the prover cannot read it: {unread[0]}"
+    if all(TOLD.match(it)[1] == "proofs" and UNREAD.search(it) for it in told):
+        return "it is refused only because a proof file names what it took away"
+    refused = [it for it in lines if NOT_PROVED.match(it)]
+    others = [it for it in refused if not any(f"::{name}" in it for name in functions)]
+    return None if whole or refused and not others else f"it is not what it changes that is refused: {(others or lines)[-1]}"
+
+
+class Trial:
+    """The edits of one crate, tried in turn."""
+
+    def __init__(self, prover, crate, room):
+        self.prover, self.crate, self.kept = prover, crate, Path(room) / "kept"
+
+    def copy(self, folder):
+        for part in ("src", "specs", "proofs"):
+            if (TOP / "crates" / self.crate / part).exists():
+                shutil.copytree(TOP / "crates" / self.crate / part, folder / part)
+
+    def wrong(self, edit, pairs):
+        """Nothing if the edit is refused; otherwise why not. If the functions that it changes are proved, all are tried."""
+        with tempfile.TemporaryDirectory(prefix="rt-edit-") as room:
+            folder = Path(room)
+            self.copy(folder)
+            functions = applied(edit, pairs, folder)
+            status, lines = self.prover.check(self.crate, folder, self.kept, functions)
+            if status == 2:
+                functions = list(dict.fromkeys(it.rpartition("::")[0] for it in functions))
+                status, lines = self.prover.check(self.crate, folder, self.kept, functions)
+            whole = status in (0, 2)
+            if whole:
+                status, lines = self.prover.check(self.crate, folder, self.kept, [])
+            return why_not_refused(status, lines, functions, whole)
+
+
+def weight(crate):
+    """The size of a crate's proofs."""
+    return sum(it.stat().st_size for it in (TOP / "crates" / crate / "proofs").rglob("*.antt"))
+
+
+def try_crate(prover, crate, edits, pairs_of, say):
+    """Tries the edits of a crate, and says what is wrong of each."""
+    with tempfile.TemporaryDirectory(prefix="rt-edits-") as room:
+        trial = Trial(prover, crate, room)
+        for edit in edits:
+            say(f"{crate}/{edit.stem}", trial.wrong(edit, list(pairs_of(edit))))
+
+
+def try_edits(tree, edits, pairs_of, lanes, tally):
+    """Tries edits, crates side by side, the largest first, over the libraries built in a tree, and counts those that are refused."""
+    prover, crates, lock = Prover(tree), {}, Lock()
+    for edit in edits:
+        crates.setdefault(edit.parts[-3], []).append(edit)
+
+    def say(name, why):
+        with lock:
+            tally.count(f"{name} is refused", not why, why)
+
+    with ThreadPoolExecutor(lanes) as pool:
+        for tried in [pool.submit(try_crate, prover, it, crates[it], pairs_of, say) for it in sorted(crates, key=weight, reverse=True)]:
+            tried.result()

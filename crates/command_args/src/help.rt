@@ -20,7 +20,7 @@ macro_rules! with_statuses {
 }
 
 /// The version of the program, and the line of the toolchain that proves it.
-pub const VERSION: &str = "1.1.0 (rattle-kit-13f)";
+pub const VERSION: &str = "1.1.0 (rattle-kit-13)";
 
 /// What the program is for.
 pub const PURPOSE: &str = concat!(

@@ -9,14 +9,13 @@ use Rattle.text_lines.specs.Lines.{fields, lines}
 use Rattle.text_lines.specs.Rules.{Rules, fault_at, ◌>>=◌, unless, at_line, value_of_lines, text_read, too_long}
 use Rattle.text_lines.specs.Takes.{Breaks, GivesBy, Leaves}
 use Rattle.text_lines.specs.Streams.{Input}
-use Rattle.text_lines.specs.Reads.{IsNumberFrom, IsReadNumber, ReadsSomeFault, ReadsText, ReadsValue, ReadsSome, ReadsFault, TellsFailure, TellsNoOther, IsTooLong, HasLineIfInText, FailsOnce, FailsAfter, RunsOutAfter, BreaksNone, FailsUnbroken, RunsOutUnbroken}
+use Rattle.text_lines.specs.Reads.{IsNumberFrom, IsReadNumber, ReadsSomeFault, ReadsText, ReadsValue, ReadsSome, ReadsFault, FailsAfter, RunsOutAfter, BreaksNone, FailsUnbroken, RunsOutUnbroken}
 use Rattle.text_lines.specs.Words.{number_up_to}
 use Rattle.std.specs.Bool.{MatchBool}
-use Rattle.std.specs.Io.KnownBytes.{IsAtEnd}
 use Rattle.std.proofs.lemmas.Option.{IfSome_then}
 use Rattle.std.proofs.lemmas.Result.{IfOk-weaker, IfErr-weaker}
 use Rattle.text_lines.proofs.FirstFault.{breaks_none}
-use Rattle.text_lines.specs.Reading.{TextGives, SomeTextGives, IsUnbroken}
+use Rattle.text_lines.specs.Reading.{TextGives, SomeTextGives, IsUnbroken, ReadsWhole}
 use Rattle.text_lines.specs.Meaning.{Meaning}
 
 -- what code leaves where it gives a value
@@ -142,35 +141,28 @@ module _ {S V T R : Type 0} (rules : Rules S V) (view : R → V) (meaning : Mean
   runs_out_unbroken left rest r h = IfErr-weaker r _ _ (λ f p e. let q = p e in record
       { before = q.before; last = q.last; taken = q.taken; unbroken = unbroken_by q.before q.unbroken; one_read = q.one_read; fits = q.fits }) h
 
-  -- What `read_whole` promises, said by the rules, which tell faults of these numbers alone. Its
-  -- clauses go in as they are.
+  -- What `read_whole` promises, said by the rules, which tell faults of these numbers alone.
   pub reads_text : {X : Type 0} (old new : Input X) (least greatest : ℕ)
       → ((s : S) (fs : List (List ℕ)) → IsOwn least greatest (rules.line s fs)) → ((s : S) → IsOwn least greatest (rules.end s)) → (r : Result R ReadFault)
-      → IfOk r (λ v. IfSome old.left (λ all. TextGives meaning parser all (Ok v))) → IfOk r (λ v. SomeTextGives meaning parser (Ok v))
-      → IfErr r (λ f. 2 ≤ f.number → f.number ≢ 3 → IfSome old.left (λ all. TextGives meaning parser all (Err f))) →
-      IfErr r (λ f. 2 ≤ f.number → f.number ≢ 3 → SomeTextGives meaning parser (Err f))
-      → OnOk r (new.failures ≡ old.failures) → TellsFailure old.failures new.failures r → TellsNoOther old.failures new.failures r → IsTooLong old.left r → HasLineIfInText r → IsReadNumber 10 255 r
-      → OnOk r (IsAtEnd new.left) → new.asked ≤ old.asked + 4294967297 → FailsOnce old.failures new.failures r
-      → IfErr r (λ f. f.number ≡ 1 → FailsAfter (IsUnbroken meaning parser) old.left new.left) → IfErr r (λ f. f.number ≡ 3 → RunsOutAfter (IsUnbroken meaning parser) old.left new.left)
-      → ReadsText old new rules view least greatest r
-  reads_text old new least greatest line end r value some_text fault some_fault sound told untold long placed numbered at_end asked once before_failure before_memory =
-      let some : ReadsSomeFault rules r = reads_some_fault r some_fault in
+      → ReadsWhole old new meaning parser r → ReadsText old new rules view least greatest r
+  reads_text old new least greatest line end r h =
+      let some : ReadsSomeFault rules r = reads_some_fault r h.some_fault in
       record {
-        value = reads_value old.left r value;
-        some_text = reads_some r some_text;
-        fault = reads_fault old.left r fault;
+        value = reads_value old.left r h.value;
+        some_text = reads_some r h.some_text;
+        fault = reads_fault old.left r h.fault;
         some_fault = some;
-        sound = sound;
-        told = told;
-        untold = untold;
-        long = long;
-        placed = placed;
-        numbered = own_numbers least greatest rules line end r numbered some;
-        end = at_end;
-        asked = asked;
-        once = once;
-        before_failure = fails_unbroken old.left new.left r before_failure;
-        before_memory = runs_out_unbroken old.left new.left r before_memory;
+        sound = h.sound;
+        told = h.told;
+        untold = h.untold;
+        long = h.long;
+        placed = h.placed;
+        numbered = own_numbers least greatest rules line end r h.numbered some;
+        end = h.end;
+        asked = h.asked;
+        once = h.once;
+        before_failure = fails_unbroken old.left new.left r h.before_failure;
+        before_memory = runs_out_unbroken old.left new.left r h.before_memory;
       }
 
 -- what is read stays read where the value is a part of another, and a fault is one whatever the

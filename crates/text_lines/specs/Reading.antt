@@ -1,5 +1,5 @@
 -- What a reader of lines has read of a text, and what the rest of it gives.
-use Rattle.std.specs.Prelude.{◌≡◌, ℕ, ◌+◌, ◌<◌, List, [], ◌∷◌, ◌++◌, Bool, false, Result, Ok, Err, length, ⊤, Option, Some, None, IfSome, ◌≢◌, true, take, nat_lt, ◌≤◌, MatchBool}
+use Rattle.std.specs.Prelude.{◌≡◌, ℕ, ◌+◌, ◌<◌, List, [], ◌∷◌, ◌++◌, Bool, false, Result, Ok, Err, length, ⊤, Option, Some, None, IfSome, IfOk, IfErr, OnOk, ◌≢◌, true, take, nat_lt, ◌≤◌, MatchBool}
 use Rattle.text_lines.specs.declared.faults.ReadFault.{ReadFault}
 use Rattle.text_lines.specs.declared.faults.Halt.{Halt}
 use Rattle.text_lines.specs.declared.faults.Halt.TheVariants.{Read, TooLong, Memory, Broken}
@@ -8,7 +8,9 @@ use Rattle.text_lines.specs.declared.reader.LineReader.{LineReader}
 use Rattle.text_lines.specs.Meaning.{Meaning}
 use Rattle.text_lines.specs.Cuts.{IsPresent}
 use Rattle.text_lines.specs.Lines.{lines}
-use Rattle.text_lines.specs.Reads.{FailsAfter, RunsOutAfter}
+use Rattle.std.specs.Io.KnownBytes.{IsAtEnd}
+use Rattle.text_lines.specs.Reads.{TellsFailure, TellsNoOther, FailsOnce, FailsAfter, RunsOutAfter, IsTooLong, HasLineIfInText, IsReadNumber}
+use Rattle.text_lines.specs.Streams.{Input}
 use Rattle.text_lines.specs.Rules.{too_long}
 
 -- these may be the fields of the present line so far, unless memory ran out at one
@@ -120,3 +122,22 @@ StopsAfter meaning parser left rest before after Read = (after ≡ before + 1) �
 StopsAfter meaning parser left rest before after TooLong = ⊤
 StopsAfter meaning parser left rest before after Memory = RunsOutAfter (IsUnbroken meaning parser) left rest
 StopsAfter meaning parser left rest before after (Broken f) = ⊤
+
+-- what a reader of whole texts promises by a line parser's meaning, between two moments of its
+-- input: the value or the fault is what the text gives, or if the text is not known, some text
+pub record ReadsWhole {T V X : Type 0} (old new : Input X) (meaning : Meaning T V) (parser : T) (result : Result V ReadFault) : Type 0 where
+  pub value : IfOk result (λ v. IfSome old.left (λ all. TextGives meaning parser all (Ok v)))
+  pub some_text : IfOk result (λ v. SomeTextGives meaning parser (Ok v))
+  pub fault : IfErr result (λ f. 2 ≤ f.number → f.number ≢ 3 → IfSome old.left (λ all. TextGives meaning parser all (Err f)))
+  pub some_fault : IfErr result (λ f. 2 ≤ f.number → f.number ≢ 3 → SomeTextGives meaning parser (Err f))
+  pub sound : OnOk result (new.failures ≡ old.failures)
+  pub told : TellsFailure old.failures new.failures result
+  pub untold : TellsNoOther old.failures new.failures result
+  pub long : IsTooLong old.left result
+  pub placed : HasLineIfInText result
+  pub numbered : IsReadNumber 10 255 result
+  pub end : OnOk result (IsAtEnd new.left)
+  pub asked : new.asked ≤ old.asked + 4294967297
+  pub once : FailsOnce old.failures new.failures result
+  pub before_failure : IfErr result (λ f. f.number ≡ 1 → FailsAfter (IsUnbroken meaning parser) old.left new.left)
+  pub before_memory : IfErr result (λ f. f.number ≡ 3 → RunsOutAfter (IsUnbroken meaning parser) old.left new.left)

@@ -1,8 +1,7 @@
 //! Reads a whole text from a reader.
 ghost use Rattle.std.specs.Prelude.{◌≡◌, ◌≢◌, ℕ, ◌+◌, ◌≤◌, ◌<◌, [], Ok, Err, OnOk, IfOk, IfErr, IfSome};
 ghost use Rattle.std.specs.Io.KnownBytes.{IsAtEnd};
-ghost use Rattle.text_lines.specs.Reads.{TellsFailure, TellsNoOther, FailsOnce, FailsAfter, RunsOutAfter, IsTooLong, HasLineIfInText, IsReadNumber};
-ghost use Rattle.text_lines.specs.Reading.{Stops, StopsAfter, IsUnbroken, TextGives, SomeTextGives, SomeTextStops, IsNumbered};
+ghost use Rattle.text_lines.specs.Reading.{Stops, StopsAfter, ReadsWhole, TextGives, SomeTextGives, SomeTextStops, IsNumbered};
 
 use crate::ends::RoadRead;
 use crate::faults::{Halt, MEMORY, READ_FAILED, ReadFault, TOO_LONG};
@@ -70,26 +69,7 @@ pub fn read_whole<R: RoadRead, T: LineParser>(
     parser: T,
 ) -> Result<T::Value, ReadFault>
     requires { T.meaning.so_far parser [] }
-    ensures value { IfOk result (λ v. IfSome (R.seen from.old).left (λ all. TextGives T.meaning
-        parser all (Ok v))) }
-    ensures some_text { IfOk result (λ v. SomeTextGives T.meaning parser (Ok v)) }
-    ensures fault { IfErr result (λ f. 2 ≤ f.number → f.number ≢ 3 → IfSome (R.seen from.old).left
-        (λ all. TextGives T.meaning parser all (Err f))) }
-    ensures some_fault { IfErr result (λ f. 2 ≤ f.number → f.number ≢ 3 → SomeTextGives T.meaning
-        parser (Err f)) }
-    ensures sound { OnOk result ((R.seen from.new).failures ≡ (R.seen from.old).failures) }
-    ensures told { TellsFailure (R.seen from.old).failures (R.seen from.new).failures result }
-    ensures untold { TellsNoOther (R.seen from.old).failures (R.seen from.new).failures result }
-    ensures long { IsTooLong (R.seen from.old).left result }
-    ensures placed { HasLineIfInText result }
-    ensures numbered { IsReadNumber 10 255 result }
-    ensures end { OnOk result (IsAtEnd (R.seen from.new).left) }
-    ensures asked { (R.seen from.new).asked ≤ (R.seen from.old).asked + 4294967297 }
-    ensures once { FailsOnce (R.seen from.old).failures (R.seen from.new).failures result }
-    ensures before_failure { IfErr result (λ f. f.number ≡ 1 → FailsAfter
-        (IsUnbroken T.meaning parser) (R.seen from.old).left (R.seen from.new).left) }
-    ensures before_memory { IfErr result (λ f. f.number ≡ 3 → RunsOutAfter
-        (IsUnbroken T.meaning parser) (R.seen from.old).left (R.seen from.new).left) }
+    ensures { ReadsWhole (R.seen from.old) (R.seen from.new) T.meaning parser result }
 {
     match read_text(from, parser) {
         Ok(value) => Ok(value),

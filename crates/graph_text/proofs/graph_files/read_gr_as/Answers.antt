@@ -8,8 +8,8 @@ use Rattle.graph_text.proofs.RuleLaws.{graph_line, graph_end}
 use Rattle.graph_text.proofs.graph_files.read_gr_as.Goals as goal
 
 pub returns : goal.returns
-returns g c = let s = c.new.result in let e = c.read_whole.ensures in
+returns g c = let s = c.new.result in
     reads_text gr_rules g.G.FromArcs.roads (graph_meaning (λ s. s.parser) g.G.FromArcs.roads) s (by_value g.G.FromArcs.roads s.parser c.new.ensures)
     (by_fault g.G.FromArcs.roads s.parser c.new.ensures)
     (g.R.RoadRead.seen c.args.from.now) (g.R.RoadRead.seen c.read_whole.new.from) 10 19 (λ t fs. graph_line t (map word_of fs)) graph_end
-    c.read_whole.result e.value e.some_text e.fault e.some_fault e.sound e.told e.untold e.long e.placed e.numbered e.end e.asked e.once e.before_failure e.before_memory
+    c.read_whole.result c.read_whole.ensures

@@ -8,10 +8,10 @@ use Rattle.order_files.proofs.OrderFaults.{line_faults, end_faults, by_value, by
 use Rattle.order_files.proofs.order_files.read_order.Goals as goal
 
 pub returns-in-Ok-clause-reads : goal.returns-in-Ok-clause-reads
-returns-in-Ok-clause-reads g c = let n = c.args.vertices in let s = c.in-Ok.parser in let none = c.in-Ok.ensures.none in let same = c.in-Ok.ensures.vertices in let e = c.read_whole.ensures in
+returns-in-Ok-clause-reads g c = let n = c.args.vertices in let s = c.in-Ok.parser in let none = c.in-Ok.ensures.none in let same = c.in-Ok.ensures.vertices in
     reads_text (order_rules n) (λ order. order.items) order_meaning s (by_value s none n same) (by_fault s none n same)
     (g.R.RoadRead.seen c.args.from.now) (g.R.RoadRead.seen c.read_whole.new.from) 10 20 (λ places fs. line_faults n places (map word_of fs)) (end_faults n)
-    c.read_whole.result e.value e.some_text e.fault e.some_fault e.sound e.told e.untold e.long e.placed e.numbered e.end e.asked e.once e.before_failure e.before_memory
+    c.read_whole.result c.read_whole.ensures
 
 pub returns-in-Ok-clause-each : goal.returns-in-Ok-clause-each
 returns-in-Ok-clause-each g c = let n = c.args.vertices in

@@ -7,10 +7,10 @@ use Rattle.road_files.proofs.RoadNumbers.{line_of_questions, questions_end}
 use Rattle.road_files.proofs.question_files.read_asked.Goals as goal
 
 pub returns-clause-reads : goal.returns-clause-reads
-returns-clause-reads g c = let s = c.new.result in let new = c.new.ensures in let e = c.read_whole.ensures in
+returns-clause-reads g c = let s = c.new.result in let new = c.new.ensures in
     reads_text (question_rules c.args.vertices c.args.only) asked_of question_meaning s (by_value s new.begun _ _ new.vertices new.only) (by_fault s new.begun _ _ new.vertices new.only)
     (g.R.RoadRead.seen c.args.from.now) (g.R.RoadRead.seen c.read_whole.new.from) 10 19 (line_of_questions c.args.vertices c.args.only) questions_end
-    c.read_whole.result e.value e.some_text e.fault e.some_fault e.sound e.told e.untold e.long e.placed e.numbered e.end e.asked e.once e.before_failure e.before_memory
+    c.read_whole.result c.read_whole.ensures
 
 pub returns-clause-fit : goal.returns-clause-fit
 returns-clause-fit g c = let s = c.new.result in let e = c.new.ensures in

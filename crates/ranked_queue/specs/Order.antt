@@ -10,6 +10,7 @@ use Rattle.std.proofs.lemmas.Bool.{leb-true, le-leb}
 use Rattle.std.proofs.lemmas.Bool.Decides.{leb_tells}
 use Rattle.path_algebra.specs.Algebra.{IsOrder}
 use Rattle.path_algebra.proofs.Least.{other_no_worse}
+use Rattle.ranked_queue.specs.declared.ranked.Ranked.{Ranked}
 
 -- a value is greater if it is better
 abbrev pub value_cmp : {V : Type 0} → (V → V → Bool) → V → V → Ordering
@@ -118,3 +119,10 @@ ranked_cmp value rank no_worse = on (λ o. (value o, rank o)) (value_cmp (by_num
 
 pub ranked_total : {K V : Type 0} (value : K → V) (rank : K → ℕ) (no_worse : V → V → Bool) → IsOrder no_worse → IsTotalOrder (ranked_cmp value rank no_worse)
 ranked_total value rank no_worse ordered = on_total (λ o. (value o, rank o)) (value_total (by_number no_worse) (by_number_order no_worse ordered))
+
+-- ranked entries by value, and if values tie by what numbers their ranks
+abbrev pub ranked_order : {A K V : Type 0} → (K → ℕ) → (V → V → Bool) → Ranked A K V → Ranked A K V → Ordering
+ranked_order number = ranked_cmp (λ o. o.value) (λ o. number o.rank)
+
+pub ranked_order_total : {A K V : Type 0} (number : K → ℕ) (no_worse : V → V → Bool) → IsOrder no_worse → IsTotalOrder (ranked_order {A = A} number no_worse)
+ranked_order_total number = ranked_total (λ o. o.value) (λ o. number o.rank)

@@ -3,7 +3,7 @@
 ghost use Rattle.std.specs.Prelude.{◌≡◌, ◌+◌, ◌∷◌, [], length, Contains, OnOk, OnErr, IfSome, IfNone};
 ghost use Rattle.std.specs.BinaryHeap.{heap_items, IsHeap, IsUpperBound};
 ghost use Rattle.std.specs.List.Sorted.{IsPermutation};
-ghost use Rattle.ranked_queue.specs.Order.{ranked_cmp};
+ghost use Rattle.ranked_queue.specs.Order.{ranked_order};
 
 use crate::rank::Rank;
 use crate::ranked::Ranked;
@@ -22,14 +22,14 @@ pub struct RankedQueue<A: PathAlgebra, K: Rank> {
 impl<A: PathAlgebra, K: Rank> Model for RankedQueue<A, K> {
     ghost use Rattle.std.specs.Prelude.{List};
     ghost use Rattle.std.specs.BinaryHeap.{heap_items, IsHeap};
-    ghost use Rattle.ranked_queue.specs.Order.{ranked_cmp};
+    ghost use Rattle.ranked_queue.specs.Order.{ranked_order};
     ghost use Rattle.ranked_queue.specs.declared.ranked.Ranked.{Ranked};
 
     ghost Value = { List (Ranked A K A.Value) };
 
     ghost view = { λ q. heap_items q.heap };
 
-    ghost invariant = { λ q. IsHeap (ranked_cmp (λ o. o.value) (λ o. K.number o.rank) A.order) (heap_items q.heap) };
+    ghost invariant = { λ q. IsHeap (ranked_order K.number A.order) (heap_items q.heap) };
 }
 
 impl<A: PathAlgebra, K: Rank> RankedQueue<A, K> {
@@ -69,8 +69,7 @@ impl<A: PathAlgebra, K: Rank> RankedQueue<A, K> {
         ensures len { IfSome result (λ x. length self.new + 1 ≡ length self.old) }
         ensures none { IfNone result (self.old ≡ []) }
         ensures empty { IfNone result (self.new ≡ []) }
-        ensures best { IfSome result (λ x. IsUpperBound (ranked_cmp (λ o. o.value)
-            (λ o. K.number o.rank) A.order) x self.old) }
+        ensures best { IfSome result (λ x. IsUpperBound (ranked_order K.number A.order) x self.old) }
     {
         self.heap.pop()
     }
@@ -79,8 +78,8 @@ impl<A: PathAlgebra, K: Rank> RankedQueue<A, K> {
     pub fn first(&self) -> Option<&Ranked<A, K>>
         ensures there { IfSome result (λ x. Contains self.now x.now) }
         ensures none { IfNone result (self.now ≡ []) }
-        ensures best { IfSome result (λ x. IsUpperBound (ranked_cmp (λ o. o.value)
-            (λ o. K.number o.rank) A.order) x.now self.now) }
+        ensures best { IfSome result (λ x. IsUpperBound (ranked_order K.number A.order) x.now
+            self.now) }
     {
         self.heap.peek()
     }

@@ -2,7 +2,7 @@
 ghost use Rattle.std.specs.Prelude.{◌≡◌, refl};
 ghost use Rattle.std.specs.Cmp.{partial_order_from_total, partial_equiv_from_equiv, eq_by_cmp_equiv};
 ghost use Rattle.std.specs.Ordering.{eq_by_cmp, as_partial_cmp};
-ghost use Rattle.ranked_queue.specs.Order.{ranked_cmp, ranked_total};
+ghost use Rattle.ranked_queue.specs.Order.{ranked_order, ranked_order_total};
 
 use crate::rank::Rank;
 use path_algebra::PathAlgebra;
@@ -19,9 +19,9 @@ pub struct Ranked<A: PathAlgebra, K: Rank> {
 }
 
 impl<A: PathAlgebra, K: Rank> Ord for Ranked<A, K> {
-    ghost cmp = { ranked_cmp (λ o. o.value) (λ o. K.number o.rank) A.order };
+    ghost cmp = { ranked_order K.number A.order };
 
-    ghost total = { ranked_total (λ o. o.value) (λ o. K.number o.rank) A.order A.ordered };
+    ghost total = { ranked_order_total K.number A.order A.ordered };
 
     ghost matches_partial_cmp = { λ x y. refl };
 
@@ -46,9 +46,9 @@ impl<A: PathAlgebra, K: Rank> Ord for Ranked<A, K> {
 }
 
 impl<A: PathAlgebra, K: Rank> PartialOrd for Ranked<A, K> {
-    ghost partial_cmp = { as_partial_cmp (ranked_cmp (λ o. o.value) (λ o. K.number o.rank) A.order) };
+    ghost partial_cmp = { as_partial_cmp (ranked_order K.number A.order) };
 
-    ghost laws = { partial_order_from_total (ranked_total (λ o. o.value) (λ o. K.number o.rank) A.order A.ordered) };
+    ghost laws = { partial_order_from_total (ranked_order_total K.number A.order A.ordered) };
 
     fn partial_cmp(&self, other: &Self) -> Option<Ordering> {
         Some(self.cmp(other))
@@ -56,9 +56,9 @@ impl<A: PathAlgebra, K: Rank> PartialOrd for Ranked<A, K> {
 }
 
 impl<A: PathAlgebra, K: Rank> PartialEq for Ranked<A, K> {
-    ghost eq = { eq_by_cmp (ranked_cmp (λ o. o.value) (λ o. K.number o.rank) A.order) };
+    ghost eq = { eq_by_cmp (ranked_order K.number A.order) };
 
-    ghost laws = { partial_equiv_from_equiv (eq_by_cmp_equiv (ranked_total (λ o. o.value) (λ o. K.number o.rank) A.order A.ordered)) };
+    ghost laws = { partial_equiv_from_equiv (eq_by_cmp_equiv (ranked_order_total K.number A.order A.ordered)) };
 
     fn eq(&self, other: &Self) -> bool {
         self.cmp(other).is_eq()
@@ -66,5 +66,5 @@ impl<A: PathAlgebra, K: Rank> PartialEq for Ranked<A, K> {
 }
 
 impl<A: PathAlgebra, K: Rank> Eq for Ranked<A, K> {
-    ghost laws = { eq_by_cmp_equiv (ranked_total (λ o. o.value) (λ o. K.number o.rank) A.order A.ordered) };
+    ghost laws = { eq_by_cmp_equiv (ranked_order_total K.number A.order A.ordered) };
 }

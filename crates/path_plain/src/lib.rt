@@ -14,4 +14,4 @@ mod touched;
 pub use halt::{Halt, Stop};
 pub use laws::{best_values_exist, labels_serve_nearer_targets};
 pub use searcher::Searcher;
-pub use solve::{solve_from, solve_one, solve_outgoing, solve_to};
+pub use solve::{solve_one, solve_outgoing, solve_to};

@@ -67,19 +67,6 @@ pub fn solve_to<A: PathAlgebra>(
     solve_as_far(alloc, algebra, graph, sources, Some(target))
 }
 
-/// Best values from a list of sources, in a graph that has its arcs by number and by head too.
-pub fn solve_from<A: PathAlgebra>(
-    alloc: Global,
-    algebra: A,
-    graph: &Graph,
-    sources: &[Vertex],
-) -> Result<Labels<A::Value>, Memory>
-    requires { All (HasVertex graph.now) sources.now }
-    ensures { IfOk result (λ labels. AreBest (A.meaning algebra) graph.now sources.now labels) }
-{
-    solve_outgoing(alloc, algebra, graph.outgoing(), sources)
-}
-
 /// The best value of each vertex over all walks from the source, and none if no walk has a value.
 pub fn solve_one<A: PathAlgebra>(
     alloc: Global,
@@ -90,5 +77,5 @@ pub fn solve_one<A: PathAlgebra>(
     requires { HasVertex graph.now source }
     ensures { IfOk result (λ labels. AreBest (A.meaning algebra) graph.now (source ∷ []) labels) }
 {
-    solve_from(alloc, algebra, graph, &[source])
+    solve_outgoing(alloc, algebra, graph.outgoing(), &[source])
 }

@@ -5,7 +5,7 @@ ghost use Rattle.std.specs.Prelude.{◌≡◌, length};
 
 use crate::graphs::{FIVE, graph_of};
 use path_algebra::{Labels, PathAlgebra, Shortest};
-use path_plain::{best_values_exist, labels_serve_nearer_targets, solve_from, solve_to};
+use path_plain::{best_values_exist, labels_serve_nearer_targets, solve_outgoing, solve_to};
 use road_graph::{Graph, Vertex};
 use std::alloc::Global;
 use std::process::Abort;
@@ -37,7 +37,7 @@ fn shortest_from(alloc: Global, graph: &Graph, sources: [Vertex; 3]) -> Option<V
     if !graph.has(a) || !graph.has(b) || !graph.has(c) {
         return None;
     }
-    let labels = solve_from(alloc, Shortest, graph, &[a, b, c]).ok()?;
+    let labels = solve_outgoing(alloc, Shortest, graph.outgoing(), &[a, b, c]).ok()?;
     codes_of(alloc, Shortest, graph, &labels)
 }
 

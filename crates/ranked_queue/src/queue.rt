@@ -69,7 +69,8 @@ impl<A: PathAlgebra, K: Rank> RankedQueue<A, K> {
         ensures len { IfSome result (λ x. length self.new + 1 ≡ length self.old) }
         ensures none { IfNone result (self.old ≡ []) }
         ensures empty { IfNone result (self.new ≡ []) }
-        ensures best { IfSome result (λ x. IsUpperBound (ranked_order K.number A.order) x self.old) }
+        ensures best { IfSome result (λ x. IsUpperBound (ranked_order K.number A.order) x
+            self.old) }
     {
         self.heap.pop()
     }

@@ -21,7 +21,7 @@ use std::mem;
 #[derive(Drop)]
 struct Backward<'g, A: PathAlgebra, G: Entering> {
     algebra: A,
-    graph: &'g G,
+    by_head: &'g G,
     labels: &'g Labels<A::Value>,
     /// Whether a vertex was found.
     marks: Vec<bool>,
@@ -36,9 +36,9 @@ impl<'g, A: PathAlgebra, G: Entering> Model for Backward<'g, A, G> {
 
     ghost Value = { BackwardState A A.Value };
 
-    ghost view = { λ s. record { over = record { algebra = s.algebra; roads = G.roads s.graph.now; labels = s.labels.now }; marks = s.marks.items; next = s.next.items } };
+    ghost view = { λ s. record { over = record { algebra = s.algebra; roads = G.roads s.by_head.now; labels = s.labels.now }; marks = s.marks.items; next = s.next.items } };
 
-    ghost invariant = { λ s. IsBackward (G.roads s.graph.now) s.labels.now s.marks.items s.found.items s.next.items };
+    ghost invariant = { λ s. IsBackward (G.roads s.by_head.now) s.labels.now s.marks.items s.found.items s.next.items };
 }
 
 impl<'g, A: PathAlgebra, G: Entering> Backward<'g, A, G> {
@@ -46,33 +46,33 @@ impl<'g, A: PathAlgebra, G: Entering> Backward<'g, A, G> {
     fn open(
         alloc: Global,
         algebra: A,
-        graph: &'g G,
+        by_head: &'g G,
         labels: &'g Labels<A::Value>,
         target: Vertex,
         marks: Vec<bool>,
     ) -> Result<Self, Memory>
-        requires target { HasVertex (G.roads graph.now) target }
-        requires labels { length labels.now ≡ (G.roads graph.now).vertices }
-        requires marks { marks.items ≡ replicate (G.roads graph.now).vertices false }
+        requires target { HasVertex (G.roads by_head.now) target }
+        requires labels { length labels.now ≡ (G.roads by_head.now).vertices }
+        requires marks { marks.items ≡ replicate (G.roads by_head.now).vertices false }
         ensures over { IfOk result (λ s. s.over ≡ record {
           algebra = algebra;
           roads = G.roads
-              graph.now;
+              by_head.now;
           labels = labels.now;
         }) }
         ensures marks { IfOk result
-            (λ s. s.marks ≡ slice_set (replicate (G.roads graph.now).vertices false) (target - 1)
+            (λ s. s.marks ≡ slice_set (replicate (G.roads by_head.now).vertices false) (target - 1)
             true) }
         ensures next { IfOk result (λ s. s.next ≡ target ∷ []) }
     {
-        graph.holds();
+        by_head.holds();
         let mut marks = marks;
         marks[target.0 as usize - 1] = true;
         let found = list_of(alloc, target)?;
         let next = list_of(alloc, target)?;
         Ok(Backward {
             algebra,
-            graph,
+            by_head,
             labels,
             marks,
             found,
@@ -135,7 +135,7 @@ impl<'g, A: PathAlgebra, G: Entering> Backward<'g, A, G> {
             self.old.marks + length self.old.next) }
     {
         let far = self.labels.of(v);
-        self.graph.list_into(v, row)?;
+        self.by_head.list_into(v, row)?;
         for road in row.as_slice() {
             self.try_road(*road, far)?;
         }
@@ -203,27 +203,27 @@ fn list_of(alloc: Global, v: Vertex) -> Result<Vec<Vertex>, Memory>
 pub(crate) fn marks_back<A: PathAlgebra, G: Entering>(
     alloc: Global,
     algebra: A,
-    graph: &G,
+    by_head: &G,
     labels: &Labels<A::Value>,
     source: Vertex,
     target: Vertex,
     marks: Vec<bool>,
 ) -> Result<(Vec<bool>, Vec<Vertex>), Memory>
-    requires source { HasVertex (G.roads graph.now) source }
-    requires target { HasVertex (G.roads graph.now) target }
-    requires labels { length labels.now ≡ (G.roads graph.now).vertices }
-    requires marks { marks.items ≡ replicate (G.roads graph.now).vertices false }
-    ensures covers { IfOk result (λ r. Covers (G.roads graph.now) (is_tight (A.meaning algebra)
-        (G.roads graph.now) labels.now) source target r.0.items) }
-    ensures lead { IfOk result (λ r. LeadTo (G.roads graph.now) (is_tight (A.meaning algebra)
-        (G.roads graph.now) labels.now) target r.0.items) }
-    ensures count { IfOk result (λ r. length r.0.items ≡ (G.roads graph.now).vertices) }
-    ensures found { IfOk result (λ r. AreFound (G.roads graph.now) r.0.items r.1.items) }
+    requires source { HasVertex (G.roads by_head.now) source }
+    requires target { HasVertex (G.roads by_head.now) target }
+    requires labels { length labels.now ≡ (G.roads by_head.now).vertices }
+    requires marks { marks.items ≡ replicate (G.roads by_head.now).vertices false }
+    ensures covers { IfOk result (λ r. Covers (G.roads by_head.now) (is_tight (A.meaning algebra)
+        (G.roads by_head.now) labels.now) source target r.0.items) }
+    ensures lead { IfOk result (λ r. LeadTo (G.roads by_head.now) (is_tight (A.meaning algebra)
+        (G.roads by_head.now) labels.now) target r.0.items) }
+    ensures count { IfOk result (λ r. length r.0.items ≡ (G.roads by_head.now).vertices) }
+    ensures found { IfOk result (λ r. AreFound (G.roads by_head.now) r.0.items r.1.items) }
     ensures source { IfOk result (λ r. Contains r.1.items source) }
 {
-    graph.holds();
+    by_head.holds();
     let mut row = Vec::new(alloc);
-    let mut search = Backward::open(alloc, algebra, graph, labels, target, marks)?;
+    let mut search = Backward::open(alloc, algebra, by_head, labels, target, marks)?;
     while !search.is_done() && !search.has(source) {
         search.visit_level(alloc, &mut row)?;
     }

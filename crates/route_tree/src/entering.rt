@@ -11,10 +11,6 @@ pub trait Entering {
     // The graph itself.
     ghost roads: { Self → GraphData };
 
-    /// How many vertices there are.
-    fn count(&self) -> u32
-        ensures { result ≡ (roads self.now).vertices };
-
     /// What holds of every graph: its arcs join its vertices, and it keeps the limits. Nothing is
     /// computed.
     fn holds(&self)
@@ -29,10 +25,6 @@ pub trait Entering {
 
 impl Entering for Graph {
     ghost roads = { λ g. g };
-
-    fn count(&self) -> u32 {
-        self.vertices()
-    }
 
     fn holds(&self) {
         self.holds()
@@ -53,10 +45,6 @@ impl Entering for Graph {
 
 impl Entering for InGraph {
     ghost roads = { λ g. g };
-
-    fn count(&self) -> u32 {
-        self.vertices()
-    }
 
     fn holds(&self) {
         self.holds()

@@ -77,11 +77,11 @@ impl<A: PathAlgebra> PairSearcher<A> {
     fn find(
         &mut self,
         graph: &OutGraph,
-        rows: &InGraph,
+        by_head: &InGraph,
         pair: (Vertex, Vertex),
     ) -> Result<Option<Found>, Memory>
         requires graph { graph.now ≡ self.old.roads }
-        requires rows { rows.now ≡ graph.now }
+        requires by_head { by_head.now ≡ graph.now }
         requires source { HasVertex graph.now pair.0 }
         requires target { HasVertex graph.now pair.1 }
         requires labels { AreBestUpTo (A.meaning self.old.algebra) graph.now (pair.0 ∷ []) pair.1
@@ -93,20 +93,20 @@ impl<A: PathAlgebra> PairSearcher<A> {
         let algebra = self.searcher.algebra();
         let labels = self.searcher.labels();
         self.finder
-            .route(algebra, graph, rows, labels, source, target)
+            .route(algebra, graph, by_head, labels, source, target)
     }
 
     /// The best value of a pair's target over all walks from its source, and the route to it; none
-    /// if no walk has a value. `rows` has the arcs of the graph by head. The only error is want of
+    /// if no walk has a value. `by_head` has the arcs of the graph by head. The only error is want of
     /// memory; after it the next call is right too.
     pub fn solve(
         &mut self,
         graph: &OutGraph,
-        rows: &InGraph,
+        by_head: &InGraph,
         pair: (Vertex, Vertex),
     ) -> Result<Option<Found>, Memory>
         requires graph { graph.now ≡ self.old.roads }
-        requires rows { rows.now ≡ graph.now }
+        requires by_head { by_head.now ≡ graph.now }
         requires source { HasVertex graph.now pair.0 }
         requires target { HasVertex graph.now pair.1 }
         ensures found { IfOk result (IsPairFound (A.meaning self.old.algebra) graph.now pair.0 pair.1) }
@@ -114,7 +114,7 @@ impl<A: PathAlgebra> PairSearcher<A> {
         ensures same { IsOfSameGraph self.old self.new }
     {
         self.searcher.solve_to(graph, pair.0, pair.1)?;
-        self.find(graph, rows, pair)
+        self.find(graph, by_head, pair)
     }
 
     /// The same by a search that may be told to give up: then the pair is undecided, and a later
@@ -122,12 +122,12 @@ impl<A: PathAlgebra> PairSearcher<A> {
     pub fn solve_unless(
         &mut self,
         graph: &OutGraph,
-        rows: &InGraph,
+        by_head: &InGraph,
         pair: (Vertex, Vertex),
         halt: &mut Halt<'_>,
     ) -> Result<Nearby, Memory>
         requires graph { graph.now ≡ self.old.roads }
-        requires rows { rows.now ≡ graph.now }
+        requires by_head { by_head.now ≡ graph.now }
         requires source { HasVertex graph.now pair.0 }
         requires target { HasVertex graph.now pair.1 }
         ensures found { IfOk result (IsFoundIfNear (A.meaning self.old.algebra) graph.now pair.0 pair.1) }
@@ -138,7 +138,7 @@ impl<A: PathAlgebra> PairSearcher<A> {
         if !self.searcher.solve_unless(graph, pair.0, pair.1, halt)? {
             return Ok(Nearby::Undecided);
         }
-        let found = self.find(graph, rows, pair)?;
+        let found = self.find(graph, by_head, pair)?;
         Ok(Nearby::Decided(found))
     }
 }

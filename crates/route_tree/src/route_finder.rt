@@ -64,7 +64,7 @@ impl RouteFinder {
     }
 
     /// The best value of a target and the route to it, for labels that are best up to the target;
-    /// none if no walk has a value. `back` is the same graph, for steps back along its arcs. The
+    /// none if no walk has a value. `by_head` is the same graph, for steps back along its arcs. The
     /// only error is `Memory`; after it the next call is right too.
     ///
     /// The route is that of the whole tree: a walk of tight arcs to the target passes only vertices
@@ -73,13 +73,13 @@ impl RouteFinder {
         &mut self,
         algebra: A,
         graph: &OutGraph,
-        back: &G,
+        by_head: &G,
         labels: &Labels<A::Value>,
         source: Vertex,
         target: Vertex,
     ) -> Result<Option<Found>, Memory>
         requires count { graph.now.vertices ≡ self.old }
-        requires back { G.roads back.now ≡ graph.now }
+        requires by_head { G.roads by_head.now ≡ graph.now }
         requires source { HasVertex graph.now source }
         requires target { HasVertex graph.now target }
         requires labels { AreBestUpTo (A.meaning algebra) graph.now (source ∷ []) target labels.now }
@@ -94,7 +94,7 @@ impl RouteFinder {
         };
         let alloc = self.alloc;
         let (marks, blank) = self.take_lists()?.into_parts();
-        let (marks, found) = marks_back(alloc, algebra, back, labels, source, target, marks)?;
+        let (marks, found) = marks_back(alloc, algebra, by_head, labels, source, target, marks)?;
         let region = Region::marked(marks);
         let tree = tree_into(alloc, algebra, graph, labels, &region, &[source], blank)?;
         let pair = found_in(alloc, &tree, algebra.code(value), target)?;

@@ -5,8 +5,8 @@ use Rattle.route_tree.proofs.backward.marks_back.Given as goal
 
 abbrev pub invariant-loop-search : goal.invariant-loop-search
 invariant-loop-search g l = record {
-  over : l.search.over ≡ record { algebra = l.fn.algebra; roads = g.G.Entering.roads l.graph; labels = l.labels };
-  visiting : (k : ℕ) × VisitingBack (g.G.Entering.roads l.graph) (is_tight (g.A.PathAlgebra.meaning l.fn.algebra) (g.G.Entering.roads l.graph) l.labels) l.fn.target k
+  over : l.search.over ≡ record { algebra = l.fn.algebra; roads = g.G.Entering.roads l.by_head; labels = l.labels };
+  visiting : (k : ℕ) × VisitingBack (g.G.Entering.roads l.by_head) (is_tight (g.A.PathAlgebra.meaning l.fn.algebra) (g.G.Entering.roads l.by_head) l.labels) l.fn.target k
       l.search.marks l.search.next [] [];
 }
 

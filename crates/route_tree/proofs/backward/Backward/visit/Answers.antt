@@ -19,7 +19,7 @@ loop-road-init g c =
 
 pub try_road-requires-after_bounds : goal.try_road-requires-after_bounds
 try_road-requires-after_bounds g c κs within =
-    let roads = g.G.Entering.roads c.self.inside.graph.now in
+    let roads = g.G.Entering.roads c.self.inside.by_head.now in
     let lists = c.in_ok-list_into.ensures in
     let at = turned_at roads lists.0 c.as_slice-road-items.result.now c.args.v lists.1
     (c.as_slice-road-items.ensures.value ∙ lists.2) c.loop-road.road-index c.road-item.result c.loop-road-test.true c.road-item.is in
@@ -58,7 +58,7 @@ returns-clause-visits g c =
     let roads = subst (λ (g : GraphData). IsGraph g) (λ i. (c.self.view_is i).over.roads) c.self.invariant.roads in
     let row = c.as_slice-road-items.result.now in
     let lists = subst (λ (g : GraphData). ListsRoadsInto g c.args.v row) (λ i. (c.self.view_is i).over.roads)
-    (subst (λ xs. ListsRoadsInto (g.G.Entering.roads c.self.inside.graph.now) c.args.v xs) (sym c.as_slice-road-items.ensures.value) c.in_ok-list_into.ensures) in
+    (subst (λ xs. ListsRoadsInto (g.G.Entering.roads c.self.inside.by_head.now) c.args.v xs) (sym c.as_slice-road-items.ensures.value) c.in_ok-list_into.ensures) in
     let n = as_long s.over.roads lists.0 row c.args.v lists.1 lists.2 in
     λ target k pending known. row_done s.over.roads roads (passes_back (g.A.PathAlgebra.meaning s.over.algebra) s) target k c.loop-road.self.marks pending c.loop-road.self.next
     lists.0 c.loop-road.road-index (omega (arith, n)) (c.loop-road.invariant.goes target k pending lists.0 lists.1 lists.2 known)

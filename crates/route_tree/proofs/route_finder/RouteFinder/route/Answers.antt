@@ -12,8 +12,8 @@ pub put_back-requires-clause-marks : goal.put_back-requires-clause-marks
 put_back-requires-clause-marks g c =
     let G = c.args.graph.now in
     let marks = c.in_ok-marks.marks.items in
-    let found : AreFound G marks c.in_ok-marks.found.items = rw c.requires.back at c.in_ok-marks.ensures.found in
-    let count : length marks ≡ G.vertices = rw c.requires.back at c.in_ok-marks.ensures.count in
+    let found : AreFound G marks c.in_ok-marks.found.items = rw c.requires.by_head at c.in_ok-marks.ensures.found in
+    let count : length marks ≡ G.vertices = rw c.requires.by_head at c.in_ok-marks.ensures.count in
     let test = is_tight (g.A.PathAlgebra.meaning c.args.algebra) G c.args.labels.now in
     let same : c.into_marks.result.items ≡ marks = same_region (sym c.into_marks.ensures ∙ c.marked-region.ensures) in
     rw (c.as_slice.ensures.value, same) (marks_blank G c.holds.ensures test c.args.source marks c.in_ok-marks.found.items found count c.in_ok-marks.ensures.source)
@@ -22,8 +22,8 @@ pub put_back-requires-clause-hops : goal.put_back-requires-clause-hops
 put_back-requires-clause-hops g c =
     let G = c.args.graph.now in
     let marks = c.in_ok-marks.marks.items in
-    let found : AreFound G marks c.in_ok-marks.found.items = rw c.requires.back at c.in_ok-marks.ensures.found in
-    let count : length marks ≡ G.vertices = rw c.requires.back at c.in_ok-marks.ensures.count in
+    let found : AreFound G marks c.in_ok-marks.found.items = rw c.requires.by_head at c.in_ok-marks.ensures.found in
+    let count : length marks ≡ G.vertices = rw c.requires.by_head at c.in_ok-marks.ensures.count in
     let test = is_tight (g.A.PathAlgebra.meaning c.args.algebra) G c.args.labels.now in
     rw c.as_slice.ensures.value (hops_blank G c.holds.ensures test c.args.source marks c.in_ok-marks.found.items found count c.in_ok-marks.ensures.source
     c.in_ok-tree.tree.hops c.in_ok-tree.tree.parents (rw (c.marked-region.ensures) at c.in_ok-tree.ensures.hops) (rw (c.marked-region.ensures) at c.in_ok-tree.ensures.parents))
@@ -32,8 +32,8 @@ pub put_back-requires-clause-parents : goal.put_back-requires-clause-parents
 put_back-requires-clause-parents g c =
     let G = c.args.graph.now in
     let marks = c.in_ok-marks.marks.items in
-    let found : AreFound G marks c.in_ok-marks.found.items = rw c.requires.back at c.in_ok-marks.ensures.found in
-    let count : length marks ≡ G.vertices = rw c.requires.back at c.in_ok-marks.ensures.count in
+    let found : AreFound G marks c.in_ok-marks.found.items = rw c.requires.by_head at c.in_ok-marks.ensures.found in
+    let count : length marks ≡ G.vertices = rw c.requires.by_head at c.in_ok-marks.ensures.count in
     let test = is_tight (g.A.PathAlgebra.meaning c.args.algebra) G c.args.labels.now in
     rw c.as_slice.ensures.value (parents_blank G c.holds.ensures test c.args.source marks c.in_ok-marks.found.items found count c.in_ok-marks.ensures.source
     c.in_ok-tree.tree.hops c.in_ok-tree.tree.parents (rw (c.marked-region.ensures) at c.in_ok-tree.ensures.hops) (rw (c.marked-region.ensures) at c.in_ok-tree.ensures.parents))
@@ -42,7 +42,7 @@ pub put_back-requires-clause-count : goal.put_back-requires-clause-count
 put_back-requires-clause-count g c =
     let G = c.args.graph.now in
     let marks = c.in_ok-marks.marks.items in
-    let count : length marks ≡ G.vertices = rw c.requires.back at c.in_ok-marks.ensures.count in
+    let count : length marks ≡ G.vertices = rw c.requires.by_head at c.in_ok-marks.ensures.count in
     let same : c.into_marks.result.items ≡ marks = same_region (sym c.into_marks.ensures ∙ c.marked-region.ensures) in
     c.in_ok-tree.ensures.hops.count ∙ sym count ∙ ap length (sym same)
 
@@ -50,7 +50,7 @@ pub invariant_of-self : goal.invariant_of-self
 invariant_of-self g c =
     let G = c.args.graph.now in
     let marks = c.in_ok-marks.marks.items in
-    let count : length marks ≡ G.vertices = rw c.requires.back at c.in_ok-marks.ensures.count in
+    let count : length marks ≡ G.vertices = rw c.requires.by_head at c.in_ok-marks.ensures.count in
     let same : c.into_marks.result.items ≡ marks = same_region (sym c.into_marks.ensures ∙ c.marked-region.ensures) in
     let long = ap length same in
     omega (arith, c.put_back.ensures, long, count, c.requires.count, c.take_lists.ensures.same, c.self-2.view_is)
@@ -69,7 +69,7 @@ returns-clause-found g c =
     let best : IsBest A G sources c.args.target c.in-Some.value =
     subst (IsBestLabel A G sources c.args.target) (sym c.of.ensures ∙ c.in-Some.is) c.requires.labels.at_target in
     pair_found_up_to A c.laws_hold.ensures.lawful G c.holds.ensures c.args.source c.args.target inside (all_inside G sources inside) c.requires.target
-    whole.0 whole.1 c.args.labels.now c.requires.labels c.in_ok-marks.marks.items (rw c.requires.back at c.in_ok-marks.ensures.covers)
-    (rw c.requires.back at c.in_ok-marks.ensures.lead)
+    whole.0 whole.1 c.args.labels.now c.requires.labels c.in_ok-marks.marks.items (rw c.requires.by_head at c.in_ok-marks.ensures.covers)
+    (rw c.requires.by_head at c.in_ok-marks.ensures.lead)
     c.in_ok-tree.tree.hops c.in_ok-tree.tree.parents (rw (c.marked-region.ensures) at c.in_ok-tree.ensures.hops) (rw (c.marked-region.ensures) at c.in_ok-tree.ensures.parents)
     c.code.result (c.in-Some.value, best, c.code.ensures) c.in_ok-pair.pair c.in_ok-pair.ensures

@@ -188,5 +188,5 @@ module _ {V : Type 0} (A : Algebra V) (lawful : IsLawful A) (g : GraphData) (roa
     all_found (Settled v) end p = let bad : false ≡ true = end in cc
     all_found Dropped end p = let bad : false ≡ true = end in cc
     all_found Ended end p =
-        let f = last_round A lawful order same g roads sources inside old new in_graph between p in
+        let f = last_round A lawful order same g roads sources inside old new in_graph between Ended end p in
         (nearest_last p, f.0, f.1, noted_last p)

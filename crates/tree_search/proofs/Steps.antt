@@ -192,6 +192,11 @@ module _ {K V : Type 0} (key : K → V × ℕ) (place : K → ℕ) (order : V �
         };
       }
 
+-- a step by an algebra is one by its equal
+pub by_equal : {C V : Type 0} (meaning : C → Algebra V) {order : V → V → Bool} {a b : C} {step : Step} {old new : SearchState C V} →
+    a ≡ b → Proceeds order (meaning a) step old new → Proceeds order (meaning b) step old new
+by_equal {C} {V} meaning {order} {a} {b} {step} {old} {new} e p = subst (λ (x : C). Proceeds order (meaning x) step old new) e p
+
 module _ {C V : Type 0} (A : Algebra V) (lawful : IsLawful A) (order : V → V → Bool) (same : A.no_worse ≡ order) (g : GraphData) (roads : IsGraph g) (sources : List ℕ)
     (inside : All (HasVertex g) sources)
     (old new : SearchState C V) (in_graph : old.roads ≡ g) (between : Between A g sources old.marks old.settled) where
@@ -208,16 +213,13 @@ module _ {C V : Type 0} (A : Algebra V) (lawful : IsLawful A) (order : V → V �
   next_round Dropped more p = next_dropped p.advances
   next_round Ended more p = let bad : true ≡ false = more in cc
 
-  pub last_step : (step : Step) → is_end step ≡ true → step ≡ Ended
-  last_step (Settled v) end = let bad : false ≡ true = end in cc
-  last_step Dropped end = let bad : false ≡ true = end in cc
-  last_step Ended end = refl
-
-  -- where there is none, the values are best, and hops and parents are their tree
-  pub last_round : Proceeds order A Ended old new →
+  -- at the end the values are best, and hops and parents are their tree
+  pub last_round : (step : Step) → is_end step ≡ true → Proceeds order A step old new →
       AreBest A g sources (values_in new.marks) × IsTree A g sources (record { hops = hops_in new.marks; parents = parents_in new.marks })
       × IsLinked (record { hops = hops_in new.marks; parents = parents_in new.marks })
-  last_round p =
+  last_round (Settled v) end p = let bad : false ≡ true = end in cc
+  last_round Dropped end p = let bad : false ≡ true = end in cc
+  last_round Ended end p =
       let count = keys_count A lawful g roads sources inside order same old.marks old.settled between in
       rw p.advances.0 (
         values_are_best A lawful g roads sources inside old.marks old.settled between.level between.hops between.hopping (λ j lt. p.advances.2 j (rw count lt)),

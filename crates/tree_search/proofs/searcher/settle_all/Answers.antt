@@ -1,6 +1,6 @@
-use Rattle.std.proofs.Common.{◌≡◌, ◌∙◌, sym, subst, true, false}
-use Rattle.tree_search.specs.Searching.{Proceeds, is_end}
-use Rattle.tree_search.proofs.Steps.{next_round, comes_nearer}
+use Rattle.std.proofs.Common.{◌≡◌, ◌∙◌, sym, true, false}
+use Rattle.tree_search.specs.Searching.{is_end}
+use Rattle.tree_search.proofs.Steps.{by_equal, next_round, comes_nearer}
 use Rattle.tree_search.proofs.Listing.{AreListed, started, listed_next, all_found}
 use Rattle.tree_search.proofs.searcher.settle_all.Goals as goal
 
@@ -21,8 +21,7 @@ pub loop-step-preserved : goal.loop-step-preserved
 loop-step-preserved g c =
     let A = g.A.PathAlgebra.meaning c.args.algebra in
     let was = c.loop-step.invariant in
-    let step : Proceeds g.A.PathAlgebra.order A c.in_ok-step.step c.loop-step.search c.settle_next.new.self =
-    subst (λ a. Proceeds g.A.PathAlgebra.order (g.A.PathAlgebra.meaning a) c.in_ok-step.step c.loop-step.search c.settle_next.new.self) was.algebra c.in_ok-step.ensures in
+    let step = by_equal g.A.PathAlgebra.meaning was.algebra c.in_ok-step.ensures in
     let more : is_end c.in_ok-step.step ≡ false = sym c.is_end.ensures ∙ c.if-is_end.false in
     record {
       algebra = step.algebra ∙ was.algebra;
@@ -39,8 +38,7 @@ pub loop-step-smaller : goal.loop-step-smaller
 loop-step-smaller g c =
     let A = g.A.PathAlgebra.meaning c.args.algebra in
     let was = c.loop-step.invariant in
-    let step : Proceeds g.A.PathAlgebra.order A c.in_ok-step.step c.loop-step.search c.settle_next.new.self =
-    subst (λ a. Proceeds g.A.PathAlgebra.order (g.A.PathAlgebra.meaning a) c.in_ok-step.step c.loop-step.search c.settle_next.new.self) was.algebra c.in_ok-step.ensures in
+    let step = by_equal g.A.PathAlgebra.meaning was.algebra c.in_ok-step.ensures in
     let more : is_end c.in_ok-step.step ≡ false = sym c.is_end.ensures ∙ c.if-is_end.false in
     comes_nearer A c.laws_hold.ensures.lawful g.A.PathAlgebra.order c.laws_hold.ensures.order c.args.graph.now c.holds.ensures c.args.sources.now c.requires.sources
     c.loop-step.search c.settle_next.new.self was.graph was.between c.in_ok-step.step more step
@@ -49,8 +47,7 @@ pub returns-then-is_end-clause-reached : goal.returns-then-is_end-clause-reached
 returns-then-is_end-clause-reached g c = λ _.
     let A = g.A.PathAlgebra.meaning c.args.algebra in
     let was = c.loop-step.invariant in
-    let step : Proceeds g.A.PathAlgebra.order A c.in_ok-step.step c.loop-step.search c.settle_next.new.self =
-    subst (λ a. Proceeds g.A.PathAlgebra.order (g.A.PathAlgebra.meaning a) c.in_ok-step.step c.loop-step.search c.settle_next.new.self) was.algebra c.in_ok-step.ensures in
+    let step = by_equal g.A.PathAlgebra.meaning was.algebra c.in_ok-step.ensures in
     let end : is_end c.in_ok-step.step ≡ true = sym c.is_end.ensures ∙ c.if-is_end.true in
     (all_found A c.laws_hold.ensures.lawful c.args.graph.now c.holds.ensures c.args.sources.now c.requires.sources g.A.PathAlgebra.order c.laws_hold.ensures.order
     c.loop-step.search c.settle_next.new.self was.graph was.between c.loop-step.reached.items was.listed c.in_ok-step.step end step).0
@@ -59,8 +56,7 @@ pub returns-then-is_end-clause-labels : goal.returns-then-is_end-clause-labels
 returns-then-is_end-clause-labels g c = λ _.
     let A = g.A.PathAlgebra.meaning c.args.algebra in
     let was = c.loop-step.invariant in
-    let step : Proceeds g.A.PathAlgebra.order A c.in_ok-step.step c.loop-step.search c.settle_next.new.self =
-    subst (λ a. Proceeds g.A.PathAlgebra.order (g.A.PathAlgebra.meaning a) c.in_ok-step.step c.loop-step.search c.settle_next.new.self) was.algebra c.in_ok-step.ensures in
+    let step = by_equal g.A.PathAlgebra.meaning was.algebra c.in_ok-step.ensures in
     let end : is_end c.in_ok-step.step ≡ true = sym c.is_end.ensures ∙ c.if-is_end.true in
     (all_found A c.laws_hold.ensures.lawful c.args.graph.now c.holds.ensures c.args.sources.now c.requires.sources g.A.PathAlgebra.order c.laws_hold.ensures.order
     c.loop-step.search c.settle_next.new.self was.graph was.between c.loop-step.reached.items was.listed c.in_ok-step.step end step).1
@@ -69,8 +65,7 @@ pub returns-then-is_end-clause-tree : goal.returns-then-is_end-clause-tree
 returns-then-is_end-clause-tree g c = λ _.
     let A = g.A.PathAlgebra.meaning c.args.algebra in
     let was = c.loop-step.invariant in
-    let step : Proceeds g.A.PathAlgebra.order A c.in_ok-step.step c.loop-step.search c.settle_next.new.self =
-    subst (λ a. Proceeds g.A.PathAlgebra.order (g.A.PathAlgebra.meaning a) c.in_ok-step.step c.loop-step.search c.settle_next.new.self) was.algebra c.in_ok-step.ensures in
+    let step = by_equal g.A.PathAlgebra.meaning was.algebra c.in_ok-step.ensures in
     let end : is_end c.in_ok-step.step ≡ true = sym c.is_end.ensures ∙ c.if-is_end.true in
     (all_found A c.laws_hold.ensures.lawful c.args.graph.now c.holds.ensures c.args.sources.now c.requires.sources g.A.PathAlgebra.order c.laws_hold.ensures.order
     c.loop-step.search c.settle_next.new.self was.graph was.between c.loop-step.reached.items was.listed c.in_ok-step.step end step).2
@@ -79,8 +74,7 @@ pub returns-then-is_end-clause-noted : goal.returns-then-is_end-clause-noted
 returns-then-is_end-clause-noted g c = λ _.
     let A = g.A.PathAlgebra.meaning c.args.algebra in
     let was = c.loop-step.invariant in
-    let step : Proceeds g.A.PathAlgebra.order A c.in_ok-step.step c.loop-step.search c.settle_next.new.self =
-    subst (λ a. Proceeds g.A.PathAlgebra.order (g.A.PathAlgebra.meaning a) c.in_ok-step.step c.loop-step.search c.settle_next.new.self) was.algebra c.in_ok-step.ensures in
+    let step = by_equal g.A.PathAlgebra.meaning was.algebra c.in_ok-step.ensures in
     let end : is_end c.in_ok-step.step ≡ true = sym c.is_end.ensures ∙ c.if-is_end.true in
     (all_found A c.laws_hold.ensures.lawful c.args.graph.now c.holds.ensures c.args.sources.now c.requires.sources g.A.PathAlgebra.order c.laws_hold.ensures.order
     c.loop-step.search c.settle_next.new.self was.graph was.between c.loop-step.reached.items was.listed c.in_ok-step.step end step).3
@@ -89,8 +83,7 @@ pub returns-then-is_due-clause-settled : goal.returns-then-is_due-clause-settled
 returns-then-is_due-clause-settled g c = λ _.
     let A = g.A.PathAlgebra.meaning c.args.algebra in
     let was = c.loop-step.invariant in
-    let step : Proceeds g.A.PathAlgebra.order A c.in_ok-step.step c.loop-step.search c.settle_next.new.self =
-    subst (λ a. Proceeds g.A.PathAlgebra.order (g.A.PathAlgebra.meaning a) c.in_ok-step.step c.loop-step.search c.settle_next.new.self) was.algebra c.in_ok-step.ensures in
+    let step = by_equal g.A.PathAlgebra.meaning was.algebra c.in_ok-step.ensures in
     let more : is_end c.in_ok-step.step ≡ false = sym c.is_end.ensures ∙ c.if-is_end.false in
     let listed : AreListed A.no_worse c.args.graph.now c.settle_next.new.self.marks c.settle_next.new.self.settled c.note.new.reached.items = rw c.in_ok-note.ensures
     (listed_next A c.laws_hold.ensures.lawful c.args.graph.now c.holds.ensures c.args.sources.now c.requires.sources g.A.PathAlgebra.order c.laws_hold.ensures.order

@@ -1,8 +1,7 @@
-use Rattle.std.proofs.Common.{◌≡◌, ◌∙◌, sym, subst, false}
-use Rattle.tree_search.specs.Searching.{Proceeds, is_end}
-use Rattle.tree_search.specs.declared.step.Step.TheVariants.{Ended}
+use Rattle.std.proofs.Common.{◌≡◌, ◌∙◌, sym, false}
+use Rattle.tree_search.specs.Searching.{is_end}
 use Rattle.tree_search.proofs.Listing.{started}
-use Rattle.tree_search.proofs.Steps.{next_round, last_step, last_round, comes_nearer}
+use Rattle.tree_search.proofs.Steps.{by_equal, next_round, last_round, comes_nearer}
 use Rattle.tree_search.proofs.solve.solve_in_one_search.Goals as goal
 
 pub loop-search-init : goal.loop-search-init
@@ -20,8 +19,7 @@ pub loop-search-preserved : goal.loop-search-preserved
 loop-search-preserved g c =
     let A = g.A.PathAlgebra.meaning c.args.algebra in
     let was = c.loop-search.invariant in
-    let step : Proceeds g.A.PathAlgebra.order A c.in_ok-step.step c.loop-search.search c.settle_next.new.self =
-    subst (λ a. Proceeds g.A.PathAlgebra.order (g.A.PathAlgebra.meaning a) c.in_ok-step.step c.loop-search.search c.settle_next.new.self) was.algebra c.in_ok-step.ensures in
+    let step = by_equal g.A.PathAlgebra.meaning was.algebra c.in_ok-step.ensures in
     let more : is_end c.in_ok-step.step ≡ false = sym c.is_end.ensures ∙ c.if-is_end.false in
     record {
       algebra = step.algebra ∙ was.algebra;
@@ -34,8 +32,7 @@ pub loop-search-smaller : goal.loop-search-smaller
 loop-search-smaller g c =
     let A = g.A.PathAlgebra.meaning c.args.algebra in
     let was = c.loop-search.invariant in
-    let step : Proceeds g.A.PathAlgebra.order A c.in_ok-step.step c.loop-search.search c.settle_next.new.self =
-    subst (λ a. Proceeds g.A.PathAlgebra.order (g.A.PathAlgebra.meaning a) c.in_ok-step.step c.loop-search.search c.settle_next.new.self) was.algebra c.in_ok-step.ensures in
+    let step = by_equal g.A.PathAlgebra.meaning was.algebra c.in_ok-step.ensures in
     let more : is_end c.in_ok-step.step ≡ false = sym c.is_end.ensures ∙ c.if-is_end.false in
     comes_nearer A c.laws_hold.ensures.lawful g.A.PathAlgebra.order c.laws_hold.ensures.order c.args.graph.now c.holds.ensures c.args.sources.now c.requires
     c.loop-search.search c.settle_next.new.self was.graph was.between c.in_ok-step.step more step
@@ -44,37 +41,22 @@ pub into_labels_and_tree-requires-after_bounds : goal.into_labels_and_tree-requi
 into_labels_and_tree-requires-after_bounds g c κs within =
     let A = g.A.PathAlgebra.meaning c.args.algebra in
     let was = c.loop-search.invariant in
-    let step : Proceeds g.A.PathAlgebra.order A c.in_ok-step.step c.loop-search.search c.settle_next.new.self =
-    subst (λ a. Proceeds g.A.PathAlgebra.order (g.A.PathAlgebra.meaning a) c.in_ok-step.step c.loop-search.search c.settle_next.new.self) was.algebra c.in_ok-step.ensures in
-    let here = last_step A c.laws_hold.ensures.lawful g.A.PathAlgebra.order c.laws_hold.ensures.order c.args.graph.now c.holds.ensures c.args.sources.now c.requires
-    c.loop-search.search c.settle_next.new.self was.graph was.between c.in_ok-step.step (sym c.is_end.ensures ∙ c.if-is_end.true) in
-    let last : Proceeds g.A.PathAlgebra.order A Ended c.loop-search.search c.settle_next.new.self =
-    subst (λ s. Proceeds g.A.PathAlgebra.order A s c.loop-search.search c.settle_next.new.self) here step in
+    let step = by_equal g.A.PathAlgebra.meaning was.algebra c.in_ok-step.ensures in
     (last_round A c.laws_hold.ensures.lawful g.A.PathAlgebra.order c.laws_hold.ensures.order c.args.graph.now c.holds.ensures c.args.sources.now c.requires
-    c.loop-search.search c.settle_next.new.self was.graph was.between last).2
+    c.loop-search.search c.settle_next.new.self was.graph was.between c.in_ok-step.step (sym c.is_end.ensures ∙ c.if-is_end.true) step).2
 
 pub returns-then-is_end-clause-labels : goal.returns-then-is_end-clause-labels
 returns-then-is_end-clause-labels g c =
     let A = g.A.PathAlgebra.meaning c.args.algebra in
     let was = c.loop-search.invariant in
-    let step : Proceeds g.A.PathAlgebra.order A c.in_ok-step.step c.loop-search.search c.settle_next.new.self =
-    subst (λ a. Proceeds g.A.PathAlgebra.order (g.A.PathAlgebra.meaning a) c.in_ok-step.step c.loop-search.search c.settle_next.new.self) was.algebra c.in_ok-step.ensures in
-    let here = last_step A c.laws_hold.ensures.lawful g.A.PathAlgebra.order c.laws_hold.ensures.order c.args.graph.now c.holds.ensures c.args.sources.now c.requires
-    c.loop-search.search c.settle_next.new.self was.graph was.between c.in_ok-step.step (sym c.is_end.ensures ∙ c.if-is_end.true) in
-    let last : Proceeds g.A.PathAlgebra.order A Ended c.loop-search.search c.settle_next.new.self =
-    subst (λ s. Proceeds g.A.PathAlgebra.order A s c.loop-search.search c.settle_next.new.self) here step in
+    let step = by_equal g.A.PathAlgebra.meaning was.algebra c.in_ok-step.ensures in
     rw c.into_labels_and_tree.ensures.labels (last_round A c.laws_hold.ensures.lawful g.A.PathAlgebra.order c.laws_hold.ensures.order c.args.graph.now c.holds.ensures c.args.sources.now c.requires
-    c.loop-search.search c.settle_next.new.self was.graph was.between last).0
+    c.loop-search.search c.settle_next.new.self was.graph was.between c.in_ok-step.step (sym c.is_end.ensures ∙ c.if-is_end.true) step).0
 
 pub returns-then-is_end-clause-tree : goal.returns-then-is_end-clause-tree
 returns-then-is_end-clause-tree g c =
     let A = g.A.PathAlgebra.meaning c.args.algebra in
     let was = c.loop-search.invariant in
-    let step : Proceeds g.A.PathAlgebra.order A c.in_ok-step.step c.loop-search.search c.settle_next.new.self =
-    subst (λ a. Proceeds g.A.PathAlgebra.order (g.A.PathAlgebra.meaning a) c.in_ok-step.step c.loop-search.search c.settle_next.new.self) was.algebra c.in_ok-step.ensures in
-    let here = last_step A c.laws_hold.ensures.lawful g.A.PathAlgebra.order c.laws_hold.ensures.order c.args.graph.now c.holds.ensures c.args.sources.now c.requires
-    c.loop-search.search c.settle_next.new.self was.graph was.between c.in_ok-step.step (sym c.is_end.ensures ∙ c.if-is_end.true) in
-    let last : Proceeds g.A.PathAlgebra.order A Ended c.loop-search.search c.settle_next.new.self =
-    subst (λ s. Proceeds g.A.PathAlgebra.order A s c.loop-search.search c.settle_next.new.self) here step in
+    let step = by_equal g.A.PathAlgebra.meaning was.algebra c.in_ok-step.ensures in
     rw c.into_labels_and_tree.ensures.tree (last_round A c.laws_hold.ensures.lawful g.A.PathAlgebra.order c.laws_hold.ensures.order c.args.graph.now c.holds.ensures c.args.sources.now c.requires
-    c.loop-search.search c.settle_next.new.self was.graph was.between last).1
+    c.loop-search.search c.settle_next.new.self was.graph was.between c.in_ok-step.step (sym c.is_end.ensures ∙ c.if-is_end.true) step).1

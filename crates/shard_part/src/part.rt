@@ -108,22 +108,8 @@ impl<'g, A: PathAlgebra> Part<'g, A> {
         ensures shard { self.new.shard ≡ self.old.shard }
         ensures events { RunsOn A.meaning self.old result self.new }
     {
-        self.state.note_outgoing();
-        self.go_on_within(budget, limit, ahead)
-    }
-
-    /// The same, once it is noted what waits for other shards.
-    fn go_on_within(&mut self, budget: u32, limit: Option<A::Value>, ahead: Option<u32>) -> u32
-        ensures budget { result ≤ budget }
-        ensures all { (result ≡ budget) ⊎ ((self.new.queue ≡ []) ⊎
-            (IsHeldBack A.order limit self.new ⊎ RunsAhead (A.meaning self.old.setup.diffusion.algebra) ahead self.new)) }
-        ensures within { HandledWithin A.meaning limit self.old result self.new }
-        ensures taken { HandledMany A.meaning self.old result self.new }
-        ensures setup { self.new.setup ≡ self.old.setup }
-        ensures shard { self.new.shard ≡ self.old.shard }
-        ensures events { RunsOn A.meaning self.old result self.new }
-    {
         laws_hold(self.state.algebra());
+        self.state.note_outgoing();
         for taken in 0..budget {
             if self.is_held(limit) {
                 return taken;

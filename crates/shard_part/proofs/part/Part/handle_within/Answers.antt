@@ -1,8 +1,11 @@
-use Rattle.std.proofs.Common.{arith, ◌≡◌, refl, sym, subst, inr}
+use Rattle.std.proofs.Common.{arith, ◌≡◌, ◌∙◌, [], refl, sym, subst, inr}
 use Rattle.shard_part.specs.Part.{HandledMany, HandledWithin, RunsAhead}
 use Rattle.shard_part.proofs.TakenCounts.{handled_many_same, many_run}
 use Rattle.shard_part.proofs.Within.{many_of, next_within}
-use Rattle.shard_part.proofs.part.Part.go_on_within.Goals as goal
+use Rattle.shard_part.proofs.part.Part.handle_within.Goals as goal
+
+pub loop-taken-init : goal.loop-taken-init
+loop-taken-init g c = ([], refl, sym (c.note_outgoing.ensures ∙ c.self.view_is))
 
 pub loop-taken-preserved : goal.loop-taken-preserved
 loop-taken-preserved g c =

@@ -1,5 +1,5 @@
 use Rattle.shard_part.specs.Part.{HandledWithin}
-use Rattle.shard_part.proofs.part.Part.go_on_within.Given as goal
+use Rattle.shard_part.proofs.part.Part.handle_within.Given as goal
 
 abbrev pub invariant-loop-taken : goal.invariant-loop-taken
-invariant-loop-taken g l = HandledWithin g.A.PathAlgebra.meaning l.limit l.initial.self l.taken l.self
+invariant-loop-taken g l = HandledWithin g.A.PathAlgebra.meaning l.limit l.fn.self l.taken l.self

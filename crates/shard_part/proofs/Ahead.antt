@@ -1,16 +1,22 @@
 -- Whether a part has run ahead of what it has sent.
-use Rattle.std.proofs.Common.{◌≡◌, ◌≢◌, ◌⊎◌, ℕ, ◌<◌, Option, Some, None, IfSome, List, [], length, map, get_or, sym, ap, ◌∙◌, subst, inl, inr}
-use Rattle.std.specs.Prelude.{Contains}
+use Rattle.std.proofs.Common.{◌≡◌, ◌≢◌, ℕ, ◌<◌, Bool, true, false, Option, Some, None, IfSome, List, [], length, map, get_or, sym, ap, ◌∙◌, subst}
+use Rattle.std.specs.Prelude.{Contains, if◌then◌else◌}
+use Rattle.path_algebra.specs.Walks.{better_label}
 use Rattle.scholten_core.specs.declared.item.Item.{Item}
 use Rattle.scholten_core.specs.declared.item.Item.TheVariants.{Message as MessageOn}
 use Rattle.shard_part.specs.PartState.{PartData}
 use Rattle.shard_part.specs.Part.{IsOutgoing, IsOutgoingTo}
 use Rattle.shard_part.proofs.Rings.{map_read}
 
--- what holds of the values of two options holds of the one that was chosen
-pub either_kept : {V : Type 0} (P : V → Type 0) (r a b : Option V) → IfSome a P → IfSome b P → (r ≡ a) ⊎ (r ≡ b) → IfSome r P
-either_kept P r a b h k (inl e) = subst (λ o. IfSome o P) (sym e) h
-either_kept P r a b h k (inr e) = subst (λ o. IfSome o P) (sym e) k
+-- what holds of two labels holds of the better one
+pub better_kept : {V : Type 0} (P : V → Type 0) (no_worse : V → V → Bool) (l o : Option V) → IfSome l P → IfSome o P → IfSome (better_label no_worse l o) P
+better_kept P no_worse l None h k = h
+better_kept P no_worse None (Some z) h k = k
+better_kept {V} P no_worse (Some y) (Some z) h k = go (no_worse y z)
+  where
+    go : (b : Bool) → P (if b then y else z)
+    go true = h
+    go false = k
 
 -- a value of a message in the ring at an index is that of one in the outbox
 pub in_outbox : {S V X : Type 0} (p : PartData S V) (its : X → List (Item V)) (rs : List X) (to : ℕ) (x : X) (o : Option V) → map its rs ≡ p.outs → to < length rs → x ≡ get_or rs to x

@@ -1,10 +1,10 @@
 //! Whether a part has run ahead of what it has sent.
-ghost use Rattle.std.specs.Prelude.{◌≡◌, ◌⊎◌, ℕ, ◌<◌, length, IsTrue, IfSome, Contains};
+ghost use Rattle.std.specs.Prelude.{◌≡◌, ℕ, ◌<◌, length, IsTrue, IfSome, Contains};
 ghost use Rattle.scholten_core.specs.declared.item.Item.TheVariants.{Message as MessageOn};
 ghost use Rattle.shard_part.specs.Part.{IsOutgoing, IsOutgoingTo, IsAheadOfSent};
 
 use crate::state::PartState;
-use path_algebra::PathAlgebra;
+use path_algebra::{PathAlgebra, better_label};
 use scholten_core::Item;
 use shard_store::{Batch, Shard};
 
@@ -50,7 +50,7 @@ impl<'g, A: PathAlgebra> PartState<'g, A> {
         let mut best = None;
         for to in 0..self.plan.shards() {
             if Shard(to) != self.shard {
-                best = better::<A>(best, self.best_outgoing(Shard(to)));
+                best = better_label::<A>(best, self.best_outgoing(Shard(to)));
             }
         }
         best
@@ -71,7 +71,7 @@ fn best_in<A: PathAlgebra>(batch: &Batch<A::Value>) -> Option<A::Value>
 {
     let mut best = None;
     for index in 0..batch.len() {
-        best = better::<A>(best, value_at::<A>(batch, index));
+        best = better_label::<A>(best, value_at::<A>(batch, index));
     }
     best
 }
@@ -83,19 +83,5 @@ fn value_at<A: PathAlgebra>(batch: &Batch<A::Value>, index: usize) -> Option<A::
     match batch.get(index) {
         Some(Item::Message { value, .. }) => Some(value),
         _ => None,
-    }
-}
-
-/// The better of two values, as far as there are any.
-pub(super) fn better<A: PathAlgebra>(
-    one: Option<A::Value>,
-    other: Option<A::Value>,
-) -> Option<A::Value>
-    ensures { (result ≡ one) ⊎ (result ≡ other) }
-{
-    match (one, other) {
-        (Some(a), Some(b)) => { if A::no_worse(a, b) { one } else { other } }
-        (Some(_), None) => one,
-        (None, _) => other,
     }
 }

@@ -10,8 +10,7 @@ ghost use Rattle.shard_part.specs.LocalInvariant.{IsClear};
 ghost use Rattle.shard_part.specs.Moves.{IsPlace, IsArcRow, IsArcOut, MaySend, put_item, counted_made, with_item, with_message, offered, offered_all};
 
 use crate::state::PartState;
-use crate::state::ahead::better;
-use path_algebra::PathAlgebra;
+use path_algebra::{PathAlgebra, better_label};
 use road_graph::{ArcNo, OutRoad};
 use scholten_core::{Item, extended, is_same};
 use shard_store::{ArcPlace, Shard, VertexPlace};
@@ -157,7 +156,7 @@ impl<'g, A: PathAlgebra> PartState<'g, A> {
     {
         if let Item::Message { value, .. } = item {
             if to != self.shard {
-                self.best_sent = better::<A>(self.best_sent, Some(value));
+                self.best_sent = better_label::<A>(self.best_sent, Some(value));
             }
         }
     }

@@ -6,16 +6,6 @@ use Rattle.path_algebra.specs.Algebra.{Algebra, IsOrder}
 use Rattle.path_algebra.specs.Walks.{better_label}
 use Rattle.post_floor.specs.Hints.{IsAsGood, IsShown, IsBestShown}
 
--- what holds of two values holds of the better one
-pub better_kept : {V : Type 0} (P : V → Type 0) (no_worse : V → V → Bool) (l o : Option V) → IfSome l P → IfSome o P → IfSome (better_label no_worse l o) P
-better_kept P no_worse l None h k = h
-better_kept P no_worse None (Some z) h k = k
-better_kept {V} P no_worse (Some y) (Some z) h k = go (no_worse y z)
-  where
-    go : (b : Bool) → P (if b then y else z)
-    go true = h
-    go false = k
-
 module _ {V : Type 0} (A : Algebra V) (ordered : IsOrder A.no_worse) (shows : ℕ → ℕ → Type 0) (own : ℕ) where
   abbrev IsShownBelow : ℕ → V → Type 0
   IsShownBelow n x = (shard : ℕ) × (shard < n) × (shard ≢ own) × IsShown A shows shard (Some x)

@@ -25,7 +25,7 @@ mod Within
 mod TakenShown
 mod Opened
 mod Receiving
-mod Ahead
+pub mod Ahead
 mod WalkEnds
 mod BatchFits
 mod TablesOpen

@@ -3,7 +3,8 @@
 use Rattle.std.proofs.Common.{◌≡◌, ℕ, List, [], ◌∷◌, sym, ap, ◌∙◌, subst, get_or}
 use Rattle.std.proofs.lemmas.Option.{same_Some}
 use Rattle.std.specs.Prelude as std
-use Rattle.atomic_table.specs.Seated.{TableId}
+use Rattle.atomic_table.specs.declared.shared.Seat.{Seat}
+use Rattle.atomic_table.specs.declared.shared.Shared.{Shared}
 use Rattle.atomic_table.specs.Table.{Me, rest}
 use Rattle.circular_buffer.specs.Buffer.{Buffer, buffer}
 use Rattle.path_algebra.specs.Algebra.{Algebra}
@@ -45,20 +46,22 @@ made_here p [] to a = tt
 made_here p (i ∷ xs) to a = (a.0.1, made_here p xs to a.1)
 
 -- the outbox of p is in the slot
-pub publishing : {S V : Type 0} {meaning : S → Algebra V} {id pass pass' : TableId} {t : SetupData S} {k to : ℕ} {p q : PartData S V}
-    (m m' : Me (Slot V) (View S V)) {x : Slot V} {b b' : Buffer (Item V)}
-    → AtTable meaning id t pass m.0 p → p.setup ≡ t → IsBetween t.plan.shards p.shard to k → LocalInvariant (network_of p.setup) (place_in p.setup) p → HasEmpty t k m → pass' ≡ pass
-    → q ≡ published_to to p → m.1 ≡ (k, x) ∷ rest m.1 → x ≡ std.Some b → b' ≡ buffer (get_or p.outs to []) b.capacity → m'.0 ≡ m.0 → m'.1 ≡ (k, std.Some b') ∷ rest m'.1
-    → Publishing meaning id t pass' k q m'
-publishing {S} {V} {meaning} {id} {pass} {pass'} {t} {k} {to} {p} {q} m m' {x} {b} {b'} at is between sound empty same left found some swapped view slot =
-    let was : std.Some b ≡ empty_slot t k = sym some ∙ found_is k k x (empty_slot t k) m.1 found empty in
+pub publishing : {S V P : Type 0} {meaning : S → Algebra V} {table : Shared (Slot V) (View S V) (SetupData S) P} {k to : ℕ} {p q : PartData S V}
+    (pass pass' : Seat (Slot V) (View S V)) {x : Slot V} {b b' : Buffer (Item V)}
+    → AtTable meaning table.table_id table.key pass.table_id pass.me.0 p → p.setup ≡ table.key → IsBetween table.key.plan.shards p.shard to k
+    → LocalInvariant (network_of p.setup) (place_in p.setup) p → HasEmpty table.key k pass.me → pass'.table_id ≡ pass.table_id
+    → q ≡ published_to to p → pass.me.1 ≡ (k, x) ∷ rest pass.me.1 → x ≡ std.Some b → b' ≡ buffer (get_or p.outs to []) b.capacity
+    → pass'.me.0 ≡ pass.me.0 → pass'.me.1 ≡ (k, std.Some b') ∷ rest pass'.me.1 → Publishing meaning table pass' k q
+publishing {S} {V} {P} {meaning} {table} {k} {to} {p} {q} pass pass' {x} {b} {b'} at is between sound empty same left found some swapped view slot =
+    let t = table.key in
+    let was : std.Some b ≡ empty_slot t k = sym some ∙ found_is k k x (empty_slot t k) pass.me.1 found empty in
     let room : b.capacity ≡ mailbox_capacity t k = ap (λ (z : Buffer (Item V)). z.capacity) (same_Some b (buffer [] (mailbox_capacity t k)) was) in
     let to_is : to ≡ dest t.plan.shards k = sym between.leads_to in
     let b_is : b' ≡ buffer (get_or p.outs (dest t.plan.shards k) []) (mailbox_capacity t k) = swapped ∙ (λ i. buffer (get_or p.outs (to_is i) []) (room i)) in record {
       d = p;
       at = record { sized = at.sized; own = same ∙ at.own; moved = subst (λ (v : View S V). ViewLags meaning v p) (sym view) at.moved };
       left = left ∙ ap (λ z. published_to z p) to_is;
-      slot = slot ∙ (λ i. (k, std.Some (b_is i)) ∷ rest m'.1);
+      slot = slot ∙ (λ i. (k, std.Some (b_is i)) ∷ rest pass'.me.1);
       made = subst (λ (z : ℕ × ℕ). MadeAt t z.0 (get_or p.outs z.1 [])) (λ i. (sym between.comes_from i, to_is i))
           (subst (λ (u : SetupData S). MadeAt u p.shard (get_or p.outs to [])) is (made_here p (get_or p.outs to []) to (sound.gone to)));
     }

@@ -4,7 +4,9 @@ use Rattle.std.specs.Prelude as std
 use mathlib.Core.Option.{some}
 use lib.ListN.{get_elem?}
 use Rattle.atomic_table.specs.Seated.{TableId}
-use Rattle.atomic_table.specs.Table.{Me, rest}
+use Rattle.atomic_table.specs.Table.{rest}
+use Rattle.atomic_table.specs.declared.shared.Seat.{Seat}
+use Rattle.atomic_table.specs.declared.shared.Shared.{Shared}
 use Rattle.circular_buffer.specs.Buffer.{buffer}
 use Rattle.path_algebra.specs.Algebra.{Algebra}
 use Rattle.shard_store.specs.Setup.{SetupData, IsPlanned}
@@ -45,14 +47,23 @@ pub record AtTable {S V : Type 0} (meaning : S → Algebra V) (id : TableId) (t 
   pub own : pass ≡ id
   pub moved : ViewLags meaning v p
 
+-- a step is made of the part: it names the part alone, and the part is at the table
+pub record MakesStep {S V P : Type 0} (meaning : S → Algebra V) (table : Shared (Slot V) (View S V) (SetupData S) P) (pass : Seat (Slot V) (View S V)) (named : List (PartData S V)) (p : PartData S V) : Type 0 where
+  pub told : named ≡ p ∷ []
+  pub at : AtTable meaning table.table_id table.key pass.table_id pass.me.0 p
+
+-- it is the same pass of the same table
+abbrev pub IsSamePass : {X Y : Type 0} → Seat X Y → Seat X Y → Type 0
+IsSamePass old new = (new.table_id ≡ old.table_id) × (new.id ≡ old.id)
+
 -- The part d is at the table, and e is what is left of it: the slot k was taken last, and has what
 -- d had for the mailbox's shard.
-pub record Publishing {S V : Type 0} (meaning : S → Algebra V) (id : TableId) (t : SetupData S) (pass : TableId) (k : ℕ) (e : PartData S V) (m : Me (Slot V) (View S V)) : Type 0 where
+pub record Publishing {S V P : Type 0} (meaning : S → Algebra V) (table : Shared (Slot V) (View S V) (SetupData S) P) (pass : Seat (Slot V) (View S V)) (k : ℕ) (e : PartData S V) : Type 0 where
   pub d : PartData S V
-  pub at : AtTable meaning id t pass m.0 d
-  pub left : e ≡ published_to (dest t.plan.shards k) d
-  pub slot : m.1 ≡ (k, std.Some (buffer (get_or d.outs (dest t.plan.shards k) []) (mailbox_capacity t k))) ∷ rest m.1
-  pub made : MadeAt t (origin t.plan.shards k) (get_or d.outs (dest t.plan.shards k) [])
+  pub at : AtTable meaning table.table_id table.key pass.table_id pass.me.0 d
+  pub left : e ≡ published_to (dest table.key.plan.shards k) d
+  pub slot : pass.me.1 ≡ (k, std.Some (buffer (get_or d.outs (dest table.key.plan.shards k) []) (mailbox_capacity table.key k))) ∷ rest pass.me.1
+  pub made : MadeAt table.key (origin table.key.plan.shards k) (get_or d.outs (dest table.key.plan.shards k) [])
 
 -- the parts of the first n shards of a diffusion, in order, as they are opened
 abbrev pub first_parts : {S V : Type 0} → (S → Algebra V) → SetupData S → ℕ → List (PartData S V)

@@ -4,7 +4,7 @@ ghost use Rattle.atomic_table.specs.Table.{rest};
 ghost use Rattle.post_floor.specs.Boxes.{box_count, dest, origin, IsBetween};
 ghost use Rattle.post_floor.specs.Floor.{fill_claims};
 ghost use Rattle.post_floor.specs.Plays.{IsNextFill, IsNextRead, HasEmpty, PublishOutcome, published_to, BatchOutcome};
-ghost use Rattle.post_floor.specs.Data.{AtTable};
+ghost use Rattle.post_floor.specs.Data.{AtTable, IsSamePass};
 
 use crate::mailbox::FULL;
 use crate::steps::{publish_word, read_word};
@@ -30,7 +30,7 @@ pub(crate) fn publish_batch<A: PathAlgebra>(
     requires next { IsNextFill table.now.key.plan.shards part.old.shard to word pass.old.me.0 }
     requires claim { 0 < fill_claims word pass.old.me.0 }
     requires held { HasEmpty table.now.key word pass.old.me }
-    ensures pass { (pass.new.table_id ≡ pass.old.table_id) × (pass.new.id ≡ pass.old.id) }
+    ensures pass { IsSamePass pass.old pass.new }
     ensures part { part.new ≡ published_to to part.old }
     ensures told { PublishOutcome to part.new word pass.old.me.0 pass.new.me.0 ×
         (pass.new.me.1 ≡ rest pass.old.me.1) }
@@ -60,7 +60,7 @@ pub(crate) fn read_batch<A: PathAlgebra>(
     requires from { origin table.now.key.plan.shards word ≢ part.old.shard }
     requires next { IsNextRead table.now.key.plan.shards (origin table.now.key.plan.shards word)
         part.old.shard word pass.old.me.0 }
-    ensures pass { (pass.new.table_id ≡ pass.old.table_id) × (pass.new.id ≡ pass.old.id) }
+    ensures pass { IsSamePass pass.old pass.new }
     ensures told { BatchOutcome A.meaning result part.old part.new word pass.old.me pass.new.me }
 {
     if read_word::<A, Brand>(table, pass, part, word) != FULL {

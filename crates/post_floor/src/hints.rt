@@ -106,6 +106,7 @@ impl Hints {
 }
 
 /// How far a shard may run ahead of the first `shards` shards, by what a source shows of them.
+/// `Floor::limit` asks its own words; this is public, since its promise speaks of any source.
 pub fn limit_by<A: PathAlgebra, H: HintSource>(
     hints: &H,
     algebra: A,

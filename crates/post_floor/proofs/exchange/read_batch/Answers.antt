@@ -1,10 +1,13 @@
-use Rattle.std.proofs.Common.{◌≡◌, ◌∷◌, ◌∙◌, ap, sym, subst, arith}
+use Rattle.std.proofs.Common.{◌≡◌, ◌∷◌, ◌∙◌, ap, refl, sym, subst, arith}
 use Rattle.shard_part.specs.Arriving.{joined}
 use Rattle.post_floor.specs.Floor.{empty_slot}
 use Rattle.post_floor.specs.Plays.{StepsTo, HoldsReachedShare, at_word, begin_read}
 use Rattle.std.proofs.lemmas.Grind.{common_steps}
 use Rattle.post_floor.proofs.Called.{first_is, has_now}
 use Rattle.post_floor.proofs.exchange.read_batch.Goals as goal
+
+pub read_word-requires-clause-step : goal.read_word-requires-clause-step
+read_word-requires-clause-step g c κs within = record { told = refl; at = c.requires.at }
 
 pub exchange-requires : goal.exchange-requires
 exchange-requires g c = let t = c.read_word.ensures.told.0 c.if-read_word-ne-FULL.false in (c.read_word.ensures.pass.0 ∙ c.requires.at.own, (_, first_is _ _ _ t.2))

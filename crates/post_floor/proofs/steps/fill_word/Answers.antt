@@ -6,10 +6,10 @@ use Rattle.post_floor.proofs.steps.fill_word.Goals as goal
 pub compare_exchange-requires : goal.compare_exchange-requires
 compare_exchange-requires g c =
     let laws = g.met.A.PathAlgebra g.world.𝓛 g.world.𝓜 g.world.𝓡 ((λ s x. x), (λ x. x), (λ x. x), λ x. x) in
-    let t = c.args.table.now.key in let (b, items, sh, T) = c.requires.at.moved in (
-      c.requires.at.own,
-      omega (arith, c.requires.at.sized.words, c.requires.word),
+    let t = c.args.table.now.key in let (b, items, sh, T) = c.requires.step.at.moved in (
+      c.requires.step.at.own,
+      omega (arith, c.requires.step.at.sized.words, c.requires.word),
       λ s r _ at _.
-          let q = begins_fill g.A.PathAlgebra.meaning t laws.lawful (formed t c.requires.at.sized.planned) s r _ c.args.word c.args.pass.now.me b c.args.part.now items T at sh c.requires.word
-          c.requires.next in (q.0, q.1, q.2, q.3, all_told _ c.requires.told q.4),
+          let q = begins_fill g.A.PathAlgebra.meaning t laws.lawful (formed t c.requires.step.at.sized.planned) s r _ c.args.word c.args.pass.now.me b c.args.part.now items T at sh c.requires.word
+          c.requires.next in (q.0, q.1, q.2, q.3, all_told _ c.requires.step.told q.4),
     )

@@ -2,8 +2,8 @@ use Rattle.std.proofs.Common.{refl}
 use Rattle.post_floor.proofs.Seated.{seated, still, placed}
 use Rattle.post_floor.proofs.floor.Floor.announce.Goals as goal
 
-pub announce_word-requires-clause-at : goal.announce_word-requires-clause-at
-announce_word-requires-clause-at g c κs within = (seated c.self.view_is c.seat.view_is c.self.invariant c.seat.invariant c.requires.at).at
+pub announce_word-requires-clause-step : goal.announce_word-requires-clause-step
+announce_word-requires-clause-step g c κs within = record { told = refl; at = (seated c.self.view_is c.seat.view_is c.self.invariant c.seat.invariant c.requires.at).at }
 
 pub returns-clause-at : goal.returns-clause-at
 returns-clause-at g c =

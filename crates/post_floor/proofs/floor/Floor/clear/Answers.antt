@@ -1,4 +1,4 @@
-use Rattle.std.proofs.Common.{◌<◌, arith, ◌∙◌, ap, sym, subst}
+use Rattle.std.proofs.Common.{◌<◌, arith, ◌∙◌, ap, refl, sym, subst}
 use Rattle.post_floor.specs.Boxes.{empty, origin}
 use Rattle.post_floor.specs.Floor.{read_claims}
 use Rattle.post_floor.specs.Plays.{at_word, end_read, ClearOutcome}
@@ -27,9 +27,11 @@ rotate_to-requires-clause-claim g c κs within =
     let box = c.word_of-word.ensures.number ∙ z.reads c.args.from c.index-slot.result.now row.0 in
     read_ring z box c.requires.claim
 
-pub clear_word-requires-clause-at : goal.clear_word-requires-clause-at
-clear_word-requires-clause-at g c κs within =
-    still_at (seated c.self.view_is c.seat.view_is c.self.invariant c.seat.invariant c.requires.at) c.rotate_to.ensures.pass.0 c.rotate_to.ensures.pass.2
+pub clear_word-requires-clause-step : goal.clear_word-requires-clause-step
+clear_word-requires-clause-step g c κs within = record {
+  told = refl;
+  at = still_at (seated c.self.view_is c.seat.view_is c.self.invariant c.seat.invariant c.requires.at) c.rotate_to.ensures.pass.0 c.rotate_to.ensures.pass.2;
+}
 
 pub clear_word-requires-clause-slot : goal.clear_word-requires-clause-slot
 clear_word-requires-clause-slot g c κs within =

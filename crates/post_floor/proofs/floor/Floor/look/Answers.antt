@@ -5,8 +5,8 @@ use Rattle.post_floor.specs.Boxes.{done_now}
 use Rattle.post_floor.proofs.Seated.{seated, still, placed}
 use Rattle.post_floor.proofs.floor.Floor.look.Goals as goal
 
-pub look_word-requires-clause-at : goal.look_word-requires-clause-at
-look_word-requires-clause-at g c κs within = (seated c.self.view_is c.seat.view_is c.self.invariant c.seat.invariant c.requires.at).at
+pub look_word-requires-clause-step : goal.look_word-requires-clause-step
+look_word-requires-clause-step g c κs within = record { told = refl; at = (seated c.self.view_is c.seat.view_is c.self.invariant c.seat.invariant c.requires.at).at }
 
 pub returns-clause-at : goal.returns-clause-at
 returns-clause-at g c =

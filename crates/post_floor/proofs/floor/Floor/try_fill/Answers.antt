@@ -15,8 +15,8 @@ word_of-word-requires g c =
     let row = slot_at z.fill_slots c.to.view_is (inside z c.args.to c.requires.shard) c.index-slot.ensures in
     (c.self.invariant.2, z.below, inside z c.args.to c.requires.shard, row.1)
 
-pub fill_word-requires-clause-at : goal.fill_word-requires-clause-at
-fill_word-requires-clause-at g c κs within = (seated c.self.view_is c.seat.view_is c.self.invariant c.seat.invariant c.requires.at).at
+pub fill_word-requires-clause-step : goal.fill_word-requires-clause-step
+fill_word-requires-clause-step g c κs within = record { told = refl; at = (seated c.self.view_is c.seat.view_is c.self.invariant c.seat.invariant c.requires.at).at }
 
 pub fill_word-requires-clause-next : goal.fill_word-requires-clause-next
 fill_word-requires-clause-next g c κs within =

@@ -1,7 +1,7 @@
 //! The six steps of a seat: each reads or changes one word of the table, by one atomic operation.
 //!
-//! What a step reports of the seat's part is a type (`plays.rt`), in which a type `W` stands for the
-//! part. A caller passes `Brand` for `W`, and its proof names the part.
+//! What a step reports of the seat's part is a type (`plays.rt`), in which a type `W` stands for
+//! the part. A caller passes `Brand` for `W`, and its proof names the part.
 ghost use Rattle.std.specs.Prelude.{◌≡◌, ◌≢◌, true, ◌<◌, [], ◌∷◌};
 ghost use Rattle.shard_part.specs.Readings.{has_ended};
 ghost use Rattle.post_floor.specs.Boxes.{box_count, dest, origin};

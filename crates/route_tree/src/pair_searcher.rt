@@ -97,8 +97,8 @@ impl<A: PathAlgebra> PairSearcher<A> {
     }
 
     /// The best value of a pair's target over all walks from its source, and the route to it; none
-    /// if no walk has a value. `by_head` has the arcs of the graph by head. The only error is want of
-    /// memory; after it the next call is right too.
+    /// if no walk has a value. `by_head` has the arcs of the graph by head. The only error is want
+    /// of memory; after it the next call is right too.
     pub fn solve(
         &mut self,
         graph: &OutGraph,

@@ -1,6 +1,6 @@
 //! What an elimination makes and does, so that a graph with too many links is not factored.
-ghost use Rattle.std.specs.Prelude.{◌↔◌, IsTrue};
-ghost use Rattle.elimination_order.specs.Bounds.{IsTooDense};
+ghost use Rattle.std.specs.Prelude.{◌≡◌, true, false};
+ghost use Rattle.elimination_order.specs.Bounds.{AreWithinBounds, IsTooDense};
 
 /// Links for each vertex. Road networks make 2 to 6, a wheel 3, twenty hubs over a path 21, a grid
 /// of 512 by 512 makes 34 and one of 1,024 by 1,024 makes 42; a random graph of degree 4 with
@@ -55,7 +55,8 @@ impl Counts {
 
 /// Whether a graph of so many vertices and arcs is too dense by these counts.
 pub(crate) fn is_too_dense(vertices: u32, arcs: u32, counts: Counts) -> bool
-    ensures { IsTrue result ↔ IsTooDense vertices arcs counts }
+    ensures dense { result ≡ true → IsTooDense vertices arcs counts }
+    ensures within { result ≡ false → AreWithinBounds vertices arcs counts }
 {
     let vertices = u64::from(vertices);
     let entries = vertices + u64::from(arcs);

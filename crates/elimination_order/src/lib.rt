@@ -7,9 +7,9 @@
 //! dense rows, vertices with very many neighbours, go last. The order is a postorder of the
 //! assembly tree.
 //!
-//! Any order gives right answers, so nothing is claimed of this one: who uses it checks that it has
-//! each vertex once. The links and triangles that it makes are counted as it comes about, and a
-//! graph with too many is given up.
+//! Any order gives right answers, so of this one it is only claimed that it has each vertex once.
+//! The links and triangles that it makes are counted as it comes about, and a graph with too many is
+//! given up; that the counts are those of the order is not claimed.
 #![tactic(auto)]
 
 mod assembly_tree;
@@ -18,6 +18,7 @@ mod degree_lists;
 mod degree_update;
 mod elimination;
 mod hash_buckets;
+mod listing;
 mod lists;
 mod minimum_degree;
 mod neighbours;

@@ -1,6 +1,7 @@
 //! The order by approximate minimum degree.
-ghost use Rattle.std.specs.Prelude.{IfOk, IfNone, length};
-ghost use Rattle.elimination_order.specs.Bounds.{IsTooDense};
+ghost use Rattle.std.specs.Prelude.{IfOk, IfNone, IfSome, length};
+ghost use Rattle.elimination_order.specs.Bounds.{AreWithinBounds, IsTooDense};
+ghost use Rattle.elimination_order.specs.Orders.{HasEachVertex};
 
 use crate::counts::{Counts, is_too_dense};
 use crate::elimination::Elimination;
@@ -27,7 +28,11 @@ pub struct Ordered {
 /// # Errors
 /// Out of memory.
 pub fn approximate_minimum_degree(alloc: Global, graph: &OutGraph) -> Result<Ordered, Memory>
-    ensures { IfOk result (λ found. IfNone found.order
+    ensures each { IfOk result (λ found. IfSome found.order (λ order. HasEachVertex graph.now.vertices
+        order.items)) }
+    ensures within { IfOk result (λ found. IfSome found.order (λ _.
+        AreWithinBounds graph.now.vertices (length graph.now.arcs) found.counts)) }
+    ensures dense { IfOk result (λ found. IfNone found.order
         (IsTooDense graph.now.vertices (length graph.now.arcs) found.counts)) }
 {
     graph.holds();
@@ -40,7 +45,7 @@ pub fn approximate_minimum_degree(alloc: Global, graph: &OutGraph) -> Result<Ord
             counts,
         });
     }
-    let order = in_postorder(alloc, &elimination)?;
+    let order = in_postorder(alloc, graph.vertices(), &elimination)?;
     Ok(Ordered {
         order: Some(order),
         counts,

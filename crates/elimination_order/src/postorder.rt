@@ -1,8 +1,11 @@
 //! A postorder of the assembly tree: each element after those below it. It makes the same links,
 //! and those that are looked at together lie together.
+ghost use Rattle.std.specs.Prelude.{IfOk};
+ghost use Rattle.elimination_order.specs.Orders.{HasEachVertex};
 
 use crate::assembly_tree::TreeNode;
 use crate::elimination::Elimination;
+use crate::listing::completed;
 use crate::lists::{NONE, at, put, stored};
 use road_graph::{Memory, Vertex};
 use std::alloc::Global;
@@ -130,18 +133,21 @@ fn place(order: &mut [Vertex], k: usize, v: u32) {
     }
 }
 
-/// The vertices in postorder, with those last whose rows are dense.
+/// The vertices 1 to n in postorder, with those last whose rows are dense.
 pub(crate) fn in_postorder(
     alloc: Global,
+    n: u32,
     elimination: &Elimination,
-) -> Result<Vec<Vertex>, Memory> {
+) -> Result<Vec<Vertex>, Memory>
+    ensures { IfOk result (λ order. HasEachVertex n order.items) }
+{
     let eliminated = &elimination.eliminated;
     let tree = &elimination.tree;
     let mut postorder = Postorder::open(alloc, eliminated, tree)?;
     for v in eliminated {
         postorder.count(tree, *v);
     }
-    let mut order = vec![in alloc; Vertex(0); tree.len()]?;
+    let mut order = vec![in alloc; Vertex(0); eliminated.len()]?;
     let mut end = stored(eliminated.len());
     for v in eliminated.iter().rev() {
         if postorder.pivot(*v) == *v {
@@ -155,8 +161,5 @@ pub(crate) fn in_postorder(
         let k = postorder.next_place(*v);
         place(&mut order, k, *v);
     }
-    for (i, v) in elimination.graph.dense.iter().enumerate() {
-        place(&mut order, eliminated.len().saturating_add(i), *v);
-    }
-    Ok(order)
+    completed(alloc, n, &order)
 }

@@ -3,6 +3,7 @@
 -- routing problems (1971): elimination.
 use Rattle.std.specs.Prelude.{◌≡◌, ℕ, ◌<◌, ◌≤◌, ◌-◌, ◌⊎◌, List, [], length, Contains, IsTrue, Some, slice_index, slice_index_or}
 use Rattle.road_graph.specs.GraphData.{GraphData, HasArc, arc_of}
+pub use Rattle.elimination_order.specs.Orders.{HasEachVertex}
 use Rattle.path_algebra.specs.Algebra.{Algebra}
 use Rattle.path_algebra.specs.Composition.{Composition}
 use Rattle.path_algebra.specs.Walks.{IsWalk, Extends}
@@ -60,11 +61,6 @@ CoversArcs C g F =
 abbrev pub IsClosedAt : {V W : Type 0} → Composition V W → FactorData W → ℕ → Type 0
 IsClosedAt {W = W} C F v =
     (x y : ℕ) (a b : W) → Falls F x v a → Rises F v y b → (x ≡ y → ⊥) → LeadsNoWorse C F x y (C.compose a b)
-
--- n entries, among them each of the vertices 1 to n
-pub record HasEachVertex (n : ℕ) (order : List ℕ) : Type 0 where
-  pub count : length order ≡ n
-  pub each : (v : ℕ) → (1 ≤ v) × (v ≤ n) → Contains order v
 
 -- v stands at place i
 abbrev pub Stands : List ℕ → ℕ → ℕ → Type 0

@@ -7,7 +7,6 @@ use crate::order::places_of;
 use crate::outline::outline;
 use crate::packed::PackedRows;
 use crate::weighing::Weighing;
-use elimination_order::approximate_minimum_degree;
 use path_algebra::ComposingAlgebra;
 use road_graph::{Memory, OutGraph, Vertex};
 use std::alloc::{AllocError, Global};
@@ -24,34 +23,21 @@ impl<A: ComposingAlgebra> Factors<A> {
         alloc: Global,
         algebra: A,
         graph: &OutGraph,
-        order: Vec<Vertex>,
+        order: &Vec<Vertex>,
     ) -> Result<Option<Factors<A>>, Memory>
         ensures algebra { IfOk result (λ built. IfSome built (λ f. f.algebra ≡ algebra)) }
         ensures roads { IfOk result (λ built. IfSome built (λ f. f.roads ≡ graph.now)) }
-        ensures order { IfOk result (λ built. IfSome built (λ f. f.factor.order ≡ order.items)) }
+        ensures order { IfOk result (λ built. IfSome built (λ f. f.factor.order ≡ order.now.items)) }
         ensures none { IfOk result (λ built. IfNone built
-            (HasEachVertex graph.now.vertices order.items → ⊥)) }
+            (HasEachVertex graph.now.vertices order.now.items → ⊥)) }
     {
         graph.holds();
-        let Some(places) = places_of(alloc, graph.vertices(), &order)? else {
+        let Some(places) = places_of(alloc, graph.vertices(), order)? else {
             return Ok(None);
         };
         let heads = outline(alloc, graph, &places)?;
         let rows = PackedRows::blank(alloc, heads, algebra.no_walk())?;
-        let order = Arc::new(alloc, Snapshot::of(&order)).map_err(AllocError::from)?;
+        let order = Arc::new(alloc, Snapshot::of(order)).map_err(AllocError::from)?;
         Ok(Some(Weighing::weigh(algebra, graph, order, places, rows)))
-    }
-
-    /// The factor of a graph by the order of `elimination_order`; none if the graph is too dense to
-    /// factor.
-    pub fn of(alloc: Global, algebra: A, graph: &OutGraph) -> Result<Option<Factors<A>>, Memory>
-        ensures algebra { IfOk result (λ built. IfSome built (λ f. f.algebra ≡ algebra)) }
-        ensures roads { IfOk result (λ built. IfSome built (λ f. f.roads ≡ graph.now)) }
-    {
-        let ordered = approximate_minimum_degree(alloc, graph)?;
-        let Some(order) = ordered.order else {
-            return Ok(None);
-        };
-        Factors::build(alloc, algebra, graph, order)
     }
 }

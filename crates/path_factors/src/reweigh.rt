@@ -91,25 +91,11 @@ impl<'g, A: ComposingAlgebra> Weighing<'g, A> {
 
 impl<A: ComposingAlgebra> Factors<A> {
     /// The factor of another graph, by the same order and over the same links: in a fraction of the
-    /// time of `build`, and with no allocation. Weights may change, and arcs may go, come back or
-    /// have others beside them.
+    /// time of `build`. Weights may change, and arcs may go, come back or have others beside them.
+    /// The order is shared, and places and links are copied. The only other error is `Memory`.
     ///
     /// # Errors
     /// The graph has another number of vertices, or an arc where there is no link.
-    pub fn reweigh(self, algebra: A, graph: &OutGraph) -> Result<Factors<A>, Unfit>
-        ensures algebra { IfOk result (λ f. f.algebra ≡ algebra) }
-        ensures roads { IfOk result (λ f. f.roads ≡ graph.now) }
-        ensures order { IfOk result (λ f. f.factor.order ≡ self.factor.order) }
-        ensures fits { IfOk result (λ f. Fits graph.now self) }
-        ensures unfit { IfErr result (λ why. IsReason why graph.now self) }
-        ensures others { IfErr result (λ _. JoinsNoOthers graph.now self.roads → ⊥) }
-    {
-        self.fits(graph)?;
-        Ok(Weighing::weigh(algebra, graph, self.order, self.places, self.rows))
-    }
-
-    /// The same, with these factors left as they are: their order is shared, and places and links
-    /// are copied. The only other error is `Memory`.
     pub fn reweighed(
         &self,
         alloc: Global,

@@ -1,9 +1,10 @@
 //! Values of single vertices, one source after another: by hand, and by all simple walks.
 use crate::factors::order_of;
 use crate::graphs::{FIVE, graph_of};
+use factor_routes::RoadFactors;
 use path_algebra::{Cost, CountedSums, PathAlgebra};
 use path_factors::{Asker, Factors};
-use road_graph::{OutGraph, Vertex};
+use road_graph::{InGraph, OutGraph, Vertex};
 use std::process::Abort;
 
 /// How many low bits hold the arcs.
@@ -100,7 +101,7 @@ fn second_of(
 ) -> Option<u64> {
     let algebra = CountedSums::new(cost, BITS).expect(rt, "bits");
     assert!(rt; graph.has(Vertex(s)) && graph.has(Vertex(t)));
-    let factors = Factors::build(rt.alloc(), algebra, graph, order)
+    let factors = Factors::build(rt.alloc(), algebra, graph, &order)
         .expect(rt, "memory")
         .expect(rt, "an order");
     let mut asker = Asker::new(rt.alloc(), &factors).expect(rt, "memory");
@@ -200,10 +201,8 @@ fn complete(rt: &(impl Abort + AllocGlobal), n: u32) -> Vec<(u32, u32, u32)> {
 /// Whether a graph is factored.
 fn is_factored(rt: &(impl Abort + AllocGlobal), n: u32, arcs: &[(u32, u32, u32)]) -> bool {
     let graph = graph_of(rt, n, arcs);
-    let algebra = CountedSums::new(Cost::One, 12).expect(rt, "bits");
-    Factors::of(rt.alloc(), algebra, graph.outgoing())
-        .expect(rt, "memory")
-        .is_some()
+    let rows = InGraph::of(rt.alloc(), graph.outgoing()).expect(rt, "memory");
+    RoadFactors::of(rt.alloc(), Cost::One, graph.outgoing(), &rows).is_ok()
 }
 
 /// A small complete graph is factored, and a star. A larger complete graph has more than 64 links

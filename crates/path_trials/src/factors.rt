@@ -67,7 +67,7 @@ fn labels_by<A: ComposingAlgebra>(
 ) -> Labels<A::Value> {
     let [a, b, c] = sources;
     assert!(rt; graph.has(a) && graph.has(b) && graph.has(c));
-    let factors = Factors::build(rt.alloc(), algebra, graph, order)
+    let factors = Factors::build(rt.alloc(), algebra, graph, &order)
         .expect(rt, "memory")
         .expect(rt, "an order");
     factors
@@ -227,7 +227,7 @@ fn orders_have_each_vertex(rt: HostRuntime) {
         for v in row {
             order.push(Vertex(v)).expect(&rt, "memory");
         }
-        let built = Factors::build(rt.alloc(), algebra, graph.outgoing(), order);
+        let built = Factors::build(rt.alloc(), algebra, graph.outgoing(), &order);
         assert!(rt; built.expect(&rt, "memory").is_none());
     }
 }

@@ -28,10 +28,11 @@ fn assert_reweighed(
     wanted: &[Option<u64>],
 ) {
     let algebra = CountedSums::new(Cost::Weight, 3).expect(rt, "bits");
-    let factors = Factors::build(rt.alloc(), algebra, other, order)
+    let factors = Factors::build(rt.alloc(), algebra, other, &order)
         .expect(rt, "memory")
         .expect(rt, "an order")
-        .reweigh(algebra, graph)
+        .reweighed(rt.alloc(), algebra, graph)
+        .expect(rt, "memory")
         .expect(rt, "the same arcs");
     assert!(rt; graph.has(Vertex(1)));
     let labels = factors
@@ -123,10 +124,11 @@ fn five_vertices_reweighed_with_the_least_and_the_greatest(rt: HostRuntime) {
 fn refusal_of(rt: &(impl Abort + AllocGlobal), graph: &OutGraph) -> Option<Unfit> {
     let five = graph_of(rt, 5, &FIVE);
     let algebra = CountedSums::new(Cost::Weight, 3).expect(rt, "bits");
-    let factors = Factors::build(rt.alloc(), algebra, five.outgoing(), order_of(rt, 5, 4))
+    let factors = Factors::build(rt.alloc(), algebra, five.outgoing(), &order_of(rt, 5, 4))
         .expect(rt, "memory")
         .expect(rt, "an order");
-    factors.reweigh(algebra, graph).err()
+    let again = factors.reweighed(rt.alloc(), algebra, graph);
+    again.expect(rt, "memory").err()
 }
 
 /// The five vertices, or more, and one more arc.
@@ -188,9 +190,9 @@ fn a_grid_is_reweighed(rt: HostRuntime) {
         .expect(&rt, "memory")
         .order
         .expect(&rt, "few links");
-    let factors = Factors::build(rt.alloc(), algebra, graph.outgoing(), order)
+    let factors = Factors::build(rt.alloc(), algebra, graph.outgoing(), &order)
         .expect(&rt, "memory")
         .expect(&rt, "an order");
-    let again = factors.reweigh(algebra, graph.outgoing());
-    assert!(rt; again.is_ok());
+    let again = factors.reweighed(rt.alloc(), algebra, graph.outgoing());
+    assert!(rt; again.expect(&rt, "memory").is_ok());
 }

@@ -24,7 +24,7 @@ fn factor<A: PathAlgebra>(alloc: Global, algebra: A, shared: &mut SharedGraph) -
     match shared.factor(alloc, cost) {
         Ok(()) => DONE,
         Err(Unfactored::Memory) => MEMORY,
-        Err(Unfactored::Dense) => DENSE,
+        Err(Unfactored::Dense(_)) => DENSE,
         Err(Unfactored::Heavy) => HEAVY,
     }
 }

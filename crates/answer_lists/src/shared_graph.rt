@@ -11,6 +11,7 @@ ghost use Rattle.route_tree.specs.Found.{IsFoundIfNear};
 ghost use Rattle.route_tree.specs.declared.found.Nearby.TheVariants.{Undecided};
 ghost use Rattle.answer_lists.specs.Kept.{IsKeptFor};
 ghost use Rattle.answer_lists.specs.KeptTree.{IsTreeKeptFor, graph_in};
+ghost use Rattle.elimination_order.specs.declared.counts.Counts.{Counts};
 ghost use Rattle.factor_routes.specs.declared.road_factors.Unfactored.TheVariants.{Dense, Heavy};
 
 use crate::factored::Factored;
@@ -264,7 +265,8 @@ impl SharedGraph {
         ensures kept { self.new ≡ self.old }
         ensures heavy { IfErr result (λ e. e ≡ Heavy → (k : ℕ) → CountsFit self.old (cost_of cost) k →
             ⊥) }
-        ensures dense { IfErr result (λ e. e ≡ Dense → (k : ℕ) × CountsFit self.old (cost_of cost) k) }
+        ensures dense { IfErr result (λ e. (c : Counts) → e ≡ Dense c →
+            (k : ℕ) × CountsFit self.old (cost_of cost) k) }
     {
         if self.is_factored(cost) {
             return Ok(());

@@ -1,11 +1,14 @@
 //! A road graph that is factored for numbers that carry hops.
-ghost use Rattle.std.specs.Prelude.{◌≡◌, ◌≢◌, ℕ, IfOk, IfErr};
+ghost use Rattle.std.specs.Prelude.{◌≡◌, ◌≢◌, ℕ, length, IfOk, IfErr};
 ghost use Rattle.road_graph.specs.GraphData.{HasVertex, IsGraph};
 ghost use Rattle.path_algebra.specs.Counted.{cost_of, CountsFit};
+ghost use Rattle.elimination_order.specs.Bounds.{AreWithinBounds, IsTooDense};
+ghost use Rattle.elimination_order.specs.declared.counts.Counts.{Counts};
 ghost use Rattle.path_factors.specs.Factors.{HasEachVertex};
 ghost use Rattle.factor_routes.specs.declared.road_factors.Unfactored.TheVariants.{Dense, Heavy};
 
 use crate::fitting::fitting_sums;
+use elimination_order::{Counts, Ordered, approximate_minimum_degree};
 use path_algebra::{Cost, CountedSums};
 use path_factors::{Asker, Factors};
 use road_graph::{InGraph, Memory, OutGraph, Vertex};
@@ -17,8 +20,8 @@ use std::marker::Model;
 pub enum Unfactored {
     /// Memory was refused.
     Memory,
-    /// Its factors would have too many links.
-    Dense,
+    /// Its factors would have too many links: what its order had counted when it was given up.
+    Dense(Counts),
     /// The sums of its costs, with hops, could pass 2^63.
     Heavy,
 }
@@ -49,11 +52,75 @@ impl Model for RoadFactors {
 }
 
 impl RoadFactors {
-    /// The factors of a graph for the sums of these costs. `rows` is the same graph, with its arcs
-    /// by head.
+    /// An order of elimination for factors of a graph, and the counts of what it makes; that they are
+    /// those of this order is not claimed. `rows` is the same graph, with its arcs by head.
     ///
     /// # Errors
-    /// `Heavy` only if no number of low bits leaves room for both the hops and the sums.
+    /// As of `of`.
+    pub fn seek_order(
+        alloc: Global,
+        cost: Cost,
+        graph: &OutGraph,
+        rows: &InGraph,
+    ) -> Result<(Vec<Vertex>, Counts), Unfactored>
+        requires { rows.now ≡ graph.now }
+        ensures each { IfOk result (λ found. HasEachVertex graph.now.vertices found.0.items) }
+        ensures within { IfOk result (λ found. AreWithinBounds graph.now.vertices
+            (length graph.now.arcs) found.1) }
+        ensures heavy { IfErr result (λ e. e ≡ Heavy → (k : ℕ) → CountsFit graph.now (cost_of cost) k → ⊥) }
+        ensures dense { IfErr result (λ e. (c : Counts) → e ≡ Dense c → (k : ℕ) ×
+            CountsFit graph.now (cost_of cost) k) }
+        ensures bounds { IfErr result (λ e. (c : Counts) → e ≡ Dense c →
+            IsTooDense graph.now.vertices (length graph.now.arcs) c) }
+    {
+        let Some(_) = fitting_sums(cost, rows) else {
+            return Err(Unfactored::Heavy);
+        };
+        let Ok(Ordered { order, counts }) = approximate_minimum_degree(alloc, graph) else {
+            return Err(Unfactored::Memory);
+        };
+        match order {
+            Some(order) => Ok((order, counts)),
+            None => Err(Unfactored::Dense(counts)),
+        }
+    }
+
+    /// The factors of a graph by an order of its vertices. Any order gives the same answers, a good
+    /// one few links. `rows` is the same graph, with its arcs by head.
+    ///
+    /// # Errors
+    /// `Heavy` as of `of`; never `Dense`.
+    pub fn by_order(
+        alloc: Global,
+        cost: Cost,
+        graph: &OutGraph,
+        rows: &InGraph,
+        order: &Vec<Vertex>,
+    ) -> Result<RoadFactors, Unfactored>
+        requires same { rows.now ≡ graph.now }
+        requires order { HasEachVertex graph.now.vertices order.now.items }
+        ensures roads { IfOk result (λ f. f.roads ≡ graph.now) }
+        ensures cost { IfOk result (λ f. f.algebra.cost ≡ cost) }
+        ensures order { IfOk result (λ f. f.factor.order ≡ order.now.items) }
+        ensures heavy { IfErr result (λ e. e ≡ Heavy → (k : ℕ) → CountsFit graph.now (cost_of cost) k → ⊥) }
+        ensures dense { IfErr result (λ e. (c : Counts) → e ≢ Dense c) }
+    {
+        let Some(sums) = fitting_sums(cost, rows) else {
+            return Err(Unfactored::Heavy);
+        };
+        match Factors::build(alloc, sums, graph, order) {
+            Ok(Some(factors)) => Ok(RoadFactors { sums, factors }),
+            Ok(None) => unreachable!(),
+            Err(Memory) => Err(Unfactored::Memory),
+        }
+    }
+
+    /// The factors of a graph for the sums of these costs, by an order that is found. `rows` is the
+    /// same graph, with its arcs by head.
+    ///
+    /// # Errors
+    /// `Heavy` only if no number of low bits leaves room for both the hops and the sums; `Dense` only
+    /// if some do, with counts of which one is above its bound.
     pub fn of(
         alloc: Global,
         cost: Cost,
@@ -64,46 +131,13 @@ impl RoadFactors {
         ensures roads { IfOk result (λ f. f.roads ≡ graph.now) }
         ensures cost { IfOk result (λ f. f.algebra.cost ≡ cost) }
         ensures heavy { IfErr result (λ e. e ≡ Heavy → (k : ℕ) → CountsFit graph.now (cost_of cost) k → ⊥) }
-        ensures dense { IfErr result (λ e. e ≡ Dense → (k : ℕ) × CountsFit graph.now (cost_of cost) k) }
+        ensures dense { IfErr result (λ e. (c : Counts) → e ≡ Dense c → (k : ℕ) ×
+            CountsFit graph.now (cost_of cost) k) }
+        ensures bounds { IfErr result (λ e. (c : Counts) → e ≡ Dense c →
+            IsTooDense graph.now.vertices (length graph.now.arcs) c) }
     {
-        let Some(sums) = fitting_sums(cost, rows) else {
-            return Err(Unfactored::Heavy);
-        };
-        match Factors::of(alloc, sums, graph) {
-            Ok(Some(factors)) => Ok(RoadFactors { sums, factors }),
-            Ok(None) => Err(Unfactored::Dense),
-            Err(Memory) => Err(Unfactored::Memory),
-        }
-    }
-
-    /// The factors of a graph by an order of its vertices. Any order gives the same answers, a good
-    /// one few links.
-    ///
-    /// # Errors
-    /// `Heavy` as of `of`; never `Dense`.
-    pub fn by_order(
-        alloc: Global,
-        cost: Cost,
-        graph: &OutGraph,
-        rows: &InGraph,
-        order: Vec<Vertex>,
-    ) -> Result<RoadFactors, Unfactored>
-        requires same { rows.now ≡ graph.now }
-        requires order { HasEachVertex graph.now.vertices order.items }
-        ensures roads { IfOk result (λ f. f.roads ≡ graph.now) }
-        ensures cost { IfOk result (λ f. f.algebra.cost ≡ cost) }
-        ensures order { IfOk result (λ f. f.factor.order ≡ order.items) }
-        ensures heavy { IfErr result (λ e. e ≡ Heavy → (k : ℕ) → CountsFit graph.now (cost_of cost) k → ⊥) }
-        ensures dense { IfErr result (λ e. e ≢ Dense) }
-    {
-        let Some(sums) = fitting_sums(cost, rows) else {
-            return Err(Unfactored::Heavy);
-        };
-        match Factors::build(alloc, sums, graph, order) {
-            Ok(Some(factors)) => Ok(RoadFactors { sums, factors }),
-            Ok(None) => unreachable!(),
-            Err(Memory) => Err(Unfactored::Memory),
-        }
+        let (order, _) = RoadFactors::seek_order(alloc, cost, graph, rows)?;
+        RoadFactors::by_order(alloc, cost, graph, rows, &order)
     }
 
     /// What holds of every factored graph. Nothing is computed.

@@ -1,7 +1,7 @@
 use Rattle.std.proofs.Common.{ℕ, subst}
 use Rattle.road_graph.specs.GraphData.{GraphData}
 use Rattle.path_algebra.specs.Counted.{cost_of, CountsFit}
-use Rattle.factor_routes.proofs.road_factors.RoadFactors.of.Goals as goal
+use Rattle.factor_routes.proofs.road_factors.RoadFactors.seek_order.Goals as goal
 
 pub returns-in_default-clause-heavy : goal.returns-in_default-clause-heavy
 returns-in_default-clause-heavy c = λ _.

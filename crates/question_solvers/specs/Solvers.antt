@@ -1,8 +1,10 @@
 -- Solvers between two questions.
-use Rattle.std.specs.Prelude.{◌≡◌, List, Option, Some, None, option_map, IfSome, IsNone, IsSome, slice_get}
+use Rattle.std.specs.Prelude.{◌≡◌, List, length, Option, Some, None, option_map, IfSome, IsNone, IsSome, slice_get}
 use Rattle.std.specs.Option.{IsSomeAnd}
 use Rattle.std.specs.List.{All}
 use Rattle.road_graph.specs.GraphData.{GraphData}
+use Rattle.elimination_order.specs.Bounds.{AreWithinBounds, IsTooDense}
+use Rattle.elimination_order.specs.declared.counts.Counts.{Counts}
 use Rattle.road_files.specs.Asked.{Asked}
 use Rattle.road_files.specs.declared.questions.Kind.TheVariants.{Pairs}
 use Rattle.path_algebra.specs.declared.algebra.PathAlgebra.{Ghosts}
@@ -14,6 +16,7 @@ use Rattle.question_solvers.specs.Solved.{IsSearched}
 use Rattle.question_solvers.specs.declared.factor_solver.FactorSolver.{FactorSolver}
 use Rattle.question_solvers.specs.declared.factor_solver.Factoring.{Factoring}
 use Rattle.question_solvers.specs.declared.factor_solver.Factoring.TheVariants.{Untried, Made, Refused}
+use Rattle.question_solvers.specs.declared.factor_solver.Refusal.TheVariants.{Dense, Heavy}
 use Rattle.question_solvers.specs.declared.pair_solver.PairSolver.{PairSolver}
 use Rattle.question_solvers.specs.declared.plain_solver.PlainSolver.{PlainSolver}
 use Rattle.question_solvers.specs.declared.solved.Solved.{Solved}
@@ -49,6 +52,20 @@ abbrev pub IsFactoringBy : {S V : Type 0} {G : Ghosts S V} → FactorSolver S V 
 IsFactoringBy s Untried = IsNone s.factored × IsNone s.refused
 IsFactoringBy s Made = IsSomeAnd s.factored (λ f. CountsFit f.factors.roads (cost_of f.factors.algebra.cost) f.factors.algebra.bits)
 IsFactoringBy s (Refused why) = IsNone s.factored × IsSomeAnd s.refused (λ r. r.1 ≡ why)
+
+-- what is told of factoring this graph is true of counts: if it is too dense, they are above a
+-- bound
+abbrev pub IsToldRightly : GraphData → Factoring → Type 0
+IsToldRightly g Untried = Unit {0}
+IsToldRightly g Made = Unit {0}
+IsToldRightly g (Refused (Dense counts)) = IsTooDense g.vertices (length g.arcs) counts
+IsToldRightly g (Refused Heavy) = Unit {0}
+
+-- what comes of seeking an order for its graph: nothing, if it has one; else an order may be found,
+-- with counts within the bounds
+pub record IsSoughtBy {S V : Type 0} {G : Ghosts S V} (s : FactorSolver S V G) (found : Option Counts) : Type 0 where
+  pub known : IsSome s.order → found ≡ None
+  pub within : IfSome found (AreWithinBounds s.plain.graph.vertices (length s.plain.graph.arcs))
 
 -- what the plain solver solved last
 abbrev pub last_of_plain : {S V : Type 0} {G : Ghosts S V} → PlainSolver S V G → Option (Solved V)

@@ -1,14 +1,17 @@
 //! What the solver by factors keeps between two questions.
-ghost use Rattle.std.specs.Prelude.{◌≡◌, ◌≢◌, ◌↔◌, ℕ, IfErr, IfOk, IfSome, IsNone, IsSome, IsTrue, OnOk, Some};
+ghost use Rattle.std.specs.Prelude.{◌≡◌, ◌≢◌, ◌↔◌, ℕ, length, IfErr, IfOk, IfSome, IsNone, IsSome, IsTrue, None, Ok, OnOk, Some};
 ghost use Rattle.std.specs.Option.{ForSome, IsSomeAnd};
 ghost use Rattle.path_algebra.specs.Counted.{cost_of, CountsFit};
+ghost use Rattle.elimination_order.specs.Bounds.{AreWithinBounds, IsTooDense};
+ghost use Rattle.elimination_order.specs.declared.counts.Counts.{Counts};
 ghost use Rattle.path_factors.specs.Factors.{HasEachVertex};
 ghost use Rattle.question_solvers.specs.Orders.{IsOrderOf};
-ghost use Rattle.question_solvers.specs.declared.factor_solver.Refusal.TheVariants.{Heavy};
+ghost use Rattle.question_solvers.specs.declared.factor_solver.Refusal.TheVariants.{Dense, Heavy};
 
 use crate::plain_solver::PlainSolver;
 use crate::searched::Searched;
 use crate::solved::Solved;
+use elimination_order::Counts;
 use factor_routes::{RoadFactors, RouteAsker, Unfactored};
 use path_algebra::{Cost, PathAlgebra};
 use road_graph::{InGraph, Memory, OutGraph, Vertex};
@@ -22,53 +25,26 @@ pub(crate) struct Factored {
     ghost own: { asker.factors ≡ factors },
 }
 
-/// The factors of a graph for what arcs cost, by an order of its vertices. `rows` is the same graph
-/// by head.
-fn factor_by(
-    alloc: Global,
-    cost: Cost,
-    graph: &OutGraph,
-    rows: &InGraph,
-    order: &[Vertex],
-) -> Result<RoadFactors, Unfactored>
-    requires same { rows.now ≡ graph.now }
-    requires order { HasEachVertex graph.now.vertices order.now }
-    ensures roads { IfOk result (λ f. f.roads ≡ graph.now) }
-    ensures cost { IfOk result (λ f. f.algebra.cost ≡ cost) }
-    ensures order { IfOk result (λ f. f.factor.order ≡ order.now) }
-    ensures heavy { IfErr result (λ e. e ≡ Unfactored.Heavy → (k : ℕ) →
-        CountsFit graph.now (cost_of cost) k → ⊥) }
-    ensures dense { IfErr result (λ e. e ≢ Unfactored.Dense) }
-{
-    match order.to_vec(alloc) {
-        Ok(order) => RoadFactors::by_order(alloc, cost, graph, rows, order),
-        Err(_) => Err(Unfactored::Memory),
-    }
-}
-
 impl Factored {
-    /// The factors of a graph for what arcs cost, by an order of its vertices if one is given.
-    /// `rows` is the same graph by head.
-    pub(crate) fn of(
+    /// The factors of a graph for what arcs cost, by an order of its vertices. `rows` is the same
+    /// graph by head.
+    pub(crate) fn by_order(
         alloc: Global,
         cost: Cost,
         graph: &OutGraph,
         rows: &InGraph,
-        order: &Option<Vec<Vertex>>,
+        order: &Vec<Vertex>,
     ) -> Result<Factored, Unfactored>
         requires same { rows.now ≡ graph.now }
-        requires order { IfSome order.now (λ list. HasEachVertex graph.now.vertices list.items) }
+        requires order { HasEachVertex graph.now.vertices order.now.items }
         ensures roads { IfOk result (λ f. f.factors.roads ≡ graph.now) }
         ensures cost { IfOk result (λ f. f.factors.algebra.cost ≡ cost) }
-        ensures order { IfOk result (λ f. IfSome order.now (λ list.
-            f.factors.factor.order ≡ list.items)) }
+        ensures order { IfOk result (λ f. f.factors.factor.order ≡ order.now.items) }
         ensures heavy { IfErr result (λ e. e ≡ Unfactored.Heavy → (k : ℕ) →
             CountsFit graph.now (cost_of cost) k → ⊥) }
+        ensures dense { IfErr result (λ e. (c : Counts) → e ≢ Unfactored.Dense c) }
     {
-        let factors = match order {
-            Some(order) => factor_by(alloc, cost, graph, rows, order)?,
-            None => RoadFactors::of(alloc, cost, graph, rows)?,
-        };
+        let factors = RoadFactors::by_order(alloc, cost, graph, rows, order)?;
         match factors.asker(alloc) {
             Ok(asker) => Ok(Factored { factors, asker }),
             Err(Memory) => Err(Unfactored::Memory),
@@ -79,8 +55,8 @@ impl Factored {
 /// Why a graph is left to the plain solver.
 #[derive(Clone, Copy, Debug, PartialEq, Eq)]
 pub enum Refusal {
-    /// Its factors would have too many links.
-    Dense,
+    /// Its factors would have too many links: what its order had counted when it was given up.
+    Dense(Counts),
     /// The sums of its costs, with hops, could pass 2^63.
     Heavy,
 }
@@ -97,12 +73,13 @@ pub enum Factoring {
 }
 
 /// Solves a pair by asking the factors of the graph, several side by side, and another question by
-/// two sweeps over them. The graph is factored when the first task begins, by an order of its
-/// vertices if one is given. If it is too dense or too heavy, the plain solver in it answers.
+/// two sweeps over them. The graph is factored when the first task begins, by the order of its
+/// vertices that is given, or else by one that is found then and kept. If it is too dense or too
+/// heavy, the plain solver in it answers.
 #[derive(Drop)]
 pub struct FactorSolver<A: PathAlgebra> {
     pub(crate) plain: PlainSolver<A>,
-    /// The order by which the graph is factored; if there is none, one is found.
+    /// The order by which the graph is factored, once it is given or found.
     pub(crate) order: Option<Vec<Vertex>>,
     /// The factors, once they are made.
     pub(crate) factored: Option<Factored>,
@@ -115,11 +92,12 @@ pub struct FactorSolver<A: PathAlgebra> {
     ghost each: { ForSome order (λ list. IsOrderOf plain.graph.vertices list.items) },
     ghost of_graph: { ForSome factored (λ f. f.factors.roads ≡ plain.graph) },
     ghost heavy: { ForSome refused (λ r. r.1 ≡ Heavy → (k : ℕ) → CountsFit plain.graph (cost_of r.0) k → ⊥) },
+    ghost dense: { ForSome refused (λ r. (c : Counts) → r.1 ≡ Dense c → IsTooDense plain.graph.vertices (length plain.graph.arcs) c) },
 }
 
 impl<A: PathAlgebra> FactorSolver<A> {
     ghost use Rattle.road_graph.specs.GraphData.{IsGraph};
-    ghost use Rattle.question_solvers.specs.Solvers.{IsFactoringBy, last_by_factors};
+    ghost use Rattle.question_solvers.specs.Solvers.{IsFactoringBy, IsToldRightly, last_by_factors};
 
     /// The solver over a graph, which is not factored yet, and later by an order of its vertices if
     /// one is given.
@@ -163,6 +141,7 @@ impl<A: PathAlgebra> FactorSolver<A> {
         ensures refused { (why : Refusal) → (result ≡ Factoring.Refused why) ↔
             (IsNone self.now.factored × IsSomeAnd self.now.refused (λ r. r.1 ≡ why)) }
         ensures by { IsFactoringBy self.now result }
+        ensures told { IsToldRightly self.now.plain.graph result }
     {
         match (&self.factored, self.refused) {
             (Some(factored), _) => {
@@ -184,12 +163,43 @@ impl<A: PathAlgebra> FactorSolver<A> {
         }
     }
 
+    /// Seeks an order by which to factor the graph for what arcs cost, unless there is one, or the
+    /// graph was refused: what the order makes, if one is found. The only error is want of memory.
+    pub(crate) fn seek_order(&mut self, alloc: Global, cost: Cost) -> Result<Option<Counts>, Memory>
+        requires { IsSome self.old.plain.by_head }
+        ensures plain { self.new.plain ≡ self.old.plain }
+        ensures factored { self.new.factored ≡ self.old.factored }
+        ensures known { IsSome self.old.order → (self.new.order ≡ self.old.order) × (result ≡ Ok None) }
+        ensures within { IfOk result (λ found. IfSome found (AreWithinBounds
+            self.old.plain.graph.vertices (length self.old.plain.graph.arcs))) }
+        ensures refused { OnOk result (IsNone self.new.order →
+            IsSomeAnd self.new.refused (λ r. r.0 ≡ cost)) }
+    {
+        if self.order.is_some() || self.is_refused(cost) {
+            return Ok(None);
+        }
+        let plain = &self.plain;
+        let Some(rows) = &plain.by_head else {
+            unreachable!()
+        };
+        match RoadFactors::seek_order(alloc, cost, &plain.graph, rows) {
+            Ok((order, counts)) => {
+                self.order = Some(order);
+                return Ok(Some(counts));
+            }
+            Err(Unfactored::Memory) => return Err(Memory),
+            Err(Unfactored::Dense(counts)) => self.refused = Some((cost, Refusal::Dense(counts))),
+            Err(Unfactored::Heavy) => self.refused = Some((cost, Refusal::Heavy)),
+        }
+        Ok(None)
+    }
+
     /// Factors the graph for what arcs cost, unless it is so already, or was refused. The only
     /// error is want of memory.
     pub(crate) fn factor(&mut self, alloc: Global, cost: Cost) -> Result<(), Memory>
         requires { IsSome self.old.plain.by_head }
         ensures graph { self.new.plain.graph ≡ self.old.plain.graph }
-        ensures order { self.new.order ≡ self.old.order }
+        ensures order { IsSome self.old.order → self.new.order ≡ self.old.order }
         ensures rows { self.new.plain.by_head ≡ self.old.plain.by_head }
         ensures searched { self.new.plain.searched ≡ self.old.plain.searched }
         ensures pool { self.new.plain.pool ≡ self.old.plain.pool }
@@ -203,17 +213,18 @@ impl<A: PathAlgebra> FactorSolver<A> {
             }
         }
         self.factored = None;
+        let _ = self.seek_order(alloc, cost)?;
         if self.is_refused(cost) {
             return Ok(());
         }
         let plain = &self.plain;
-        let Some(rows) = &plain.by_head else {
+        let (Some(rows), Some(order)) = (&plain.by_head, &self.order) else {
             unreachable!()
         };
-        match Factored::of(alloc, cost, &plain.graph, rows, &self.order) {
+        match Factored::by_order(alloc, cost, &plain.graph, rows, order) {
             Ok(factored) => self.factored = Some(factored),
             Err(Unfactored::Memory) => return Err(Memory),
-            Err(Unfactored::Dense) => self.refused = Some((cost, Refusal::Dense)),
+            Err(Unfactored::Dense(_)) => unreachable!(),
             Err(Unfactored::Heavy) => self.refused = Some((cost, Refusal::Heavy)),
         }
         Ok(())

@@ -5,7 +5,7 @@ ghost use Rattle.path_algebra.specs.Counted.{cost_of};
 ghost use Rattle.road_files.specs.Asked.{AreQuestionsOf, asked_of};
 ghost use Rattle.question_solvers.specs.Questions.{HasPlace};
 ghost use Rattle.question_solvers.specs.Solved.{IsSolvedFor};
-ghost use Rattle.question_solvers.specs.Solvers.{IsFactorReady, IsFactoredFor, last_by_factors};
+ghost use Rattle.question_solvers.specs.Solvers.{IsFactorReady, IsFactoredFor, IsSoughtBy, last_by_factors};
 ghost use Rattle.question_solvers.specs.Tasks.{AreFoundIn, ArePairsIn, IsCarriedIn, IsPlaceIn, IsPoolIn, IsSolvedIn};
 
 use crate::ahead::take_at;
@@ -17,6 +17,7 @@ use crate::plain::{make_rows, solve_next_plainly, start_plain};
 use crate::searched::Searched;
 use crate::solved::Solved;
 use crate::task::{FactoredTask, PairTask, Task, TaskOver};
+use elimination_order::Counts;
 use factor_routes::RouteAsker;
 use path_algebra::PathAlgebra;
 use road_files::{Kind, Questions};
@@ -100,6 +101,24 @@ fn solve_by_factors<A: PathAlgebra, R: Threads + Sync>(
         }
     }
     ask_factors(factored, asker, ahead, i)
+}
+
+/// Seeks an order by which to factor the graph for what arcs cost under an algebra, unless there is
+/// one, or the graph was refused: what the order makes, if one is found. The only error is want of
+/// memory.
+pub fn seek_order<A: PathAlgebra>(
+    alloc: Global,
+    algebra: A,
+    solver: &mut FactorSolver<A>,
+) -> Result<Option<Counts>, Memory>
+    ensures graph { solver.new.plain.graph ≡ solver.old.plain.graph }
+    ensures found { IfOk result (IsSoughtBy solver.old) }
+{
+    let Some(cost) = algebra.cost() else {
+        return Ok(None);
+    };
+    make_rows(alloc, &mut solver.plain)?;
+    solver.seek_order(alloc, cost)
 }
 
 /// Factors the graph for what arcs cost under an algebra, unless it is so already, or was refused.

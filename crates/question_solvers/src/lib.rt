@@ -15,8 +15,9 @@ mod side_by_side;
 mod solved;
 mod task;
 
+pub use elimination_order::Counts;
 pub use factor_solver::{FactorSolver, Factoring, Refusal};
-pub use factors::{factor, solve_next_by_factors, start_factors};
+pub use factors::{factor, seek_order, solve_next_by_factors, start_factors};
 pub use plain::{solve_next_plainly, start_plain};
 pub use plain_solver::PlainSolver;
 pub use solved::Solved;

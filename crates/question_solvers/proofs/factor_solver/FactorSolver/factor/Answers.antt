@@ -1,4 +1,7 @@
-use Rattle.std.proofs.Common.{◌≡◌, ℕ}
+use Rattle.std.proofs.Common.{◌≡◌, ℕ, Option, subst}
+use Rattle.std.specs.Prelude.{IfSome, Vec}
+use Rattle.std.specs.declared.alloc.Global.{Global}
+use Rattle.elimination_order.specs.Orders.{HasEachVertex}
 use Rattle.path_algebra.specs.Counted.{cost_of, CountsFit}
 use Rattle.question_solvers.specs.declared.factor_solver.Refusal.TheVariants.{Heavy}
 use Rattle.question_solvers.proofs.FactorCosts.{recorded}
@@ -7,8 +10,10 @@ use Rattle.question_solvers.proofs.factor_solver.FactorSolver.factor.Goals as go
 
 pub invariant_of-self-in-Err-Heavy-clause-heavy : goal.invariant_of-self-in-Err-Heavy-clause-heavy
 invariant_of-self-in-Err-Heavy-clause-heavy g c =
-    recorded (λ r. r.1 ≡ Heavy → (k : ℕ) → CountsFit c.args.self.now.plain.graph (cost_of r.0) k → ⊥) (c.args.cost, Heavy)
+    recorded (λ r. r.1 ≡ Heavy → (k : ℕ) → CountsFit c.seek_order.new.self.plain.graph (cost_of r.0) k → ⊥) (c.args.cost, Heavy)
     (λ is k fits. c.in-Err-Heavy.ensures.heavy c.in-Err-Heavy.field-0-is k fits)
 
-pub of-requires-clause-order : goal.of-requires-clause-order
-of-requires-clause-order g c = given c.args.self.now.plain.graph.vertices c.args.self.now.order c.args.self.now.each
+pub by_order-requires-clause-order : goal.by_order-requires-clause-order
+by_order-requires-clause-order g c =
+    let s = c.seek_order.new.self in
+    subst (λ (order : Option (Vec ℕ Global)). IfSome order (λ list. HasEachVertex s.plain.graph.vertices list.items)) c.in-Some-Some.is-1 (given s.plain.graph.vertices s.order s.each)

@@ -10,4 +10,5 @@ invariant_of-result g c = record {
   each = subst (λ (graph : GraphData). ForSome c.args.order (λ list. IsOrderOf graph.vertices list.items)) (sym c.new.ensures) (kept c.args.graph.vertices c.args.order c.requires);
   of_graph = λ x e. cc;
   heavy = λ x e. cc;
+  dense = λ x e. cc;
 }

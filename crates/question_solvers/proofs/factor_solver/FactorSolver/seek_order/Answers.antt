@@ -1,0 +1,14 @@
+use Rattle.std.proofs.Common.{◌≡◌, ℕ, Some}
+use Rattle.path_algebra.specs.Counted.{cost_of, CountsFit}
+use Rattle.question_solvers.specs.declared.factor_solver.Refusal.TheVariants.{Heavy}
+use Rattle.question_solvers.proofs.FactorCosts.{recorded}
+use Rattle.question_solvers.proofs.OrderLaws.{kept}
+use Rattle.question_solvers.proofs.factor_solver.FactorSolver.seek_order.Goals as goal
+
+pub invariant_of-self-clause-each : goal.invariant_of-self-clause-each
+invariant_of-self-clause-each g c = kept c.args.self.now.plain.graph.vertices (Some c.in-Ok.order) c.in-Ok.ensures.each
+
+pub invariant_of-self-in-Err-Heavy-clause-heavy : goal.invariant_of-self-in-Err-Heavy-clause-heavy
+invariant_of-self-in-Err-Heavy-clause-heavy g c =
+    recorded (λ r. r.1 ≡ Heavy → (k : ℕ) → CountsFit c.args.self.now.plain.graph (cost_of r.0) k → ⊥) (c.args.cost, Heavy)
+    (λ is k fits. c.in-Err-Heavy.ensures.heavy c.in-Err-Heavy.field-0-is k fits)

@@ -3,8 +3,8 @@
 ghost use Rattle.std.specs.Prelude.{◌≡◌, Some, None, IfSome, MatchOption, true, false};
 ghost use Rattle.diffuse_c.specs.Holding.{AreNumbersOf, has_graph};
 
+use crate::box_pointer::BoxPointer;
 use crate::held::{Held, discard, hold, nothing, release};
-use crate::loose::Loose;
 use crate::owners::Owner;
 use std::alloc::Global;
 use std::mem;
@@ -40,7 +40,7 @@ fn opened(owner: Box<Owner>) -> DiffuseGraph
     ensures numbers { result.held.numbers ≡ owner.value.numbers }
 {
     DiffuseGraph {
-        held: hold(Loose::of(owner)),
+        held: hold(BoxPointer::of(owner)),
         is_open: true,
     }
 }

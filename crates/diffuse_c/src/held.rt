@@ -6,7 +6,7 @@ ghost use Rattle.path_plain.specs.declared.halt.Stop.{Stop};
 ghost use Rattle.arc_numbers.specs.Numbering.{Numbering};
 ghost use Rattle.diffuse_c.specs.Holding.{has_graph};
 
-use crate::loose::Loose;
+use crate::box_pointer::BoxPointer;
 use crate::owners::Owner;
 use std::alloc::Global;
 use std::marker::{Model, Send};
@@ -39,22 +39,22 @@ pub(crate) fn nothing() -> Held
 }
 
 /// Holds an owner of a graph.
-pub(crate) fn hold(owner: Loose<Owner, Global>) -> Held
+pub(crate) fn hold(owner: BoxPointer<Owner, Global>) -> Held
     ensures { (result.roads ≡ Some owner.value.shared) × (result.stop ≡ owner.value.stop)
         × (result.numbers ≡ owner.value.numbers) }
 {
-    let Loose { at, alloc: _ } = owner;
+    let BoxPointer { at, alloc: _ } = owner;
     Held { at: at as *mut u8 }
 }
 
 /// Gives the owner back.
-pub(crate) fn release(alloc: Global, held: Held) -> Loose<Owner, Global>
+pub(crate) fn release(alloc: Global, held: Held) -> BoxPointer<Owner, Global>
     requires { has_graph held.roads ≡ true }
     ensures { (held.roads ≡ Some result.value.shared) × (held.stop ≡ result.value.stop)
         × (held.numbers ≡ result.value.numbers) }
 {
     let Held { at } = held;
-    Loose {
+    BoxPointer {
         at: at as *mut Owner,
         alloc,
     }

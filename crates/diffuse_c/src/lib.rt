@@ -5,13 +5,13 @@
 ghost use Rattle.std.specs.Prelude.{◌≡◌};
 
 mod arcs;
+mod box_pointer;
 mod factors;
 mod graphs;
 mod handle;
 mod held;
 mod joining;
 mod leaving;
-mod loose;
 mod near;
 mod numbers;
 mod opening;

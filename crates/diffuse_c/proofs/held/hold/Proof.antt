@@ -24,7 +24,7 @@ use Rattle.road_graph.specs.GraphData.{GraphData}
 use Rattle.path_plain.specs.declared.halt.Stop.{Stop}
 use Rattle.arc_numbers.specs.Numbering.{Numbering}
 use Rattle.diffuse_c.specs.Holding.{owner_row}
-use Rattle.diffuse_c.proofs.Values.{both, Loose, loose_good, loose_out, alone, held_in}
+use Rattle.diffuse_c.proofs.Values.{both, BoxPointer, box_pointer_good, box_pointer_out, alone, held_in}
 use Rattle.diffuse_c.specs.contracts.held.hold.{ended, clauses}
 use Rattle.diffuse_c.specs.contracts.held.hold.Key.{name as #self}
 use Rattle.diffuse_c.proofs.held.hold.Statement.{statement}
@@ -33,13 +33,13 @@ use Rattle.diffuse_c.proofs.held.hold.Code as code
 pub hold_spec : {M : Type 1} → statement M
 hold_spec 𝓤 𝓛 𝓜 𝓡 wired =
     let H = 𝓛.H in let 𝓣 = tables 𝓤 H 𝓜 𝓡 𝓡.env in let c = clauses 𝓛 𝓜.mem 𝓡.returns in let fn = code.function in
-    let R = owner_row in let Z = heap.the_row in let LZ = heap_laws.the_row_laws in let L = Loose R Z LZ ghosts in
+    let R = owner_row in let Z = heap.the_row in let LZ = heap_laws.the_row_laws in let L = BoxPointer R Z LZ ghosts in
     let hs : Stays ended.signature.params ended.kept = (stay_dropped (plain (λ _. L)) ended.kept.0, tt) in
     proved_at 𝓛 ended hs c 𝓜 𝓡 (Goes-blank 𝓛 0 (plain (λ _. L)) ended.kept.0 (λ κs x f. tt), tt) #self fn (code.unfolded 𝓤 H 𝓜 𝓡 wired) (λ z are.
     let v = z.0.3.0 in let g : GraphData = v.value.shared in let y : Option Stop = v.value.stop in let n : Option Numbering = v.value.numbers in let Post : Val → SProp 𝓤 = (walk_of 𝓛 ended hs c).post z in let Run : List Val → SProp 𝓤 = λ ws. WpFn 𝓤 H 𝓣.C 𝓣.Λ fn ws Post in
-    qed 𝓛 ((‵ ftrue ⊛ ‵ (owns (L ∷ []) z.0.3 z.0.4)) ∷ raw (emp 𝓤) ∷ []) ∵ split ! $ move ! (1 ∷ []) $ fsplit ! $ loose_out R Z LZ ghosts ! v z.0.4.0 (λ b o h e ws fits.
+    qed 𝓛 ((‵ ftrue ⊛ ‵ (owns (L ∷ []) z.0.3 z.0.4)) ∷ raw (emp 𝓤) ∷ []) ∵ split ! $ move ! (1 ∷ []) $ fsplit ! $ box_pointer_out R Z LZ ghosts ! v z.0.4.0 (λ b o h e ws fits.
     suffices ! (Run (both (vptr b o) h ∷ [])) (subst (λ (us : List Val). ent 𝓤 (Run (both (vptr b o) h ∷ [])) (Run us)) (sym (λ i. ws i ++ [])) (id⊢ 𝓤 (Run (both (vptr b o) h ∷ [])))) $
-    keep ! (0 ∷ []) $ enter ! 𝓣.C 𝓣.Λ fn (both (vptr b o) h ∷ []) Post $ alloc_all ! (λ l. pass_all ! refl (loose_good R Z LZ ghosts b o h fits, tt) $
+    keep ! (0 ∷ []) $ enter ! 𝓣.C 𝓣.Λ fn (both (vptr b o) h ∷ []) Post $ alloc_all ! (λ l. pass_all ! refl (box_pointer_good R Z LZ ghosts b o h fits, tt) $
     sets ! (of_opd ! (get_in ! (fld ! refl (stop !)) (sub ! 0 refl (whole !)))) refl (tt, tt) $ sets ! (of_opd ! (get ! refl)) refl (tt, tt) $
     sets ! (agg ! (and_then ! (get ! refl) (no_more !))) refl (tt, (tt, tt)) $
     returns ! (look_at ! 0 refl) $ free_all ! refl $

@@ -27,7 +27,7 @@ use Rattle.std.specs.contracts.impls.GlobalAllocator.TheImpl.{ghosts}
 use Rattle.road_graph.specs.GraphData.{GraphData}
 use Rattle.diffuse_c.specs.contracts.held.Held as held
 use Rattle.diffuse_c.specs.Holding.{freeable, has_graph, held_at, owner_of, owner_row}
-use Rattle.diffuse_c.proofs.Values.{both, loose_good, loose_in, al, alone, held_out, the_graph}
+use Rattle.diffuse_c.proofs.Values.{both, box_pointer_good, box_pointer_in, al, alone, held_out, the_graph}
 use Rattle.diffuse_c.specs.contracts.held.release.{ended, clauses}
 use Rattle.diffuse_c.specs.contracts.held.release.Key.{name as #self}
 use Rattle.diffuse_c.proofs.held.release.Statement.{statement}
@@ -49,8 +49,8 @@ release_spec 𝓤 𝓛 𝓜 𝓡 wired =
     suffices ! (Run xs) (subst (λ (us : List Val). ent 𝓤 (Run xs) (Run us)) (sym (λ i. ea i ++ (got i ++ []))) (id⊢ 𝓤 (Run xs))) $
     keep ! (0 ∷ 2 ∷ []) $ enter ! 𝓣.C 𝓣.Λ fn xs Post $ alloc_all ! (λ l. pass_all ! refl (fits, ((tt, (tt, tt)), tt)) $
     sets ! (of_opd ! (get_in ! (fld ! refl (stop !)) (sub ! 0 refl (whole !)))) refl (tt, tt) $ sets ! (of_opd ! (get ! refl)) refl (tt, tt) $
-    sets ! (agg ! (and_then ! (get ! refl) (and_then ! (get ! refl) (no_more !)))) refl (loose_good R Z LZ ghosts b o h fits) $
+    sets ! (agg ! (and_then ! (get ! refl) (and_then ! (get ! refl) (no_more !)))) refl (box_pointer_good R Z LZ ghosts b o h fits) $
     returns ! (look_at ! 0 refl) $ free_all ! refl $
-    loose_in R Z LZ ghosts ! b o h a (owner_of g d.stop d.numbers) $ use0 𝓛 (raw (fact 𝓤 ((d.roads ≡ Some g) × (d.stop ≡ d.stop) × (d.numbers ≡ d.numbers))))
+    box_pointer_in R Z LZ ghosts ! b o h a (owner_of g d.stop d.numbers) $ use0 𝓛 (raw (fact 𝓤 ((d.roads ≡ Some g) × (d.stop ≡ d.stop) × (d.numbers ≡ d.numbers))))
     (fact_i 𝓤 ((d.roads ≡ Some g) × (d.stop ≡ d.stop) × (d.numbers ≡ d.numbers)) (emp 𝓤) (is, refl, refl)) $ nothing ! $ nothing ! $ fjoin ! $ nothing ! $ fjoin ! $ nothing ! $ keep ! (0 ∷ 1 ∷ 3 ∷ 2 ∷ []) $
     by ! (leaves 𝓛 ended hs c z (both (vptr b o) h) (record { at = block_ptr b o; alloc = a; value = owner_of g d.stop d.numbers }) (tt, (tt, tt)) (tt, (tt, tt)))))))))

@@ -1,7 +1,7 @@
 mod Filling
 mod Judged
 mod NearLines
-mod NearLists
+mod NearListed
 mod Spelled
 mod Tabling
 mod Telling

@@ -1,5 +1,5 @@
 -- Labels and a tree give the lines of a list of vertices.
-use Rattle.std.proofs.Common.{◌≡◌, ℕ, List, [], ◌∷◌, length, refl, Option}
+use Rattle.std.proofs.Common.{ℕ, List, [], ◌∷◌, refl, Option}
 use Rattle.std.specs.List.{AllZip}
 use Rattle.std.specs.Prelude.{All, IfOk, Result, Ok, Err, map}
 use Rattle.std.proofs.lemmas.List.{get_or_default, length-map}

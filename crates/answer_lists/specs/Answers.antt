@@ -1,7 +1,8 @@
 -- What a status means, and what is written with it.
-use Rattle.std.specs.Prelude.{◌≡◌, ℕ, ◌+◌, ◌⊎◌, [], ◌∷◌, List, ℤ, pos, length, take}
+use Rattle.std.specs.Prelude.{◌≡◌, ◌↔◌, ℕ, ◌+◌, ◌⊎◌, [], ◌∷◌, List, ℤ, pos, length, take}
 use Rattle.road_graph.specs.GraphData.{GraphData, HasVertex}
 use Rattle.path_algebra.specs.Algebra.{Algebra}
+use Rattle.path_algebra.specs.Choices.{IsAlgebra}
 use Rattle.path_algebra.specs.Walks.{IsBestCode, AreHops, IsUnreached}
 use Rattle.route_tree.specs.Found.{IsRouteBetween}
 
@@ -32,3 +33,15 @@ pub record ReportsRoute {V : Type 0} (A : Algebra V) (g : GraphData) (source tar
   pub near : IsFound status → AreHops A g (source ∷ []) target hops
   pub route : status ≡ pos 0 → IsRouteBetween A g source target (take (hops + 1) room)
   pub none : status ≡ pos 1 → IsUnreached A g (source ∷ []) target
+
+-- which questions are refused, in this order: what it asks of are no vertices, there is no such
+-- algebra
+pub record ReportsRefusals (are_vertices : Type 0) (number limit : ℕ) (status : ℤ) : Type 0 where
+  pub vertex : (status ≡ pos 17) ↔ (are_vertices → ⊥)
+  pub algebra : (status ≡ pos 43) ↔ (are_vertices × (IsAlgebra number limit → ⊥))
+
+-- the same, but before the algebra come lists that do not have the places that are due
+pub record ReportsListRefusals (are_vertices have_places : Type 0) (number limit : ℕ) (status : ℤ) : Type 0 where
+  pub vertex : (status ≡ pos 17) ↔ (are_vertices → ⊥)
+  pub places : (status ≡ pos 2) ↔ (are_vertices × (have_places → ⊥))
+  pub algebra : (status ≡ pos 43) ↔ (are_vertices × have_places × (IsAlgebra number limit → ⊥))

@@ -4,5 +4,6 @@ pub mod Kept
 pub mod KeptTree
 pub mod Near
 pub mod Reweighing
+pub mod Route
 pub mod Table
 pub mod Tree

@@ -1,15 +1,15 @@
 -- The vertices that are reached from the nearest of some sources, the best first, in four lists.
-use Rattle.std.specs.Prelude.{◌≡◌, ◌↔◌, ◌≤◌, ◌⊎◌, ℕ, ℤ, pos, List, [], All, Option, length, take, drop}
+use Rattle.std.specs.Prelude.{◌≡◌, ◌≤◌, ◌⊎◌, ℕ, ℤ, pos, List, [], Option, length, take, drop}
 use Rattle.std.specs.List.{AllZip}
 use Rattle.road_graph.specs.GraphData.{GraphData, HasVertex}
 use Rattle.path_algebra.specs.Algebra.{Algebra}
-use Rattle.path_algebra.specs.Choices.{IsAlgebra}
 use Rattle.path_algebra.specs.Walks.{label_of}
 use Rattle.route_tree.specs.Tree.{Branches, hops_of, parent_of}
 use Rattle.tree_search.specs.Nearest.{AreNearest}
 use Rattle.answer_text.specs.IsAnswer.{IsVertexLine}
-use Rattle.answer_lists.specs.Answers.{HavePlaces}
+use Rattle.answer_lists.specs.Answers.{HavePlaces, IsFound}
 use Rattle.answer_lists.specs.Tree.{code_for, line_of, lines_of, number_for}
+use Rattle.answer_lists.specs.declared.near_lists.NearLists.{NearLists}
 
 -- the vertices are those that are reached, each once, the best first, and the other lists have the
 -- code, the hops and the parent of each, in the same order
@@ -53,11 +53,24 @@ AreLongOrNone n vertices codes hops parents =
 abbrev pub IsSameAfter : ℕ → List ℕ → List ℕ → Type 0
 IsSameAfter n old new = drop n new ≡ drop n old
 
--- which questions about what is near are refused, in this order: a source is no vertex, there is no
--- such algebra
-pub record ReportsNearRefusals (g : GraphData) (number limit : ℕ) (sources : List ℕ) (status : ℤ) : Type 0 where
-  pub vertex : (status ≡ pos 17) ↔ (All (HasVertex g) sources → ⊥)
-  pub algebra : (status ≡ pos 43) ↔ (All (HasVertex g) sources × (IsAlgebra number limit → ⊥))
+-- so many vertices are reached, and the lists of a caller begin with them and their lines
+abbrev pub HaveNear : {V : Type 0} → Algebra V → GraphData → List ℕ → NearLists → Type 0
+HaveNear A g sources lists = AreNearLists A g sources lists.count.now lists.vertices.now lists.codes.now lists.hops.now lists.parents.now
+
+-- these are the same lists and the same count, whatever is written
+abbrev pub AreSameNear : NearLists → NearLists → Type 0
+AreSameNear old new = (new.vertices.ghost_name ≡ old.vertices.ghost_name) × (new.codes.ghost_name ≡ old.codes.ghost_name) × (new.hops.ghost_name ≡ old.hops.ghost_name) × (new.parents.ghost_name ≡ old.parents.ghost_name) × (new.count.ghost_name ≡ old.count.ghost_name)
+
+-- which places of the lists of a caller are written, as the status says: of each the first ones, if
+-- all lists are long enough, and else none; and the count, if there is one
+pub record IsWrittenNear (old new : NearLists) (status : ℤ) : Type 0 where
+  pub same : AreSameNear old new
+  pub rest : status ≡ pos 0 → IsSameAfter new.count.now old.vertices.now new.vertices.now × IsSameAfter new.count.now old.codes.now new.codes.now
+      × IsSameAfter new.count.now old.hops.now new.hops.now × IsSameAfter new.count.now old.parents.now new.parents.now
+  pub short : status ≡ pos 2 → AreLongOrNone new.count.now old.vertices.now old.codes.now old.hops.now old.parents.now → ⊥
+  pub long : status ≡ pos 0 → AreLongOrNone new.count.now old.vertices.now old.codes.now old.hops.now old.parents.now
+  pub kept : (status ≡ pos 0 → ⊥) → (new.vertices.now ≡ old.vertices.now) × (new.codes.now ≡ old.codes.now) × (new.hops.now ≡ old.hops.now) × (new.parents.now ≡ old.parents.now)
+  pub place : (IsFound status → ⊥) → new.count.now ≡ old.count.now
 
 -- the numbers that are written for the label, the hops and the parent of a vertex
 abbrev pub code_at : {V : Type 0} → Algebra V → List (Option V) → ℕ → ℕ

@@ -1,9 +1,8 @@
 -- A table of codes: a row for each source, with a code for each target.
-use Rattle.std.specs.Prelude.{◌≡◌, ◌↔◌, ◌*◌, ℕ, ℤ, pos, List, [], ◌∷◌, All, length}
+use Rattle.std.specs.Prelude.{◌≡◌, ◌*◌, ℕ, List, [], ◌∷◌, All, length}
 use Rattle.std.specs.List.{AllZip, concat}
 use Rattle.road_graph.specs.GraphData.{GraphData, HasVertex}
 use Rattle.path_algebra.specs.Algebra.{Algebra}
-use Rattle.path_algebra.specs.Choices.{IsAlgebra}
 use Rattle.path_algebra.specs.Walks.{IsBestCode, IsUnreached}
 
 -- the code of the best value from a source to a target; 2^64 - 1 means that no walk to it has a
@@ -21,11 +20,10 @@ abbrev pub AreTableCodes : {V : Type 0} → Algebra V → GraphData → List ℕ
 AreTableCodes A g sources targets codes =
     (rows : List (List ℕ)) × (codes ≡ concat rows) × AllZip (AreRowCodes A g targets) sources rows
 
--- which questions about a table are refused, in this order: a source or a target is no vertex,
--- there is not just one place for each pair of them, there is no such algebra
-pub record ReportsTableRefusals (g : GraphData) (number limit : ℕ) (sources targets codes : List ℕ) (status : ℤ) : Type 0 where
-  pub vertex : (status ≡ pos 17) ↔ (All (HasVertex g) sources × All (HasVertex g) targets → ⊥)
-  pub places : (status ≡ pos 2) ↔ (All (HasVertex g) sources × All (HasVertex g) targets
-      × (length codes ≡ length sources * length targets → ⊥))
-  pub algebra : (status ≡ pos 43) ↔ (All (HasVertex g) sources × All (HasVertex g) targets
-      × (length codes ≡ length sources * length targets) × (IsAlgebra number limit → ⊥))
+-- each source and each target is a vertex
+abbrev pub AreEndsIn : GraphData → List ℕ → List ℕ → Type 0
+AreEndsIn g sources targets = All (HasVertex g) sources × All (HasVertex g) targets
+
+-- a list has just one place for each pair of a source and a target
+abbrev pub HasPlaces : List ℕ → List ℕ → List ℕ → Type 0
+HasPlaces sources targets codes = length codes ≡ length sources * length targets

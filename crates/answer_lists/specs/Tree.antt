@@ -1,9 +1,8 @@
 -- A tree in three lists, each with a number for each vertex, and the first vertex at which such
 -- lists are wrong.
-use Rattle.std.specs.Prelude.{◌≡◌, ◌⊎◌, ◌↔◌, ℕ, ◌==◌, ◌&&◌, if◌then◌else◌, ℤ, pos, true, List, [], ◌∷◌, All, Option, Some, None, MatchOption, length}
+use Rattle.std.specs.Prelude.{◌≡◌, ◌⊎◌, ℕ, ◌==◌, ◌&&◌, if◌then◌else◌, true, List, [], ◌∷◌, Option, Some, None, MatchOption, length}
 use Rattle.road_graph.specs.GraphData.{GraphData, HasVertex}
 use Rattle.path_algebra.specs.Algebra.{Algebra}
-use Rattle.path_algebra.specs.Choices.{IsAlgebra}
 use Rattle.answer_text.specs.declared.answers.Reached.{Reached}
 use Rattle.answer_text.specs.IsAnswer.{AreVertexLines}
 use Rattle.answer_check.specs.declared.place.Place.{Place}
@@ -11,6 +10,8 @@ use Rattle.answer_check.specs.declared.verdict.Reason.{Reason}
 use Rattle.answer_check.specs.Reasons.{IsLineRefused, reason_number}
 use Rattle.answer_check.specs.Verdicts.{IsEarlier}
 use Rattle.answer_lists.specs.Answers.{HavePlaces}
+use Rattle.answer_lists.specs.declared.judging.FirstRefuted.{FirstRefuted}
+use Rattle.answer_lists.specs.declared.tree_lists.TreeLists.{TreeLists}
 
 -- the line of a vertex with this code, hops and parent; 2^64 - 1, 0 and 0 mean that no walk to it
 -- has a value
@@ -53,6 +54,22 @@ IsAllOrNone n count = (count ≡ n) ⊎ (count ≡ 0)
 abbrev pub HaveAllOrNone : ℕ → List ℕ → List ℕ → List ℕ → Type 0
 HaveAllOrNone n codes hops parents = IsAllOrNone n (length codes) × IsAllOrNone n (length hops) × IsAllOrNone n (length parents)
 
+-- each list that is wanted has a place for each of n vertices
+abbrev pub HavePlacesOrNone : ℕ → TreeLists → Type 0
+HavePlacesOrNone n lists = HaveAllOrNone n lists.codes.now lists.hops.now lists.parents.now
+
+-- the lists that are wanted are those of the tree
+abbrev pub HaveTree : {V : Type 0} → Algebra V → GraphData → List ℕ → TreeLists → Type 0
+HaveTree A g sources lists = AreWantedLists A g sources lists.codes.now lists.hops.now lists.parents.now
+
+-- these are the same lists, whatever is written to them
+abbrev pub AreSameLists : TreeLists → TreeLists → Type 0
+AreSameLists old new = (new.codes.ghost_name ≡ old.codes.ghost_name) × (new.hops.ghost_name ≡ old.hops.ghost_name) × (new.parents.ghost_name ≡ old.parents.ghost_name)
+
+-- nothing is written to them
+abbrev pub AreUnwritten : TreeLists → TreeLists → Type 0
+AreUnwritten old new = (new.codes.now ≡ old.codes.now) × (new.hops.now ≡ old.hops.now) × (new.parents.now ≡ old.parents.now)
+
 -- the lists are not the tree, and v is the first vertex whose line its neighbours' lines refute;
 -- the first reason has this number
 pub record IsFirstRefuted {V : Type 0} (A : Algebra V) (g : GraphData) (sources codes hops parents : List ℕ) (v number : ℕ) : Type 0 where
@@ -68,18 +85,9 @@ abbrev pub AreJudged : {V : Type 0} → Algebra V → GraphData → List ℕ →
 AreJudged A g sources codes hops parents found = MatchOption found (AreTreeLists A g sources codes hops parents)
     (λ p. IsFirstRefuted A g sources codes hops parents p.vertex (reason_number p.reason))
 
--- which checks of a tree are refused, in this order: a source is no vertex, a list does not have n
--- places, there is no such algebra
-pub record ReportsRefusals (g : GraphData) (number limit : ℕ) (sources codes hops parents : List ℕ) (status : ℤ) : Type 0 where
-  pub vertex : (status ≡ pos 17) ↔ (All (HasVertex g) sources → ⊥)
-  pub places : (status ≡ pos 2) ↔ (All (HasVertex g) sources × (HavePlaces g.vertices codes hops parents → ⊥))
-  pub algebra : (status ≡ pos 43) ↔ (All (HasVertex g) sources × HavePlaces g.vertices codes hops parents × (IsAlgebra number limit → ⊥))
-
--- which questions for a tree are refused: the same, but a list may also have no places
-pub record ReportsTreeRefusals (g : GraphData) (number limit : ℕ) (sources codes hops parents : List ℕ) (status : ℤ) : Type 0 where
-  pub vertex : (status ≡ pos 17) ↔ (All (HasVertex g) sources → ⊥)
-  pub places : (status ≡ pos 2) ↔ (All (HasVertex g) sources × (HaveAllOrNone g.vertices codes hops parents → ⊥))
-  pub algebra : (status ≡ pos 43) ↔ (All (HasVertex g) sources × HaveAllOrNone g.vertices codes hops parents × (IsAlgebra number limit → ⊥))
+-- the report of a check lies where it did
+abbrev pub IsSameReport : FirstRefuted → FirstRefuted → Type 0
+IsSameReport old new = (new.vertex.ghost_name ≡ old.vertex.ghost_name) × (new.reason.ghost_name ≡ old.reason.ghost_name)
 
 -- the number that is written for a code, hops or a parent, or for none
 abbrev pub code_for : {V : Type 0} → Algebra V → Option V → ℕ

@@ -3,10 +3,11 @@
 ghost use Rattle.std.specs.Prelude.{◌≡◌, ◌∷◌, [], pos, All, IfOk};
 ghost use Rattle.road_graph.specs.GraphData.{HasVertex};
 ghost use Rattle.path_algebra.specs.Choices.{OfAlgebra, Under};
-ghost use Rattle.answer_lists.specs.Answers.{HavePlaces, IsOneOf};
-ghost use Rattle.answer_lists.specs.Tree.{AreJudged, AreTreeLists, IsFirstRefuted, ReportsRefusals};
+ghost use Rattle.answer_lists.specs.Answers.{HavePlaces, IsOneOf, ReportsListRefusals};
+ghost use Rattle.answer_lists.specs.Tree.{AreJudged, AreTreeLists, IsFirstRefuted, IsSameReport};
 
-use crate::lines::ListedLines;
+use crate::algebra_number::AlgebraNumber;
+use crate::lines::{ListedLines, ListedTree};
 use crate::shared_graph::SharedGraph;
 use crate::sources::{are_vertices, vertices_of};
 use crate::status::{DONE, MEMORY, NO_ALGEBRA, NO_ROOM, NO_VERTEX, WRONG};
@@ -19,40 +20,46 @@ use std::alloc::Global;
 fn judge<A: PathAlgebra>(
     alloc: Global,
     algebra: A,
-    graph: &InGraph,
+    by_head: &InGraph,
     sources: &[u32],
-    lines: &ListedLines<'_>,
+    tree: &ListedTree<'_>,
 ) -> Result<Option<Place>, Memory>
-    requires sources { All (HasVertex graph.now) sources.now }
-    requires places { HavePlaces graph.now.vertices lines.now.codes.now lines.now.hops.now
-        lines.now.parents.now }
-    ensures { IfOk result (AreJudged (A.meaning algebra) graph.now sources.now
-        lines.now.codes.now lines.now.hops.now lines.now.parents.now) }
+    requires sources { All (HasVertex by_head.now) sources.now }
+    requires places { HavePlaces by_head.now.vertices tree.now.codes.now tree.now.hops.now tree.now.parents.now }
+    ensures { IfOk result (AreJudged (A.meaning algebra) by_head.now sources.now tree.now.codes.now
+        tree.now.hops.now tree.now.parents.now) }
 {
     laws_hold(algebra);
-    graph.holds();
+    by_head.holds();
     let list = vertices_of(alloc, sources)?;
-    first_wrong_line(alloc, algebra, graph, &list, lines)
+    let lines = ListedLines { tree: *tree };
+    first_wrong_line(alloc, algebra, by_head, &list, &lines)
 }
 
 /// The same, by the chosen algebra.
 fn judge_chosen(
     alloc: Global,
     chosen: AlgebraChoice,
-    graph: &InGraph,
+    by_head: &InGraph,
     sources: &[u32],
-    lines: &ListedLines<'_>,
+    tree: &ListedTree<'_>,
 ) -> Result<Option<Place>, Memory>
-    requires sources { All (HasVertex graph.now) sources.now }
-    requires places { HavePlaces graph.now.vertices lines.now.codes.now lines.now.hops.now
-        lines.now.parents.now }
-    ensures { Under chosen (λ V A. IfOk result (AreJudged A graph.now sources.now
-        lines.now.codes.now lines.now.hops.now lines.now.parents.now)) }
+    requires sources { All (HasVertex by_head.now) sources.now }
+    requires places { HavePlaces by_head.now.vertices tree.now.codes.now tree.now.hops.now tree.now.parents.now }
+    ensures { Under chosen (λ V A. IfOk result (AreJudged A by_head.now sources.now tree.now.codes.now
+        tree.now.hops.now tree.now.parents.now)) }
 {
     with_algebra!(
         chosen,
-        |algebra| judge(alloc, algebra, graph, sources, lines)
+        |algebra| judge(alloc, algebra, by_head, sources, tree)
     )
+}
+
+/// Where the first wrong vertex is reported, with the number of the first reason.
+#[derive(Drop)]
+pub struct FirstRefuted<'a> {
+    pub vertex: &'a mut u32,
+    pub reason: &'a mut u32,
 }
 
 /// Judges a tree by the algebra of a number and reports the first wrong vertex, if each source is a
@@ -60,49 +67,44 @@ fn judge_chosen(
 #[tactic(auto, using(path_algebra::proofs::Chosen::of_numbered))]
 pub fn check_tree(
     alloc: Global,
-    number: u32,
-    limit: u64,
+    by: AlgebraNumber,
     shared: &mut SharedGraph,
     sources: &[u32],
-    codes: &[u64],
-    hops: &[u32],
-    parents: &[u32],
-    vertex: &mut u32,
-    reason: &mut u32,
+    tree: &ListedTree<'_>,
+    first: &mut FirstRefuted<'_>,
 ) -> i32
     ensures graph { shared.new ≡ shared.old }
-    ensures right { result ≡ pos 0 → OfAlgebra number limit (λ V A. AreTreeLists A shared.old
-        sources.now codes.now hops.now parents.now) }
-    ensures wrong { result ≡ pos 6 → OfAlgebra number limit (λ V A. IsFirstRefuted A shared.old
-        sources.now codes.now hops.now parents.now vertex.new reason.new) }
-    ensures kept { (result ≡ pos 6 → ⊥) → (vertex.new ≡ vertex.old) × (reason.new ≡ reason.old) }
-    ensures refusals { ReportsRefusals shared.old number limit sources.now codes.now hops.now
-        parents.now result }
+    ensures right { result ≡ pos 0 → OfAlgebra by.algebra by.limit (λ V A. AreTreeLists A
+        shared.old sources.now tree.now.codes.now tree.now.hops.now tree.now.parents.now) }
+    ensures wrong { result ≡ pos 6 → OfAlgebra by.algebra by.limit (λ V A. IsFirstRefuted A
+        shared.old sources.now tree.now.codes.now tree.now.hops.now tree.now.parents.now first.new.vertex.now
+        first.new.reason.now) }
+    ensures same { IsSameReport first.old first.new }
+    ensures kept { (result ≡ pos 6 → ⊥) → (first.new.vertex.now ≡ first.old.vertex.now) ×
+        (first.new.reason.now ≡ first.old.reason.now) }
+    ensures refusals { ReportsListRefusals (All (HasVertex shared.old) sources.now)
+        (HavePlaces shared.old.vertices tree.now.codes.now tree.now.hops.now tree.now.parents.now)
+        by.algebra by.limit result }
     ensures status { IsOneOf (0 ∷ 2 ∷ 3 ∷ 6 ∷ 17 ∷ 43 ∷ []) result }
 {
     if !are_vertices(shared.graph(), sources) {
         return NO_VERTEX;
     }
     let n = shared.graph().vertices() as usize;
-    if codes.len() != n || hops.len() != n || parents.len() != n {
+    if tree.codes.len() != n || tree.hops.len() != n || tree.parents.len() != n {
         return NO_ROOM;
     }
-    let Some(chosen) = AlgebraChoice::numbered(number, limit) else {
+    let Some(chosen) = AlgebraChoice::numbered(by.algebra, by.limit) else {
         return NO_ALGEBRA;
     };
-    let Ok(rows) = shared.rows(alloc) else {
+    let Ok(by_head) = shared.by_head(alloc) else {
         return MEMORY;
     };
-    let lines = ListedLines {
-        codes,
-        hops,
-        parents,
-    };
-    match judge_chosen(alloc, chosen, &rows, sources, &lines) {
+    match judge_chosen(alloc, chosen, &by_head, sources, tree) {
         Ok(None) => DONE,
         Ok(Some(place)) => {
-            *vertex = place.vertex;
-            *reason = place.reason.number();
+            *first.vertex = place.vertex;
+            *first.reason = place.reason.number();
             WRONG
         }
         Err(Memory) => MEMORY,

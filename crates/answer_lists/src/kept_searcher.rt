@@ -1,12 +1,12 @@
 //! A searcher that is kept from one route to the next.
 
 ghost use Rattle.std.specs.Prelude.{◌≡◌, IfOk, IsTrue};
-ghost use Rattle.road_graph.specs.GraphData.{HasVertex};
 ghost use Rattle.path_algebra.specs.Choices.{Under};
 ghost use Rattle.path_plain.specs.Halting.{CanHalt};
 ghost use Rattle.path_plain.specs.Searcher.{IsOfSameGraph};
 ghost use Rattle.route_tree.specs.Found.{IsFoundIfNear};
 ghost use Rattle.route_tree.specs.declared.found.Nearby.TheVariants.{Undecided};
+ghost use Rattle.answer_lists.specs.Answers.{HasBoth};
 ghost use Rattle.answer_lists.specs.Kept.{IsKeptFor, algebra_of, graph_of};
 
 use path_algebra::{AlgebraChoice, Hops, PathAlgebra, Reach, Reliable, Shortest, Widest, Within};
@@ -90,26 +90,25 @@ impl KeptSearcher {
     pub(crate) fn route(
         &mut self,
         graph: &OutGraph,
-        rows: &InGraph,
+        by_head: &InGraph,
         ends: (Vertex, Vertex),
         halt: &mut Halt<'_>,
     ) -> Result<Nearby, Memory>
         requires graph { graph.now ≡ graph_of self.old }
-        requires rows { rows.now ≡ graph.now }
-        requires source { HasVertex graph.now ends.0 }
-        requires target { HasVertex graph.now ends.1 }
+        requires by_head { by_head.now ≡ graph.now }
+        requires ends { HasBoth graph.now ends.0 ends.1 }
         ensures found { Under (algebra_of self.old) (λ V A. IfOk result
             (IsFoundIfNear A graph.now ends.0 ends.1)) }
         ensures halts { IfOk result (λ near. near ≡ Undecided → CanHalt halt.old) }
         ensures graph { graph_of self.new ≡ graph_of self.old }
     {
         match self {
-            KeptSearcher::Shortest(searcher) => searcher.solve_unless(graph, rows, ends, halt),
-            KeptSearcher::Widest(searcher) => searcher.solve_unless(graph, rows, ends, halt),
-            KeptSearcher::Reach(searcher) => searcher.solve_unless(graph, rows, ends, halt),
-            KeptSearcher::Hops(searcher) => searcher.solve_unless(graph, rows, ends, halt),
-            KeptSearcher::Reliable(searcher) => searcher.solve_unless(graph, rows, ends, halt),
-            KeptSearcher::Within(searcher) => searcher.solve_unless(graph, rows, ends, halt),
+            KeptSearcher::Shortest(searcher) => searcher.solve_unless(graph, by_head, ends, halt),
+            KeptSearcher::Widest(searcher) => searcher.solve_unless(graph, by_head, ends, halt),
+            KeptSearcher::Reach(searcher) => searcher.solve_unless(graph, by_head, ends, halt),
+            KeptSearcher::Hops(searcher) => searcher.solve_unless(graph, by_head, ends, halt),
+            KeptSearcher::Reliable(searcher) => searcher.solve_unless(graph, by_head, ends, halt),
+            KeptSearcher::Within(searcher) => searcher.solve_unless(graph, by_head, ends, halt),
         }
     }
 }

@@ -2,8 +2,9 @@
 //! lends.
 #![tactic(auto)]
 
+mod algebra_number;
 mod codes;
-mod factored;
+mod factored_graph;
 mod factoring;
 mod judging;
 mod kept_searcher;
@@ -19,20 +20,25 @@ mod sources;
 mod status;
 mod stopping;
 mod table;
+mod table_rows;
 mod tree;
 mod tree_lists;
 
+pub use algebra_number::AlgebraNumber;
 pub use factoring::factor_graph;
-pub use judging::check_tree;
+pub use judging::{FirstRefuted, check_tree};
+pub use lines::ListedTree;
 pub use near::answer_near;
+pub use near_lists::NearLists;
 pub use path_plain::Stop;
 pub use reweigh::reweigh_graph;
-pub use route::answer_route;
-pub use route_arcs::answer_route_arcs;
+pub use route::{RouteRoom, answer_route};
+pub use route_arcs::{RouteArcsRoom, answer_route_arcs};
 pub use shared_graph::SharedGraph;
 pub use status::{
     DENSE, DONE, HEAVY, MEMORY, NO_ALGEBRA, NO_FACTORS, NO_LINK, NO_ROOM, NO_ROUTE, NO_VERTEX,
     STOPPED, WRONG,
 };
-pub use table::answer_table;
+pub use table::{TableEnds, answer_table};
 pub use tree::answer_tree;
+pub use tree_lists::TreeLists;

@@ -18,23 +18,30 @@ fn line_of(code: u64, hops: u32, parent: u32) -> Option<Reached>
     Some(Reached { code, hops, parent })
 }
 
-/// Three lists of one length, each with a number for each vertex.
+/// The three lists of a tree, as a caller lends them to be read: the code, the hops and the parent
+/// of each vertex.
+#[derive(Clone, Copy)]
+pub struct ListedTree<'l> {
+    pub codes: &'l [u64],
+    pub hops: &'l [u32],
+    pub parents: &'l [u32],
+}
+
+/// Such lists of one length, line by line.
 #[derive(Clone, Copy)]
 pub(crate) struct ListedLines<'l> {
-    pub(crate) codes: &'l [u64],
-    pub(crate) hops: &'l [u32],
-    pub(crate) parents: &'l [u32],
-    ghost as_many_hops: { length hops.now ≡ length codes.now },
-    ghost as_many_parents: { length parents.now ≡ length codes.now },
+    pub(crate) tree: ListedTree<'l>,
+    ghost as_many_hops: { length tree.hops.now ≡ length tree.codes.now },
+    ghost as_many_parents: { length tree.parents.now ≡ length tree.codes.now },
 }
 
 impl VertexLines for ListedLines<'_> {
     ghost use Rattle.answer_lists.specs.Tree.{lines_of};
 
-    ghost list = { λ l. lines_of l.codes.now l.hops.now l.parents.now };
+    ghost list = { λ l. lines_of l.tree.codes.now l.tree.hops.now l.tree.parents.now };
 
     fn line_of(&self, v: Vertex) -> Option<Reached> {
         let i = v.0 as usize - 1;
-        line_of(self.codes[i], self.hops[i], self.parents[i])
+        line_of(self.tree.codes[i], self.tree.hops[i], self.tree.parents[i])
     }
 }

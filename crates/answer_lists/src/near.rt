@@ -6,12 +6,13 @@ ghost use Rattle.std.specs.List.{All};
 ghost use Rattle.road_graph.specs.GraphData.{HasVertex};
 ghost use Rattle.path_algebra.specs.Choices.{OfAlgebra, Under};
 ghost use Rattle.path_plain.specs.Halting.{CanHalt};
-ghost use Rattle.answer_lists.specs.Answers.{IsFound, IsOneOf};
+ghost use Rattle.answer_lists.specs.Answers.{IsFound, IsOneOf, ReportsRefusals};
 ghost use Rattle.answer_lists.specs.KeptTree.{code_in, graph_in, tree_in, vertices_in};
-ghost use Rattle.answer_lists.specs.Near.{AreLongOrNone, AreNearLines, AreNearLists, HaveLines, IsReachedCount, IsSameAfter, ReportsNearRefusals, hops_at, parent_at};
+ghost use Rattle.answer_lists.specs.Near.{AreNearLines, HaveLines, HaveNear, IsReachedCount, IsWrittenNear, hops_at, parent_at};
 
+use crate::algebra_number::AlgebraNumber;
 use crate::kept_tree::KeptTree;
-use crate::near_lists::write_lists;
+use crate::near_lists::{NearLists, write_lists};
 use crate::shared_graph::SharedGraph;
 use crate::sources::{are_vertices, vertices_of};
 use crate::status::{MEMORY, NO_ALGEBRA, NO_VERTEX, STOPPED};
@@ -52,28 +53,15 @@ fn answer(
     shared: &mut SharedGraph,
     stop: &Option<Stop>,
     sources: &[u32],
-    vertices: &mut [u32],
-    codes: &mut [u64],
-    hops: &mut [u32],
-    parents: &mut [u32],
-    count: &mut usize,
+    lists: &mut NearLists<'_>,
 ) -> i32
     requires { All (HasVertex shared.old) sources.now }
     ensures graph { shared.new ≡ shared.old }
     ensures count { IsFound result → Under chosen (λ V A. IsReachedCount A shared.old sources.now
-        count.new) }
-    ensures lists { result ≡ pos 0 → Under chosen (λ V A. AreNearLists A shared.old sources.now
-        count.new vertices.new codes.new hops.new parents.new) }
-    ensures rest { result ≡ pos 0 → IsSameAfter count.new vertices.old vertices.new ×
-        IsSameAfter count.new codes.old codes.new × IsSameAfter count.new hops.old hops.new ×
-        IsSameAfter count.new parents.old parents.new }
-    ensures short { result ≡ pos 2 → AreLongOrNone count.new vertices.old codes.old hops.old
-        parents.old → ⊥ }
-    ensures long { result ≡ pos 0 → AreLongOrNone count.new vertices.old codes.old hops.old
-        parents.old }
-    ensures kept { (result ≡ pos 0 → ⊥) → (vertices.new ≡ vertices.old) × (codes.new ≡ codes.old) ×
-        (hops.new ≡ hops.old) × (parents.new ≡ parents.old) }
-    ensures place { (IsFound result → ⊥) → count.new ≡ count.old }
+        lists.new.count.now) }
+    ensures lists { result ≡ pos 0 → Under chosen (λ V A. HaveNear A shared.old sources.now
+        lists.new) }
+    ensures written { IsWrittenNear lists.old lists.new result }
     ensures stopped { result ≡ pos 45 → IsSome stop.now }
     ensures status { IsOneOf (0 ∷ 2 ∷ 3 ∷ 45 ∷ []) result }
 {
@@ -87,58 +75,42 @@ fn answer(
         shared.put_tree(kept);
         return STOPPED;
     }
-    *count = kept.reached().len();
-    let status = write_lists(&kept, vertices, codes, hops, parents);
+    let status = write_lists(&kept, lists);
     shared.put_tree(kept);
     status
 }
 
 /// Finds by the algebra of a number what is reached from the nearest of some sources, and writes
-/// it, the best first, if each source is a vertex, there is such an algebra, and each list has a
-/// place for each vertex that is reached.
+/// it, the best first, if each source is a vertex, there is such an algebra, and each list that is
+/// wanted has a place for each vertex that is reached.
 ///
-/// A list without places is not wanted. If a list is too short, the count is still written. The
-/// search ends without an answer soon after the stop is set, if there is one.
+/// If a list is too short, the count is still written. The search ends without an answer soon after
+/// the stop is set, if there is one.
 #[tactic(auto, using(path_algebra::proofs::Chosen::of_numbered))]
 pub fn answer_near(
     alloc: Global,
-    number: u32,
-    limit: u64,
+    by: AlgebraNumber,
     shared: &mut SharedGraph,
     stop: &Option<Stop>,
     sources: &[u32],
-    vertices: &mut [u32],
-    codes: &mut [u64],
-    hops: &mut [u32],
-    parents: &mut [u32],
-    count: &mut usize,
+    lists: &mut NearLists<'_>,
 ) -> i32
     ensures graph { shared.new ≡ shared.old }
-    ensures count { IsFound result → OfAlgebra number limit (λ V A. IsReachedCount A shared.old
-        sources.now count.new) }
-    ensures lists { result ≡ pos 0 → OfAlgebra number limit (λ V A. AreNearLists A shared.old
-        sources.now count.new vertices.new codes.new hops.new parents.new) }
-    ensures rest { result ≡ pos 0 → IsSameAfter count.new vertices.old vertices.new ×
-        IsSameAfter count.new codes.old codes.new × IsSameAfter count.new hops.old hops.new ×
-        IsSameAfter count.new parents.old parents.new }
-    ensures short { result ≡ pos 2 → AreLongOrNone count.new vertices.old codes.old hops.old
-        parents.old → ⊥ }
-    ensures long { result ≡ pos 0 → AreLongOrNone count.new vertices.old codes.old hops.old
-        parents.old }
-    ensures kept { (result ≡ pos 0 → ⊥) → (vertices.new ≡ vertices.old) × (codes.new ≡ codes.old) ×
-        (hops.new ≡ hops.old) × (parents.new ≡ parents.old) }
-    ensures place { (IsFound result → ⊥) → count.new ≡ count.old }
-    ensures refusals { ReportsNearRefusals shared.old number limit sources.now result }
+    ensures count { IsFound result → OfAlgebra by.algebra by.limit (λ V A. IsReachedCount A
+        shared.old sources.now lists.new.count.now) }
+    ensures lists { result ≡ pos 0 → OfAlgebra by.algebra by.limit (λ V A. HaveNear A
+        shared.old sources.now lists.new) }
+    ensures written { IsWrittenNear lists.old lists.new result }
+    ensures refusals { ReportsRefusals (All (HasVertex shared.old) sources.now) by.algebra
+        by.limit result }
     ensures stopped { result ≡ pos 45 → IsSome stop.now }
     ensures status { IsOneOf (0 ∷ 2 ∷ 3 ∷ 17 ∷ 43 ∷ 45 ∷ []) result }
 {
     if !are_vertices(shared.graph(), sources) {
         return NO_VERTEX;
     }
-    let Some(chosen) = AlgebraChoice::numbered(number, limit) else {
+    let Some(chosen) = AlgebraChoice::numbered(by.algebra, by.limit) else {
         return NO_ALGEBRA;
     };
-    answer(
-        alloc, chosen, shared, stop, sources, vertices, codes, hops, parents, count,
-    )
+    answer(alloc, chosen, shared, stop, sources, lists)
 }

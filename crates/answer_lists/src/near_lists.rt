@@ -1,15 +1,26 @@
-//! Four lists of the caller, to which what a kept searcher reached is written.
+//! The four lists of a caller to which what a kept searcher reached is written.
 
 ghost use Rattle.std.specs.Prelude.{◌≡◌, ◌≤◌, ◌↔◌, IsTrue, length, map, pos, take};
 ghost use Rattle.std.specs.List.{All};
 ghost use Rattle.road_graph.specs.GraphData.{HasVertex};
 ghost use Rattle.answer_lists.specs.Answers.{IsFound};
 ghost use Rattle.answer_lists.specs.KeptTree.{code_in, graph_in, tree_in, vertices_in};
-ghost use Rattle.answer_lists.specs.Near.{AreLongOrNone, BeginsOrNone, IsLongOrNone, IsSameAfter, hops_at, parent_at};
+ghost use Rattle.answer_lists.specs.Near.{AreLongOrNone, BeginsOrNone, IsLongOrNone, IsSameAfter, IsWrittenNear, hops_at, parent_at};
 
 use crate::kept_tree::KeptTree;
 use crate::route::copy;
 use crate::status::{DONE, NO_ROOM};
+
+/// The lists of what is reached, as a caller lends them to be written: the vertices, of each the
+/// code, the hops and the parent, and how many there are. A list without places is not wanted.
+#[derive(Drop)]
+pub struct NearLists<'a> {
+    pub vertices: &'a mut [u32],
+    pub codes: &'a mut [u64],
+    pub hops: &'a mut [u32],
+    pub parents: &'a mut [u32],
+    pub count: &'a mut usize,
+}
 
 /// Writes the codes of what is reached.
 fn fill_codes(kept: &KeptTree, codes: &mut [u64])
@@ -115,56 +126,39 @@ fn is_long_or_none(n: usize, count: usize) -> bool
 }
 
 /// Whether each list has a place for each of n vertices or more, or none.
-fn are_long_or_none(
-    n: usize,
-    vertices: &[u32],
-    codes: &[u64],
-    hops: &[u32],
-    parents: &[u32],
-) -> bool
-    ensures { IsTrue result ↔ AreLongOrNone n vertices.now codes.now hops.now parents.now }
+fn are_long_or_none(n: usize, lists: &NearLists<'_>) -> bool
+    ensures { IsTrue result ↔ AreLongOrNone n lists.now.vertices.now lists.now.codes.now
+        lists.now.hops.now lists.now.parents.now }
 {
-    is_long_or_none(n, vertices.len())
-        && is_long_or_none(n, codes.len())
-        && is_long_or_none(n, hops.len())
-        && is_long_or_none(n, parents.len())
+    is_long_or_none(n, lists.vertices.len())
+        && is_long_or_none(n, lists.codes.len())
+        && is_long_or_none(n, lists.hops.len())
+        && is_long_or_none(n, lists.parents.len())
 }
 
-/// Writes four lists, if each that is wanted has a place for each vertex that is reached.
-pub(crate) fn write_lists(
-    kept: &KeptTree,
-    vertices: &mut [u32],
-    codes: &mut [u64],
-    hops: &mut [u32],
-    parents: &mut [u32],
-) -> i32
+/// Counts what is reached, and writes it, if each list that is wanted has a place for each vertex.
+pub(crate) fn write_lists(kept: &KeptTree, lists: &mut NearLists<'_>) -> i32
     requires { All (HasVertex (graph_in kept.now)) (vertices_in kept.now) }
-    ensures vertices { result ≡ pos 0 → BeginsOrNone (length (vertices_in kept.now)) vertices.new
-        (vertices_in kept.now) }
-    ensures codes { result ≡ pos 0 → BeginsOrNone (length (vertices_in kept.now)) codes.new
-        (map (code_in kept.now) (vertices_in kept.now)) }
-    ensures hops { result ≡ pos 0 → BeginsOrNone (length (vertices_in kept.now)) hops.new
-        (map (hops_at (tree_in kept.now)) (vertices_in kept.now)) }
-    ensures parents { result ≡ pos 0 → BeginsOrNone (length (vertices_in kept.now)) parents.new
-        (map (parent_at (tree_in kept.now)) (vertices_in kept.now)) }
-    ensures rest { result ≡ pos 0 → IsSameAfter (length (vertices_in kept.now)) vertices.old
-        vertices.new × IsSameAfter (length (vertices_in kept.now)) codes.old codes.new ×
-        IsSameAfter (length (vertices_in kept.now)) hops.old hops.new ×
-        IsSameAfter (length (vertices_in kept.now)) parents.old parents.new }
-    ensures short { result ≡ pos 2 → AreLongOrNone (length (vertices_in kept.now)) vertices.old
-        codes.old hops.old parents.old → ⊥ }
-    ensures long { result ≡ pos 0 → AreLongOrNone (length (vertices_in kept.now)) vertices.old
-        codes.old hops.old parents.old }
-    ensures kept { (result ≡ pos 0 → ⊥) → (vertices.new ≡ vertices.old) × (codes.new ≡ codes.old) ×
-        (hops.new ≡ hops.old) × (parents.new ≡ parents.old) }
+    ensures count { lists.new.count.now ≡ length (vertices_in kept.now) }
+    ensures vertices { result ≡ pos 0 → BeginsOrNone (length (vertices_in kept.now))
+        lists.new.vertices.now (vertices_in kept.now) }
+    ensures codes { result ≡ pos 0 → BeginsOrNone (length (vertices_in kept.now))
+        lists.new.codes.now (map (code_in kept.now) (vertices_in kept.now)) }
+    ensures hops { result ≡ pos 0 → BeginsOrNone (length (vertices_in kept.now))
+        lists.new.hops.now (map (hops_at (tree_in kept.now)) (vertices_in kept.now)) }
+    ensures parents { result ≡ pos 0 → BeginsOrNone (length (vertices_in kept.now))
+        lists.new.parents.now (map (parent_at (tree_in kept.now)) (vertices_in kept.now)) }
+    ensures written { IsWrittenNear lists.old lists.new result }
     ensures found { IsFound result }
 {
-    if !are_long_or_none(kept.reached().len(), vertices, codes, hops, parents) {
+    let count = kept.reached().len();
+    *lists.count = count;
+    if !are_long_or_none(count, lists) {
         return NO_ROOM;
     }
-    write_vertices(kept, vertices);
-    write_codes(kept, codes);
-    write_hops(kept, hops);
-    write_parents(kept, parents);
+    write_vertices(kept, lists.vertices);
+    write_codes(kept, lists.codes);
+    write_hops(kept, lists.hops);
+    write_parents(kept, lists.parents);
     DONE
 }

@@ -24,10 +24,10 @@ fn reweigh_for(
     let Some(factored) = first.factored(cost) else {
         return Ok(());
     };
-    let Ok(rows) = second.rows(alloc) else {
+    let Ok(by_head) = second.by_head(alloc) else {
         return Err(MEMORY);
     };
-    match factored.reweighed(alloc, second.graph(), &rows) {
+    match factored.reweighed(alloc, second.graph(), &by_head) {
         Ok(reweighed) => {
             second.put_factored(reweighed);
             Ok(())

@@ -1,18 +1,17 @@
 //! A route, written to memory that the caller lends.
 
-ghost use Rattle.std.specs.Prelude.{◌≡◌, ◌≤◌, ◌<◌, ◌+◌, ◌↔◌, ◌∷◌, [], length, take, drop, pos, IfOk, IfSome, IsSome};
-ghost use Rattle.road_graph.specs.GraphData.{HasVertex};
-ghost use Rattle.path_algebra.specs.Carried.{IsCarried};
-ghost use Rattle.path_algebra.specs.Choices.{IsAlgebra, OfAlgebra, Under};
-ghost use Rattle.path_algebra.specs.Counted.{cost_of};
-ghost use Rattle.route_tree.specs.Found.{IsFoundIfNear, IsPairFound};
+ghost use Rattle.std.specs.Prelude.{◌≡◌, ◌≤◌, ◌<◌, ◌+◌, ◌∷◌, [], length, take, drop, pos, IfErr, IfOk, IsSome};
+ghost use Rattle.path_algebra.specs.Choices.{OfAlgebra, Under};
+ghost use Rattle.path_algebra.specs.Walks.{IsUnreached};
+ghost use Rattle.route_tree.specs.Found.{IsFoundBetween, IsFoundIfNear, found_of};
 ghost use Rattle.route_tree.specs.declared.found.Nearby.TheVariants.{Undecided};
-ghost use Rattle.answer_lists.specs.Answers.{IsAnswered, IsFound, IsOneOf, ReportsRoute, HasBoth};
+ghost use Rattle.answer_lists.specs.Answers.{HasBoth, IsAnswered, IsFound, IsOneOf, ReportsRefusals, ReportsRoute};
+ghost use Rattle.answer_lists.specs.Route.{IsWrittenRoute};
 
-use crate::factored::Factored;
+use crate::algebra_number::AlgebraNumber;
 use crate::shared_graph::SharedGraph;
 use crate::status::{DONE, MEMORY, NO_ALGEBRA, NO_ROOM, NO_ROUTE, NO_VERTEX, STOPPED};
-use path_algebra::{AlgebraChoice, with_algebra};
+use path_algebra::{AlgebraChoice, PathAlgebra, with_algebra};
 use path_plain::{Halt, Stop};
 use road_graph::{InGraph, Memory, Vertex};
 use route_tree::{Found, Nearby};
@@ -22,91 +21,132 @@ use std::alloc::Global;
 /// are asked: most near routes need fewer, and a far one loses some hundredths of its time.
 const NEAR: u32 = 500;
 
-/// Takes the factors out for an algebra, if there are any.
-fn take_factored(chosen: AlgebraChoice, shared: &mut SharedGraph) -> Option<Factored>
-    ensures kept { shared.new ≡ shared.old }
-    ensures roads { IfSome result (λ f. f.roads ≡ shared.old) }
-    ensures carried { Under chosen (λ V A. IfSome result (λ f. IsCarried A (cost_of f.algebra.cost))) }
-{
-    with_algebra!(chosen, |algebra| shared.take_factored(algebra))
-}
-
-/// The best code and the route by factors; none if no walk to the target has a value.
-fn query(
+/// The best code and the route by factors, none if no walk to the target has a value; or undecided,
+/// if there are no factors for the algebra.
+fn ask<A: PathAlgebra>(
     alloc: Global,
-    chosen: AlgebraChoice,
-    factored: &mut Factored,
-    rows: &InGraph,
+    algebra: A,
+    shared: &mut SharedGraph,
+    by_head: &InGraph,
     ends: (Vertex, Vertex),
-) -> Result<Option<Found>, Memory>
-    requires carried { Under chosen (λ V A. IsCarried A (cost_of factored.old.algebra.cost)) }
-    requires rows { rows.now ≡ factored.old.roads }
-    requires source { HasVertex factored.old.roads ends.0 }
-    requires target { HasVertex factored.old.roads ends.1 }
-    ensures kept { factored.new ≡ factored.old }
-    ensures found { Under chosen (λ V A. IfOk result
-        (IsPairFound A factored.old.roads ends.0 ends.1)) }
+) -> Result<Nearby, Memory>
+    requires by_head { by_head.now ≡ shared.old }
+    requires ends { HasBoth shared.old ends.0 ends.1 }
+    ensures graph { shared.new ≡ shared.old }
+    ensures found { IfOk result (IsFoundIfNear (A.meaning algebra) shared.old ends.0 ends.1) }
 {
-    with_algebra!(chosen, |algebra| factored.route(alloc, algebra, rows, ends))
+    let Some(mut factored) = shared.take_factored(algebra) else {
+        return Ok(Nearby::Undecided);
+    };
+    let found = factored.route(alloc, algebra, by_head, ends);
+    shared.put_factored(factored);
+    Ok(Nearby::Decided(found?))
 }
 
-/// The best code and the route on a factored graph: by a search if it decides the pair soon, and
-/// else by the factors.
-fn find_factored(
+/// The same, by the chosen algebra.
+fn ask_chosen(
     alloc: Global,
     chosen: AlgebraChoice,
     shared: &mut SharedGraph,
-    factored: &mut Factored,
-    rows: &InGraph,
-    source: Vertex,
-    target: Vertex,
-) -> Result<Option<Found>, Memory>
-    requires carried { Under chosen (λ V A. IsCarried A (cost_of factored.old.algebra.cost)) }
-    requires roads { factored.old.roads ≡ shared.old }
-    requires rows { rows.now ≡ shared.old }
-    requires source { HasVertex shared.old source }
-    requires target { HasVertex shared.old target }
+    by_head: &InGraph,
+    ends: (Vertex, Vertex),
+) -> Result<Nearby, Memory>
+    requires by_head { by_head.now ≡ shared.old }
+    requires ends { HasBoth shared.old ends.0 ends.1 }
     ensures graph { shared.new ≡ shared.old }
-    ensures kept { factored.new ≡ factored.old }
-    ensures found { Under chosen (λ V A. IfOk result (IsPairFound A shared.old source target)) }
+    ensures found { Under chosen (λ V A. IfOk result (IsFoundIfNear A shared.old ends.0 ends.1)) }
 {
+    with_algebra!(chosen, |algebra| ask(alloc, algebra, shared, by_head, ends))
+}
+
+/// The best code and the route on a factored graph, none if no walk to the target has a value: by a
+/// search if it decides the pair soon, and else by factors. It is undecided if neither decides it.
+fn find_soon(
+    alloc: Global,
+    chosen: AlgebraChoice,
+    shared: &mut SharedGraph,
+    by_head: &InGraph,
+    ends: (Vertex, Vertex),
+) -> Result<Nearby, Memory>
+    requires by_head { by_head.now ≡ shared.old }
+    requires ends { HasBoth shared.old ends.0 ends.1 }
+    ensures graph { shared.new ≡ shared.old }
+    ensures found { Under chosen (λ V A. IfOk result (IsFoundIfNear A shared.old ends.0 ends.1)) }
+{
+    let (source, target) = ends;
     match shared.search(
         alloc,
         chosen,
-        rows,
+        by_head,
         (source, target),
         &mut Halt::After(NEAR),
     ) {
-        Ok(Nearby::Decided(found)) => Ok(found),
+        Ok(Nearby::Decided(found)) => Ok(Nearby::Decided(found)),
         Ok(Nearby::Undecided) | Err(Memory) => {
-            query(alloc, chosen, factored, rows, (source, target))
+            ask_chosen(alloc, chosen, shared, by_head, (source, target))
         }
     }
 }
 
 /// The best code and the route, none if no walk to the target has a value; or undecided, if a stop
 /// was set.
-fn find(
+fn find_near(
     alloc: Global,
     chosen: AlgebraChoice,
     shared: &mut SharedGraph,
     stop: &Option<Stop>,
-    source: Vertex,
-    target: Vertex,
+    ends: (Vertex, Vertex),
 ) -> Result<Nearby, Memory>
-    requires source { HasVertex shared.old source }
-    requires target { HasVertex shared.old target }
+    requires { HasBoth shared.old ends.0 ends.1 }
     ensures graph { shared.new ≡ shared.old }
-    ensures found { Under chosen (λ V A. IfOk result (IsFoundIfNear A shared.old source target)) }
+    ensures found { Under chosen (λ V A. IfOk result (IsFoundIfNear A shared.old ends.0 ends.1)) }
     ensures stopped { IfOk result (λ near. near ≡ Undecided → IsSome stop.now) }
 {
-    let rows = shared.rows(alloc)?;
-    let Some(mut factored) = take_factored(chosen, shared) else {
-        return shared.search(alloc, chosen, &rows, (source, target), &mut Halt::by(stop));
+    let (source, target) = ends;
+    let by_head = shared.by_head(alloc)?;
+    if shared.has_factors() {
+        let soon = find_soon(alloc, chosen, shared, &by_head, (source, target))?;
+        if let Nearby::Decided(found) = soon {
+            return Ok(Nearby::Decided(found));
+        }
+    }
+    shared.search(
+        alloc,
+        chosen,
+        &by_head,
+        (source, target),
+        &mut Halt::by(stop),
+    )
+}
+
+/// The best code and the route, or the status that says why there are none.
+pub(crate) fn find(
+    alloc: Global,
+    chosen: AlgebraChoice,
+    shared: &mut SharedGraph,
+    stop: &Option<Stop>,
+    ends: (Vertex, Vertex),
+) -> Result<Found, i32>
+    requires { HasBoth shared.old ends.0 ends.1 }
+    ensures graph { shared.new ≡ shared.old }
+    ensures found { Under chosen (λ V A. IfOk result (λ found. IsFoundBetween A shared.old ends.0
+        ends.1 (found_of found))) }
+    ensures count { IfOk result (λ found. length found.route.items ≡ found.hops + 1) }
+    ensures none { Under chosen (λ V A. IfErr result (λ status. status ≡ pos 1 → IsUnreached A
+        shared.old (ends.0 ∷ []) ends.1)) }
+    ensures stopped { IfErr result (λ status. status ≡ pos 45 → IsSome stop.now) }
+    ensures status { IfErr result (IsOneOf (1 ∷ 3 ∷ 45 ∷ [])) }
+{
+    let Ok(near) = find_near(alloc, chosen, shared, stop, ends) else {
+        return Err(MEMORY);
     };
-    let found = find_factored(alloc, chosen, shared, &mut factored, &rows, source, target);
-    shared.put_factored(factored);
-    Ok(Nearby::Decided(found?))
+    let Nearby::Decided(found) = near else {
+        return Err(STOPPED);
+    };
+    let Some(found) = found else {
+        return Err(NO_ROUTE);
+    };
+    Ok(found)
 }
 
 /// Copies the vertices of a route into the room.
@@ -121,7 +161,7 @@ pub(crate) fn copy(list: &[Vertex], room: &mut [u32])
     }
 }
 
-/// Writes a route, if the room is long enough.
+/// Writes the vertices of a route, if the room is long enough.
 fn write_route(found: &Found, room: &mut [u32]) -> i32
     requires { length found.now.route.items ≡ found.now.hops + 1 }
     ensures found { IsFound result }
@@ -139,42 +179,39 @@ fn write_route(found: &Found, room: &mut [u32]) -> i32
     DONE
 }
 
+/// Where a route is written, as a caller lends it: its code, its hops, and room for its vertices.
+#[derive(Drop)]
+pub struct RouteRoom<'a> {
+    pub code: &'a mut u64,
+    pub hops: &'a mut u32,
+    pub vertices: &'a mut [u32],
+}
+
 /// Finds a route by the chosen algebra and writes it.
-pub(crate) fn answer(
+fn answer(
     alloc: Global,
     chosen: AlgebraChoice,
     shared: &mut SharedGraph,
     stop: &Option<Stop>,
-    source: Vertex,
-    target: Vertex,
-    code: &mut u64,
-    hops: &mut u32,
-    room: &mut [u32],
+    ends: (Vertex, Vertex),
+    room: &mut RouteRoom<'_>,
 ) -> i32
-    requires { HasBoth shared.old source target }
+    requires { HasBoth shared.old ends.0 ends.1 }
     ensures graph { shared.new ≡ shared.old }
-    ensures tells { Under chosen (λ V A. ReportsRoute A shared.old source target result code.new
-        hops.new room.new) }
-    ensures short { result ≡ pos 2 → length room.old < hops.new + 1 }
-    ensures long { result ≡ pos 0 → hops.new + 1 ≤ length room.old }
-    ensures room { (result ≡ pos 0 → ⊥) → room.new ≡ room.old }
-    ensures rest { result ≡ pos 0 → drop (hops.new + 1) room.new ≡ drop (hops.new + 1) room.old }
-    ensures places { (IsFound result → ⊥) → (code.new ≡ code.old) × (hops.new ≡ hops.old) }
+    ensures tells { Under chosen (λ V A. ReportsRoute A shared.old ends.0 ends.1 result
+        room.new.code.now room.new.hops.now room.new.vertices.now) }
+    ensures written { IsWrittenRoute room.old room.new result }
     ensures stopped { result ≡ pos 45 → IsSome stop.now }
     ensures status { IsOneOf (0 ∷ 1 ∷ 2 ∷ 3 ∷ 45 ∷ []) result }
 {
-    let Ok(near) = find(alloc, chosen, shared, stop, source, target) else {
-        return MEMORY;
-    };
-    let Nearby::Decided(found) = near else {
-        return STOPPED;
-    };
-    let Some(found) = found else {
-        return NO_ROUTE;
-    };
-    *code = found.code;
-    *hops = found.hops;
-    write_route(&found, room)
+    match find(alloc, chosen, shared, stop, ends) {
+        Ok(found) => {
+            *room.code = found.code;
+            *room.hops = found.hops;
+            write_route(&found, room.vertices)
+        }
+        Err(status) => status,
+    }
 }
 
 /// Finds a route by the algebra of a number and writes it, if there is such an algebra and both are
@@ -182,38 +219,27 @@ pub(crate) fn answer(
 #[tactic(auto, using(path_algebra::proofs::Chosen::of_numbered))]
 pub fn answer_route(
     alloc: Global,
-    number: u32,
-    limit: u64,
+    by: AlgebraNumber,
     shared: &mut SharedGraph,
     stop: &Option<Stop>,
-    source: Vertex,
-    target: Vertex,
-    code: &mut u64,
-    hops: &mut u32,
-    room: &mut [u32],
+    ends: (Vertex, Vertex),
+    room: &mut RouteRoom<'_>,
 ) -> i32
     ensures graph { shared.new ≡ shared.old }
-    ensures tells { IsAnswered result → OfAlgebra number limit (λ V A. ReportsRoute A shared.old
-        source target result code.new hops.new room.new) }
-    ensures short { result ≡ pos 2 → length room.old < hops.new + 1 }
-    ensures long { result ≡ pos 0 → hops.new + 1 ≤ length room.old }
-    ensures room { (result ≡ pos 0 → ⊥) → room.new ≡ room.old }
-    ensures rest { result ≡ pos 0 → drop (hops.new + 1) room.new ≡ drop (hops.new + 1) room.old }
-    ensures places { (IsFound result → ⊥) → (code.new ≡ code.old) × (hops.new ≡ hops.old) }
-    ensures vertex { (result ≡ pos 17) ↔ (HasBoth shared.old source target → ⊥) }
-    ensures algebra { (result ≡ pos 43) ↔ (HasBoth shared.old source target ×
-        (IsAlgebra number limit → ⊥)) }
+    ensures tells { IsAnswered result → OfAlgebra by.algebra by.limit (λ V A. ReportsRoute A
+        shared.old ends.0 ends.1 result room.new.code.now room.new.hops.now room.new.vertices.now) }
+    ensures written { IsWrittenRoute room.old room.new result }
+    ensures refusals { ReportsRefusals (HasBoth shared.old ends.0 ends.1) by.algebra
+        by.limit result }
     ensures stopped { result ≡ pos 45 → IsSome stop.now }
     ensures status { IsOneOf (0 ∷ 1 ∷ 2 ∷ 3 ∷ 17 ∷ 43 ∷ 45 ∷ []) result }
 {
     let graph = shared.graph();
-    if !graph.has(source) || !graph.has(target) {
+    if !graph.has(ends.0) || !graph.has(ends.1) {
         return NO_VERTEX;
     }
-    let Some(chosen) = AlgebraChoice::numbered(number, limit) else {
+    let Some(chosen) = AlgebraChoice::numbered(by.algebra, by.limit) else {
         return NO_ALGEBRA;
     };
-    answer(
-        alloc, chosen, shared, stop, source, target, code, hops, room,
-    )
+    answer(alloc, chosen, shared, stop, ends, room)
 }

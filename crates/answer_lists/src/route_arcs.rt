@@ -1,15 +1,17 @@
 //! A route and the numbers of its arcs, written to memory that the caller lends.
 
-ghost use Rattle.std.specs.Prelude.{◌≡◌, ◌≤◌, ◌<◌, ◌+◌, ◌↔◌, ◌⊎◌, ◌∷◌, [], ℕ, length, take, drop, pos, IsSome};
-ghost use Rattle.path_algebra.specs.Choices.{IsAlgebra, OfAlgebra, Under};
+ghost use Rattle.std.specs.Prelude.{◌≡◌, ◌≤◌, ◌+◌, ◌∷◌, [], ℕ, length, take, drop, pos, IsSome};
+ghost use Rattle.path_algebra.specs.Choices.{OfAlgebra, Under};
 ghost use Rattle.path_algebra.specs.Walks.{IsBestCode};
 ghost use Rattle.route_tree.specs.Found.{IsRouteBetween};
 ghost use Rattle.arc_numbers.specs.RouteArcs.{AreRouteArcs};
-ghost use Rattle.answer_lists.specs.Answers.{IsAnswered, IsFound, IsOneOf, ReportsRoute, HasBoth};
+ghost use Rattle.answer_lists.specs.Answers.{HasBoth, IsAnswered, IsOneOf, ReportsRefusals, ReportsRoute};
+ghost use Rattle.answer_lists.specs.Route.{HasRouteArcs, IsWrittenArcs};
 
-use crate::route::answer;
+use crate::algebra_number::AlgebraNumber;
+use crate::route::{copy, find};
 use crate::shared_graph::SharedGraph;
-use crate::status::{DONE, NO_ALGEBRA, NO_VERTEX, is_done};
+use crate::status::{DONE, NO_ALGEBRA, NO_ROOM, NO_VERTEX};
 use arc_numbers::ArcNumbers;
 use path_algebra::{AlgebraChoice, with_algebra};
 use path_plain::Stop;
@@ -66,53 +68,53 @@ fn write_first_arcs(
     );
 }
 
+/// Where a route and the numbers of its arcs are written, as a caller lends it, and by which they
+/// are numbered.
+#[derive(Drop)]
+pub struct RouteArcsRoom<'a> {
+    pub code: &'a mut u64,
+    pub hops: &'a mut u32,
+    pub vertices: &'a mut [u32],
+    pub numbers: &'a ArcNumbers,
+    pub arcs: &'a mut [u32],
+}
+
 /// Finds a route by the chosen algebra, and writes it and the numbers of its arcs.
 fn answer_arcs(
     alloc: Global,
     chosen: AlgebraChoice,
     shared: &mut SharedGraph,
-    numbers: &ArcNumbers,
     stop: &Option<Stop>,
-    source: Vertex,
-    target: Vertex,
-    code: &mut u64,
-    hops: &mut u32,
-    room: &mut [u32],
-    arcs: &mut [u32],
+    ends: (Vertex, Vertex),
+    room: &mut RouteArcsRoom<'_>,
 ) -> i32
-    requires both { HasBoth shared.old source target }
-    requires numbers { numbers.now.roads ≡ shared.old }
+    requires both { HasBoth shared.old ends.0 ends.1 }
+    requires numbers { room.old.numbers.now.roads ≡ shared.old }
     ensures graph { shared.new ≡ shared.old }
-    ensures tells { Under chosen (λ V A. ReportsRoute A shared.old source target result code.new
-        hops.new room.new) }
-    ensures arcs { result ≡ pos 0 → Under chosen (λ V A. AreRouteArcs A numbers.now.numbered
-        (take (hops.new + 1) room.new) (take hops.new arcs.new) code.new) }
-    ensures short { result ≡ pos 2 → (length room.old < hops.new + 1) ⊎ (length arcs.old < hops.new) }
-    ensures long { result ≡ pos 0 → (hops.new + 1 ≤ length room.old) × (hops.new ≤ length arcs.old) }
-    ensures room { (result ≡ pos 0 → ⊥) → (room.new ≡ room.old) × (arcs.new ≡ arcs.old) }
-    ensures rest { result ≡ pos 0 → (drop (hops.new + 1) room.new ≡ drop (hops.new + 1) room.old) ×
-        (drop hops.new arcs.new ≡ drop hops.new arcs.old) }
-    ensures places { (IsFound result → ⊥) → (code.new ≡ code.old) × (hops.new ≡ hops.old) }
+    ensures tells { Under chosen (λ V A. ReportsRoute A shared.old ends.0 ends.1 result
+        room.new.code.now room.new.hops.now room.new.vertices.now) }
+    ensures arcs { result ≡ pos 0 → Under chosen (λ V A. HasRouteArcs A room.old.numbers.now.numbered
+        room.new) }
+    ensures written { IsWrittenArcs room.old room.new result }
     ensures stopped { result ≡ pos 45 → IsSome stop.now }
     ensures status { IsOneOf (0 ∷ 1 ∷ 2 ∷ 3 ∷ 45 ∷ []) result }
 {
+    let found = match find(alloc, chosen, shared, stop, ends) {
+        Ok(found) => found,
+        Err(status) => return status,
+    };
+    let hops = found.hops;
+    *room.code = found.code;
+    *room.hops = hops;
     // A route is written only if there is room for its arcs too.
-    let places = room.len().min(arcs.len() + 1);
-    let status = answer(
-        alloc,
-        chosen,
-        shared,
-        stop,
-        source,
-        target,
-        code,
-        hops,
-        &mut room[..places],
-    );
-    if !is_done(status) {
-        return status;
+    if room.arcs.len() < hops as usize || room.vertices.len() < found.route.len() {
+        return NO_ROOM;
     }
-    write_first_arcs(chosen, numbers, shared.graph(), *hops, room, arcs);
+    copy(&found.route, room.vertices);
+    let numbers = room.numbers;
+    let vertices = &mut *room.vertices;
+    let arcs = &mut *room.arcs;
+    write_first_arcs(chosen, numbers, shared.graph(), hops, vertices, arcs);
     DONE
 }
 
@@ -124,44 +126,30 @@ fn answer_arcs(
 #[tactic(auto, using(path_algebra::proofs::Chosen::of_numbered))]
 pub fn answer_route_arcs(
     alloc: Global,
-    number: u32,
-    limit: u64,
+    by: AlgebraNumber,
     shared: &mut SharedGraph,
-    numbers: &ArcNumbers,
     stop: &Option<Stop>,
-    source: Vertex,
-    target: Vertex,
-    code: &mut u64,
-    hops: &mut u32,
-    room: &mut [u32],
-    arcs: &mut [u32],
+    ends: (Vertex, Vertex),
+    room: &mut RouteArcsRoom<'_>,
 ) -> i32
-    requires { numbers.now.roads ≡ shared.old }
+    requires { room.old.numbers.now.roads ≡ shared.old }
     ensures graph { shared.new ≡ shared.old }
-    ensures tells { IsAnswered result → OfAlgebra number limit (λ V A. ReportsRoute A shared.old
-        source target result code.new hops.new room.new) }
-    ensures arcs { result ≡ pos 0 → OfAlgebra number limit (λ V A. AreRouteArcs A
-        numbers.now.numbered (take (hops.new + 1) room.new) (take hops.new arcs.new) code.new) }
-    ensures short { result ≡ pos 2 → (length room.old < hops.new + 1) ⊎ (length arcs.old < hops.new) }
-    ensures long { result ≡ pos 0 → (hops.new + 1 ≤ length room.old) × (hops.new ≤ length arcs.old) }
-    ensures room { (result ≡ pos 0 → ⊥) → (room.new ≡ room.old) × (arcs.new ≡ arcs.old) }
-    ensures rest { result ≡ pos 0 → (drop (hops.new + 1) room.new ≡ drop (hops.new + 1) room.old) ×
-        (drop hops.new arcs.new ≡ drop hops.new arcs.old) }
-    ensures places { (IsFound result → ⊥) → (code.new ≡ code.old) × (hops.new ≡ hops.old) }
-    ensures vertex { (result ≡ pos 17) ↔ (HasBoth shared.old source target → ⊥) }
-    ensures algebra { (result ≡ pos 43) ↔ (HasBoth shared.old source target ×
-        (IsAlgebra number limit → ⊥)) }
+    ensures tells { IsAnswered result → OfAlgebra by.algebra by.limit (λ V A. ReportsRoute A
+        shared.old ends.0 ends.1 result room.new.code.now room.new.hops.now room.new.vertices.now) }
+    ensures arcs { result ≡ pos 0 → OfAlgebra by.algebra by.limit (λ V A. HasRouteArcs A
+        room.old.numbers.now.numbered room.new) }
+    ensures written { IsWrittenArcs room.old room.new result }
+    ensures refusals { ReportsRefusals (HasBoth shared.old ends.0 ends.1) by.algebra
+        by.limit result }
     ensures stopped { result ≡ pos 45 → IsSome stop.now }
     ensures status { IsOneOf (0 ∷ 1 ∷ 2 ∷ 3 ∷ 17 ∷ 43 ∷ 45 ∷ []) result }
 {
     let graph = shared.graph();
-    if !graph.has(source) || !graph.has(target) {
+    if !graph.has(ends.0) || !graph.has(ends.1) {
         return NO_VERTEX;
     }
-    let Some(chosen) = AlgebraChoice::numbered(number, limit) else {
+    let Some(chosen) = AlgebraChoice::numbered(by.algebra, by.limit) else {
         return NO_ALGEBRA;
     };
-    answer_arcs(
-        alloc, chosen, shared, numbers, stop, source, target, code, hops, room, arcs,
-    )
+    answer_arcs(alloc, chosen, shared, stop, ends, room)
 }

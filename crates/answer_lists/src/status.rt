@@ -1,7 +1,5 @@
 //! The status numbers of answers.
 
-ghost use Rattle.std.specs.Prelude.{◌≡◌, ◌↔◌, pos, IsTrue};
-
 /// The answer is written.
 pub const DONE: i32 = 0;
 /// No walk to the target has a value.
@@ -26,10 +24,3 @@ pub const NO_ALGEBRA: i32 = 43;
 pub const NO_LINK: i32 = 44;
 /// The stop was set before there was an answer.
 pub const STOPPED: i32 = 45;
-
-/// Whether the answer is written.
-pub(crate) fn is_done(status: i32) -> bool
-    ensures { IsTrue result ↔ (status ≡ pos 0) }
-{
-    status == DONE
-}

@@ -7,17 +7,18 @@ ghost use Rattle.path_algebra.specs.Choices.{OfAlgebra, Under};
 ghost use Rattle.path_algebra.specs.Walks.{AreBest};
 ghost use Rattle.route_tree.specs.Tree.{IsTree};
 ghost use Rattle.path_plain.specs.Halting.{CanHalt};
-ghost use Rattle.answer_lists.specs.Answers.{IsOneOf};
+ghost use Rattle.answer_lists.specs.Answers.{IsOneOf, ReportsListRefusals};
 ghost use Rattle.answer_lists.specs.KeptTree.{code_in, graph_in, tree_in};
 ghost use Rattle.answer_lists.specs.Near.{HaveLines};
-ghost use Rattle.answer_lists.specs.Tree.{AreWantedLists, IsAllOrNone, HaveAllOrNone, ReportsTreeRefusals, HasLowCodes};
+ghost use Rattle.answer_lists.specs.Tree.{AreSameLists, AreUnwritten, HasLowCodes, HavePlacesOrNone, HaveTree, IsAllOrNone};
 
+use crate::algebra_number::AlgebraNumber;
 use crate::near::search;
 use crate::shared_graph::SharedGraph;
 use crate::sources::{are_vertices, vertices_of};
 use crate::status::{DONE, MEMORY, NO_ALGEBRA, NO_ROOM, NO_VERTEX, STOPPED};
 use crate::stopping::is_stopped;
-use crate::tree_lists::{write_found, write_lists};
+use crate::tree_lists::{TreeLists, write_found, write_lists};
 use path_algebra::{AlgebraChoice, Labels, PathAlgebra, with_algebra};
 use path_plain::{Halt, Stop};
 use road_graph::{Memory, OutGraph, Vertex};
@@ -40,8 +41,8 @@ fn solve<A: PathAlgebra>(
     let Some(factored) = shared.take_factored(algebra) else {
         return solve_with_tree(alloc, algebra, shared.graph(), sources);
     };
-    let found = match shared.rows(alloc) {
-        Ok(rows) => factored.tree(alloc, algebra, &rows, sources),
+    let found = match shared.by_head(alloc) {
+        Ok(by_head) => factored.tree(alloc, algebra, &by_head, sources),
         Err(Memory) => Err(Memory),
     };
     shared.put_factored(factored);
@@ -55,26 +56,21 @@ fn answer<A: PathAlgebra>(
     algebra: A,
     shared: &mut SharedGraph,
     sources: &[Vertex],
-    codes: &mut [u64],
-    hops: &mut [u32],
-    parents: &mut [u32],
+    lists: &mut TreeLists<'_>,
 ) -> i32
     requires low { HasLowCodes (A.meaning algebra) }
     requires sources { All (HasVertex shared.old) sources.now }
-    requires places { HaveAllOrNone shared.old.vertices codes.old hops.old parents.old }
+    requires places { HavePlacesOrNone shared.old.vertices lists.old }
     ensures graph { shared.new ≡ shared.old }
-    ensures tree { result ≡ pos 0 → AreWantedLists (A.meaning algebra) shared.old sources.now
-        codes.new hops.new parents.new }
-    ensures kept { (result ≡ pos 0 → ⊥) → (codes.new ≡ codes.old) × (hops.new ≡ hops.old) ×
-        (parents.new ≡ parents.old) }
+    ensures same { AreSameLists lists.old lists.new }
+    ensures tree { result ≡ pos 0 → HaveTree (A.meaning algebra) shared.old sources.now lists.new }
+    ensures kept { (result ≡ pos 0 → ⊥) → AreUnwritten lists.old lists.new }
     ensures status { IsOneOf (0 ∷ 3 ∷ []) result }
 {
     match solve(alloc, algebra, shared, sources) {
         Ok((labels, tree)) => {
             let graph = shared.graph();
-            write_lists(
-                algebra, graph, sources, &labels, &tree, codes, hops, parents,
-            );
+            write_lists(algebra, graph, sources, &labels, &tree, lists);
             DONE
         }
         Err(Memory) => MEMORY,
@@ -89,17 +85,15 @@ fn answer_searched(
     shared: &mut SharedGraph,
     sources: &[Vertex],
     halt: &mut Halt<'_>,
-    codes: &mut [u64],
-    hops: &mut [u32],
-    parents: &mut [u32],
+    lists: &mut TreeLists<'_>,
 ) -> Result<bool, Memory>
     requires sources { All (HasVertex shared.old) sources.now }
-    requires places { HaveAllOrNone shared.old.vertices codes.old hops.old parents.old }
+    requires places { HavePlacesOrNone shared.old.vertices lists.old }
     ensures graph { shared.new ≡ shared.old }
-    ensures tree { result ≡ Ok true → Under chosen (λ V A. AreWantedLists A shared.old sources.now
-        codes.new hops.new parents.new) }
-    ensures kept { (result ≡ Ok true → ⊥) → (codes.new ≡ codes.old) × (hops.new ≡ hops.old) ×
-        (parents.new ≡ parents.old) }
+    ensures same { AreSameLists lists.old lists.new }
+    ensures tree { result ≡ Ok true → Under chosen (λ V A. HaveTree A shared.old sources.now
+        lists.new) }
+    ensures kept { (result ≡ Ok true → ⊥) → AreUnwritten lists.old lists.new }
     ensures halts { result ≡ Ok false → CanHalt halt.old }
 {
     let (kept, is_found) = search(alloc, chosen, shared, sources, halt)?;
@@ -107,7 +101,7 @@ fn answer_searched(
         let graph = shared.graph();
         with_algebra!(
             chosen,
-            |algebra| write_found(algebra, graph, sources, &kept, codes, hops, parents)
+            |algebra| write_found(algebra, graph, sources, &kept, lists)
         );
     }
     shared.put_tree(kept);
@@ -134,17 +128,15 @@ fn answer_chosen(
     shared: &mut SharedGraph,
     stop: &Option<Stop>,
     sources: &[u32],
-    codes: &mut [u64],
-    hops: &mut [u32],
-    parents: &mut [u32],
+    lists: &mut TreeLists<'_>,
 ) -> i32
     requires sources { All (HasVertex shared.old) sources.now }
-    requires places { HaveAllOrNone shared.old.vertices codes.old hops.old parents.old }
+    requires places { HavePlacesOrNone shared.old.vertices lists.old }
     ensures graph { shared.new ≡ shared.old }
-    ensures tree { result ≡ pos 0 → Under chosen (λ V A. AreWantedLists A shared.old sources.now
-        codes.new hops.new parents.new) }
-    ensures kept { (result ≡ pos 0 → ⊥) → (codes.new ≡ codes.old) × (hops.new ≡ hops.old) ×
-        (parents.new ≡ parents.old) }
+    ensures same { AreSameLists lists.old lists.new }
+    ensures tree { result ≡ pos 0 → Under chosen (λ V A. HaveTree A shared.old sources.now
+        lists.new) }
+    ensures kept { (result ≡ pos 0 → ⊥) → AreUnwritten lists.old lists.new }
     ensures stopped { result ≡ pos 45 → IsSome stop.now }
     ensures status { IsOneOf (0 ∷ 3 ∷ 45 ∷ []) result }
 {
@@ -153,7 +145,7 @@ fn answer_chosen(
     };
     if is_factored(chosen, shared) {
         let mut few = Halt::After(few_entries(shared.graph()));
-        let written = answer_searched(alloc, chosen, shared, &list, &mut few, codes, hops, parents);
+        let written = answer_searched(alloc, chosen, shared, &list, &mut few, lists);
         if let Ok(true) = written {
             return DONE;
         }
@@ -162,9 +154,7 @@ fn answer_chosen(
         }
     } else if stop.is_some() {
         let mut halt = Halt::by(stop);
-        return match answer_searched(
-            alloc, chosen, shared, &list, &mut halt, codes, hops, parents,
-        ) {
+        return match answer_searched(alloc, chosen, shared, &list, &mut halt, lists) {
             Ok(true) => DONE,
             Ok(false) => STOPPED,
             Err(Memory) => MEMORY,
@@ -172,7 +162,7 @@ fn answer_chosen(
     }
     with_algebra!(
         chosen,
-        |algebra| answer(alloc, algebra, shared, &list, codes, hops, parents)
+        |algebra| answer(alloc, algebra, shared, &list, lists)
     )
 }
 
@@ -183,28 +173,34 @@ fn is_all_or_none(n: usize, count: usize) -> bool
     count == n || count == 0
 }
 
+/// Whether each list has a place for each of n vertices, or none.
+fn have_places_or_none(n: usize, lists: &TreeLists<'_>) -> bool
+    ensures { IsTrue result ↔ HavePlacesOrNone n lists.now }
+{
+    is_all_or_none(n, lists.codes.len())
+        && is_all_or_none(n, lists.hops.len())
+        && is_all_or_none(n, lists.parents.len())
+}
+
 /// Finds a tree by the algebra of a number and writes it, if each source is a vertex, each list has
-/// a place for each vertex or none, and there is such an algebra. A list without places is not
-/// wanted. A search ends without an answer soon after the stop is set, if there is one.
+/// a place for each vertex or none, and there is such an algebra. A search ends without an answer
+/// soon after the stop is set, if there is one.
 #[tactic(auto, using(path_algebra::proofs::Chosen::of_numbered))]
 pub fn answer_tree(
     alloc: Global,
-    number: u32,
-    limit: u64,
+    by: AlgebraNumber,
     shared: &mut SharedGraph,
     stop: &Option<Stop>,
     sources: &[u32],
-    codes: &mut [u64],
-    hops: &mut [u32],
-    parents: &mut [u32],
+    lists: &mut TreeLists<'_>,
 ) -> i32
     ensures graph { shared.new ≡ shared.old }
-    ensures tree { result ≡ pos 0 → OfAlgebra number limit (λ V A. AreWantedLists A shared.old
-        sources.now codes.new hops.new parents.new) }
-    ensures kept { (result ≡ pos 0 → ⊥) → (codes.new ≡ codes.old) × (hops.new ≡ hops.old) ×
-        (parents.new ≡ parents.old) }
-    ensures refusals { ReportsTreeRefusals shared.old number limit sources.now codes.old hops.old
-        parents.old result }
+    ensures same { AreSameLists lists.old lists.new }
+    ensures tree { result ≡ pos 0 → OfAlgebra by.algebra by.limit (λ V A. HaveTree A
+        shared.old sources.now lists.new) }
+    ensures kept { (result ≡ pos 0 → ⊥) → AreUnwritten lists.old lists.new }
+    ensures refusals { ReportsListRefusals (All (HasVertex shared.old) sources.now)
+        (HavePlacesOrNone shared.old.vertices lists.old) by.algebra by.limit result }
     ensures stopped { result ≡ pos 45 → IsSome stop.now }
     ensures status { IsOneOf (0 ∷ 2 ∷ 3 ∷ 17 ∷ 43 ∷ 45 ∷ []) result }
 {
@@ -212,16 +208,11 @@ pub fn answer_tree(
     if !are_vertices(graph, sources) {
         return NO_VERTEX;
     }
-    let n = graph.vertices() as usize;
-    let (codes_fit, hops_fit) = (
-        is_all_or_none(n, codes.len()),
-        is_all_or_none(n, hops.len()),
-    );
-    if !codes_fit || !hops_fit || !is_all_or_none(n, parents.len()) {
+    if !have_places_or_none(graph.vertices() as usize, lists) {
         return NO_ROOM;
     }
-    let Some(chosen) = AlgebraChoice::numbered(number, limit) else {
+    let Some(chosen) = AlgebraChoice::numbered(by.algebra, by.limit) else {
         return NO_ALGEBRA;
     };
-    answer_chosen(alloc, chosen, shared, stop, sources, codes, hops, parents)
+    answer_chosen(alloc, chosen, shared, stop, sources, lists)
 }

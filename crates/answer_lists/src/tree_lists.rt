@@ -1,4 +1,4 @@
-//! Three lists of the caller, to which a tree is written.
+//! The three lists of a caller to which a tree is written.
 
 ghost use Rattle.std.specs.Prelude.{◌≡◌, set};
 ghost use Rattle.road_graph.specs.GraphData.{HasVertex};
@@ -7,13 +7,22 @@ ghost use Rattle.route_tree.specs.Tree.{IsTree};
 ghost use Rattle.answer_text.specs.IsAnswer.{IsVertexLine};
 ghost use Rattle.answer_lists.specs.KeptTree.{code_in, graph_in, tree_in};
 ghost use Rattle.answer_lists.specs.Near.{HaveLines};
-ghost use Rattle.answer_lists.specs.Tree.{AreWantedLists, HaveAllOrNone, HasLowCodes, line_of, number_for};
+ghost use Rattle.answer_lists.specs.Tree.{AreSameLists, HasLowCodes, HavePlacesOrNone, HaveTree, line_of, number_for};
 
 use crate::codes::code_for;
 use crate::kept_tree::KeptTree;
 use path_algebra::{Labels, PathAlgebra, laws_hold};
 use road_graph::{OutGraph, Vertex};
 use route_tree::{Tree, labels_and_trees_agree};
+
+/// The three lists of a tree, as a caller lends them to be written: the code, the hops and the
+/// parent of each vertex. A list without places is not wanted.
+#[derive(Drop)]
+pub struct TreeLists<'a> {
+    pub codes: &'a mut [u64],
+    pub hops: &'a mut [u32],
+    pub parents: &'a mut [u32],
+}
 
 pub(crate) fn hops_for(hops: Option<u32>) -> u32
     ensures { result ≡ number_for hops }
@@ -68,57 +77,52 @@ fn put<T: Copy>(list: &mut [T], i: usize, x: T)
     }
 }
 
-/// Writes a tree to three lists, of which those without places are not wanted.
+/// Writes a tree to the lists that are wanted.
 pub(crate) fn write_lists<A: PathAlgebra>(
     algebra: A,
     graph: &OutGraph,
     sources: &[Vertex],
     labels: &Labels<A::Value>,
     tree: &Tree,
-    codes: &mut [u64],
-    hops: &mut [u32],
-    parents: &mut [u32],
+    lists: &mut TreeLists<'_>,
 )
     requires low { HasLowCodes (A.meaning algebra) }
-    requires places { HaveAllOrNone graph.now.vertices codes.old hops.old parents.old }
+    requires places { HavePlacesOrNone graph.now.vertices lists.old }
     requires best { AreBest (A.meaning algebra) graph.now sources.now labels.now }
     requires tree { IsTree (A.meaning algebra) graph.now sources.now tree.now }
-    ensures { AreWantedLists (A.meaning algebra) graph.now sources.now codes.new hops.new
-        parents.new }
+    ensures same { AreSameLists lists.old lists.new }
+    ensures tree { HaveTree (A.meaning algebra) graph.now sources.now lists.new }
 {
     graph.holds();
     for i in 0..graph.vertices() as usize {
         let v = Vertex(i as u32 + 1);
         let (code, near, parent) = numbers_of(algebra, graph, sources, labels, tree, v);
-        put(codes, i, code);
-        put(hops, i, near);
-        put(parents, i, parent);
+        put(lists.codes, i, code);
+        put(lists.hops, i, near);
+        put(lists.parents, i, parent);
     }
 }
 
-/// Writes the tree that a kept searcher found to three lists, of which those without places are not
-/// wanted.
+/// Writes the tree that a kept searcher found to the lists that are wanted.
 pub(crate) fn write_found<A: PathAlgebra>(
     _algebra: A,
     graph: &OutGraph,
     sources: &[Vertex],
     kept: &KeptTree,
-    codes: &mut [u64],
-    hops: &mut [u32],
-    parents: &mut [u32],
+    lists: &mut TreeLists<'_>,
 )
     requires graph { graph_in kept.now ≡ graph.now }
-    requires places { HaveAllOrNone graph.now.vertices codes.old hops.old parents.old }
+    requires places { HavePlacesOrNone graph.now.vertices lists.old }
     requires lines { HaveLines (A.meaning _algebra) graph.now sources.now (code_in kept.now)
         (tree_in kept.now) }
-    ensures { AreWantedLists (A.meaning _algebra) graph.now sources.now codes.new hops.new
-        parents.new }
+    ensures same { AreSameLists lists.old lists.new }
+    ensures tree { HaveTree (A.meaning _algebra) graph.now sources.now lists.new }
 {
     graph.holds();
     for i in 0..graph.vertices() as usize {
         let v = Vertex(i as u32 + 1);
-        put(codes, i, kept.code(v));
-        put(hops, i, kept.hops(v));
-        put(parents, i, kept.parent(v));
+        put(lists.codes, i, kept.code(v));
+        put(lists.hops, i, kept.hops(v));
+        put(lists.parents, i, kept.parent(v));
     }
 }

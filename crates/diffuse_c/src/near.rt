@@ -1,15 +1,16 @@
 //! The call that answers what is reached from the nearest of some sources.
 
-ghost use Rattle.std.specs.Prelude.{◌≡◌, ◌↔◌, ◌∷◌, [], pos, IsSome, None};
+ghost use Rattle.std.specs.Prelude.{◌≡◌, ◌↔◌, ◌∷◌, [], pos, All, IsSome, None};
+ghost use Rattle.road_graph.specs.GraphData.{HasVertex};
 ghost use Rattle.path_algebra.specs.Choices.{OfAlgebra};
-ghost use Rattle.answer_lists.specs.Answers.{IsFound, IsOneOf};
-ghost use Rattle.answer_lists.specs.Near.{AreLongOrNone, AreNearLists, IsReachedCount, IsSameAfter, ReportsNearRefusals};
+ghost use Rattle.answer_lists.specs.Answers.{IsFound, IsOneOf, ReportsRefusals};
+ghost use Rattle.answer_lists.specs.Near.{AreLongOrNone, AreNearLists, IsReachedCount, IsSameAfter};
 ghost use Rattle.diffuse_c.specs.Holding.{OfGraph};
 
 use crate::handle::{DiffuseGraph, put, take};
 use crate::owners::Owner;
 use crate::status::CLOSED;
-use answer_lists::answer_near;
+use answer_lists::{AlgebraNumber, NearLists, answer_near};
 use std::alloc::Global;
 
 /// The vertices that are reached from the nearest of some sources, the best first, by the algebra
@@ -49,7 +50,7 @@ pub extern "C" fn diffuse_graph_near(
         (hops.new ≡ hops.old) × (parents.new ≡ parents.old) }
     ensures place { (IsFound result → ⊥) → count.new ≡ count.old }
     ensures refusals { OfGraph handle.old.held.roads
-        (λ g. ReportsNearRefusals g algebra limit sources.now result) }
+        (λ g. ReportsRefusals (All (HasVertex g) sources.now) algebra limit result) }
     ensures closed { (result ≡ pos 4) ↔ (handle.old.held.roads ≡ None) }
     ensures stopped { result ≡ pos 45 → IsSome handle.old.held.stop }
     ensures status { IsOneOf (0 ∷ 2 ∷ 3 ∷ 4 ∷ 17 ∷ 43 ∷ 45 ∷ []) result }
@@ -58,9 +59,15 @@ pub extern "C" fn diffuse_graph_near(
         return CLOSED;
     };
     let Owner { shared, stop, .. } = &mut *owner;
-    let status = answer_near(
-        alloc, algebra, limit, shared, stop, sources, vertices, codes, hops, parents, count,
-    );
+    let by = AlgebraNumber { algebra, limit };
+    let mut lists = NearLists {
+        vertices,
+        codes,
+        hops,
+        parents,
+        count,
+    };
+    let status = answer_near(alloc, by, shared, stop, sources, &mut lists);
     put(handle, owner);
     status
 }

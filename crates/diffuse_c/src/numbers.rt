@@ -4,7 +4,7 @@ ghost use Rattle.std.specs.Prelude.{◌≡◌, ◌≢◌, ◌↔◌, ◌<◌, �
 ghost use Rattle.path_algebra.specs.Choices.{IsAlgebra, OfAlgebra};
 ghost use Rattle.arc_numbers.specs.Numbering.{IsReordered};
 ghost use Rattle.arc_numbers.specs.RouteArcs.{AreRouteArcs};
-ghost use Rattle.answer_lists.specs.Answers.{IsAnswered, IsFound, ReportsRoute, IsOneOf, HasBoth};
+ghost use Rattle.answer_lists.specs.Answers.{HasBoth, IsAnswered, IsFound, IsOneOf, ReportsRoute};
 ghost use Rattle.diffuse_c.specs.Holding.{AreNumbersOf, OfGraph, OfNumbered};
 ghost use Rattle.diffuse_c.specs.Lent.{lent};
 
@@ -12,7 +12,7 @@ use crate::arcs::{DiffuseArc, roads_of};
 use crate::handle::{DiffuseGraph, put, take};
 use crate::owners::Owner;
 use crate::status::{CLOSED, NO_NUMBERS, OTHER_ARCS};
-use answer_lists::{DONE, MEMORY, SharedGraph, Stop, answer_route_arcs};
+use answer_lists::{AlgebraNumber, DONE, MEMORY, RouteArcsRoom, answer_route_arcs};
 use arc_numbers::ArcNumbers;
 use road_graph::{Memory, OutGraph, Vertex};
 use std::alloc::Global;
@@ -77,22 +77,19 @@ pub extern "C" fn diffuse_graph_number(
 /// Finds a route and the numbers of its arcs, if there are numbers.
 fn answer(
     alloc: Global,
-    algebra: u32,
-    limit: u64,
-    shared: &mut SharedGraph,
-    numbers: &Option<ArcNumbers>,
-    stop: &Option<Stop>,
+    by: AlgebraNumber,
+    owner: &mut Owner,
     ends: (Vertex, Vertex),
     code: &mut u64,
     hops: &mut u32,
     room: &mut [u32],
     arcs: &mut [u32],
 ) -> i32
-    requires { AreNumbersOf (Some shared.old) numbers.now }
-    ensures graph { shared.new ≡ shared.old }
-    ensures tells { IsAnswered result → OfAlgebra algebra limit (λ V A. ReportsRoute A shared.old
-        ends.0 ends.1 result code.new hops.new room.new) }
-    ensures arcs { OfNumbered numbers.now (λ g. result ≡ pos 0 → OfAlgebra algebra limit
+    requires { AreNumbersOf (Some owner.old.shared) owner.old.numbers }
+    ensures kept { owner.new ≡ owner.old }
+    ensures tells { IsAnswered result → OfAlgebra by.algebra by.limit (λ V A. ReportsRoute A
+        owner.old.shared ends.0 ends.1 result code.new hops.new room.new) }
+    ensures arcs { OfNumbered owner.old.numbers (λ g. result ≡ pos 0 → OfAlgebra by.algebra by.limit
         (λ V A. AreRouteArcs A g (take (hops.new + 1) room.new) (take hops.new arcs.new) code.new)) }
     ensures short { result ≡ pos 2 → (length room.old < hops.new + 1) ⊎ (length arcs.old < hops.new) }
     ensures long { result ≡ pos 0 → (hops.new + 1 ≤ length room.old) × (hops.new ≤ length arcs.old) }
@@ -101,20 +98,25 @@ fn answer(
         (drop hops.new arcs.new ≡ drop hops.new arcs.old) }
     ensures places { (IsFound result → ⊥) → (code.new ≡ code.old) × (hops.new ≡ hops.old) }
     ensures vertex { (result ≡ pos 17) ↔
-        (IsSome numbers.now × (HasBoth shared.old ends.0 ends.1 → ⊥)) }
-    ensures algebra { (result ≡ pos 43) ↔ (IsSome numbers.now × HasBoth shared.old ends.0 ends.1 ×
-        (IsAlgebra algebra limit → ⊥)) }
-    ensures unnumbered { (result ≡ pos 47) ↔ (numbers.now ≡ None) }
-    ensures stopped { result ≡ pos 45 → IsSome stop.now }
+        (IsSome owner.old.numbers × (HasBoth owner.old.shared ends.0 ends.1 → ⊥)) }
+    ensures algebra { (result ≡ pos 43) ↔ (IsSome owner.old.numbers ×
+        HasBoth owner.old.shared ends.0 ends.1 × (IsAlgebra by.algebra by.limit → ⊥)) }
+    ensures unnumbered { (result ≡ pos 47) ↔ (owner.old.numbers ≡ None) }
+    ensures stopped { result ≡ pos 45 → IsSome owner.old.stop }
     ensures status { IsOneOf (0 ∷ 1 ∷ 2 ∷ 3 ∷ 17 ∷ 43 ∷ 45 ∷ 47 ∷ []) result }
 {
-    let Some(numbers) = numbers else {
+    let Some(numbers) = &owner.numbers else {
         return NO_NUMBERS;
     };
-    let (source, target) = ends;
-    answer_route_arcs(
-        alloc, algebra, limit, shared, numbers, stop, source, target, code, hops, room, arcs,
-    )
+    let stop = &owner.stop;
+    let mut lent = RouteArcsRoom {
+        code,
+        hops,
+        vertices: room,
+        numbers,
+        arcs,
+    };
+    answer_route_arcs(alloc, by, &mut owner.shared, stop, ends, &mut lent)
 }
 
 /// A route, as `diffuse_graph_route` gives it, and its arcs, counted from 0 in the list by which
@@ -162,15 +164,9 @@ pub extern "C" fn diffuse_graph_route_arcs(
     let Some(mut owner) = take(alloc, handle) else {
         return CLOSED;
     };
-    let Owner {
-        shared,
-        stop,
-        numbers,
-    } = &mut *owner;
+    let by = AlgebraNumber { algebra, limit };
     let ends = (Vertex(source), Vertex(target));
-    let status = answer(
-        alloc, algebra, limit, shared, numbers, stop, ends, code, hops, room, arcs,
-    );
+    let status = answer(alloc, by, &mut owner, ends, code, hops, room, arcs);
     put(handle, owner);
     status
 }

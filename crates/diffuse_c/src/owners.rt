@@ -50,8 +50,8 @@ fn numbers_again(numbers: &Option<ArcNumbers>) -> Result<Option<ArcNumbers>, All
     }
 }
 
-/// One more owner of the same graph, with the same numbers. The rows by head are made first, so
-/// that both have one copy of them.
+/// One more owner of the same graph, with the same numbers. The graph by heads is made first, so
+/// that both have one copy of it.
 pub(crate) fn try_clone(
     alloc: Global,
     shared: &mut SharedGraph,
@@ -62,7 +62,7 @@ pub(crate) fn try_clone(
     ensures stop { IfOk result (λ b. b.value.stop ≡ None) }
     ensures numbers { IfOk result (λ b. b.value.numbers ≡ numbers.now) }
 {
-    let _rows = shared.rows(alloc)?;
+    let _by_head = shared.by_head(alloc)?;
     let second = shared.try_clone()?;
     let numbers = numbers_again(numbers)?;
     let mut owner = boxed(alloc, second)?;

@@ -1,15 +1,19 @@
 //! The calls that answer questions: a route, a tree, and whether a tree is right.
 
-ghost use Rattle.std.specs.Prelude.{◌≡◌, ◌↔◌, ◌<◌, ◌≤◌, ◌+◌, ◌∷◌, [], drop, length, pos, IsSome, None};
+ghost use Rattle.std.specs.Prelude.{◌≡◌, ◌↔◌, ◌<◌, ◌≤◌, ◌+◌, ◌∷◌, [], drop, length, pos, All, IsSome, None};
+ghost use Rattle.road_graph.specs.GraphData.{HasVertex};
 ghost use Rattle.path_algebra.specs.Choices.{IsAlgebra, OfAlgebra};
-ghost use Rattle.answer_lists.specs.Answers.{IsAnswered, IsFound, ReportsRoute, IsOneOf, HasBoth};
-ghost use Rattle.answer_lists.specs.Tree.{AreTreeLists, AreWantedLists, IsFirstRefuted, ReportsRefusals, ReportsTreeRefusals};
+ghost use Rattle.answer_lists.specs.Answers.{HasBoth, HavePlaces, IsAnswered, IsFound, IsOneOf, ReportsListRefusals, ReportsRoute};
+ghost use Rattle.answer_lists.specs.Tree.{AreTreeLists, AreWantedLists, HaveAllOrNone, IsFirstRefuted};
 ghost use Rattle.diffuse_c.specs.Holding.{OfGraph};
 
 use crate::handle::{DiffuseGraph, put, take};
 use crate::owners::Owner;
 use crate::status::CLOSED;
-use answer_lists::{answer_route, answer_tree, check_tree};
+use answer_lists::{
+    AlgebraNumber, FirstRefuted, ListedTree, RouteRoom, TreeLists, answer_route, answer_tree,
+    check_tree,
+};
 use road_graph::Vertex;
 use std::alloc::Global;
 
@@ -50,9 +54,15 @@ pub extern "C" fn diffuse_graph_route(
     let Some(mut owner) = take(alloc, handle) else {
         return CLOSED;
     };
-    let (s, t) = (Vertex(source), Vertex(target));
     let Owner { shared, stop, .. } = &mut *owner;
-    let status = answer_route(alloc, algebra, limit, shared, stop, s, t, code, hops, room);
+    let by = AlgebraNumber { algebra, limit };
+    let ends = (Vertex(source), Vertex(target));
+    let mut lent = RouteRoom {
+        code,
+        hops,
+        vertices: room,
+    };
+    let status = answer_route(alloc, by, shared, stop, ends, &mut lent);
     put(handle, owner);
     status
 }
@@ -80,8 +90,9 @@ pub extern "C" fn diffuse_graph_tree(
         (λ V A. AreWantedLists A g sources.now codes.new hops.new parents.new)) }
     ensures lists { (result ≡ pos 0 → ⊥) → (codes.new ≡ codes.old) × (hops.new ≡ hops.old) ×
         (parents.new ≡ parents.old) }
-    ensures refusals { OfGraph handle.old.held.roads (λ g. ReportsTreeRefusals g algebra limit
-        sources.now codes.old hops.old parents.old result) }
+    ensures refusals { OfGraph handle.old.held.roads (λ g. ReportsListRefusals
+        (All (HasVertex g) sources.now) (HaveAllOrNone g.vertices codes.old hops.old parents.old)
+        algebra limit result) }
     ensures closed { (result ≡ pos 4) ↔ (handle.old.held.roads ≡ None) }
     ensures stopped { result ≡ pos 45 → IsSome handle.old.held.stop }
     ensures status { IsOneOf (0 ∷ 2 ∷ 3 ∷ 4 ∷ 17 ∷ 43 ∷ 45 ∷ []) result }
@@ -90,9 +101,13 @@ pub extern "C" fn diffuse_graph_tree(
         return CLOSED;
     };
     let Owner { shared, stop, .. } = &mut *owner;
-    let status = answer_tree(
-        alloc, algebra, limit, shared, stop, sources, codes, hops, parents,
-    );
+    let by = AlgebraNumber { algebra, limit };
+    let mut lists = TreeLists {
+        codes,
+        hops,
+        parents,
+    };
+    let status = answer_tree(alloc, by, shared, stop, sources, &mut lists);
     put(handle, owner);
     status
 }
@@ -123,26 +138,23 @@ pub extern "C" fn diffuse_graph_check(
         (λ V A. IsFirstRefuted A g sources.now codes.now hops.now parents.now vertex.new
         reason.new)) }
     ensures place { (result ≡ pos 6 → ⊥) → (vertex.new ≡ vertex.old) × (reason.new ≡ reason.old) }
-    ensures refusals { OfGraph handle.old.held.roads (λ g. ReportsRefusals g algebra limit sources.now
-        codes.now hops.now parents.now result) }
+    ensures refusals { OfGraph handle.old.held.roads (λ g. ReportsListRefusals
+        (All (HasVertex g) sources.now) (HavePlaces g.vertices codes.now hops.now parents.now)
+        algebra limit result) }
     ensures closed { (result ≡ pos 4) ↔ (handle.old.held.roads ≡ None) }
     ensures status { IsOneOf (0 ∷ 2 ∷ 3 ∷ 4 ∷ 6 ∷ 17 ∷ 43 ∷ []) result }
 {
     let Some(mut owner) = take(alloc, handle) else {
         return CLOSED;
     };
-    let status = check_tree(
-        alloc,
-        algebra,
-        limit,
-        &mut owner.shared,
-        sources,
+    let by = AlgebraNumber { algebra, limit };
+    let tree = ListedTree {
         codes,
         hops,
         parents,
-        vertex,
-        reason,
-    );
+    };
+    let mut first = FirstRefuted { vertex, reason };
+    let status = check_tree(alloc, by, &mut owner.shared, sources, &tree, &mut first);
     put(handle, owner);
     status
 }

@@ -2,14 +2,14 @@
 
 ghost use Rattle.std.specs.Prelude.{◌≡◌, ◌↔◌, ◌∷◌, [], pos, IsSome, None};
 ghost use Rattle.path_algebra.specs.Choices.{OfAlgebra};
-ghost use Rattle.answer_lists.specs.Answers.{IsOneOf};
-ghost use Rattle.answer_lists.specs.Table.{AreTableCodes, ReportsTableRefusals};
+ghost use Rattle.answer_lists.specs.Answers.{IsOneOf, ReportsListRefusals};
+ghost use Rattle.answer_lists.specs.Table.{AreEndsIn, AreTableCodes, HasPlaces};
 ghost use Rattle.diffuse_c.specs.Holding.{OfGraph};
 
 use crate::handle::{DiffuseGraph, put, take};
 use crate::owners::Owner;
 use crate::status::CLOSED;
-use answer_lists::answer_table;
+use answer_lists::{AlgebraNumber, TableEnds, answer_table};
 use std::alloc::Global;
 
 /// The best value from each of some sources to each of some targets, as a code, by the algebra of a
@@ -32,8 +32,9 @@ pub extern "C" fn diffuse_graph_table(
     ensures table { OfGraph handle.old.held.roads (λ g. result ≡ pos 0 → OfAlgebra algebra limit
         (λ V A. AreTableCodes A g sources.now targets.now codes.new)) }
     ensures places { (result ≡ pos 0 → ⊥) → codes.new ≡ codes.old }
-    ensures refusals { OfGraph handle.old.held.roads (λ g. ReportsTableRefusals g algebra limit
-        sources.now targets.now codes.old result) }
+    ensures refusals { OfGraph handle.old.held.roads (λ g. ReportsListRefusals
+        (AreEndsIn g sources.now targets.now) (HasPlaces sources.now targets.now codes.old)
+        algebra limit result) }
     ensures closed { (result ≡ pos 4) ↔ (handle.old.held.roads ≡ None) }
     ensures stopped { result ≡ pos 45 → IsSome handle.old.held.stop }
     ensures status { IsOneOf (0 ∷ 2 ∷ 3 ∷ 4 ∷ 17 ∷ 43 ∷ 45 ∷ []) result }
@@ -42,7 +43,9 @@ pub extern "C" fn diffuse_graph_table(
         return CLOSED;
     };
     let Owner { shared, stop, .. } = &mut *owner;
-    let status = answer_table(alloc, algebra, limit, shared, stop, sources, targets, codes);
+    let by = AlgebraNumber { algebra, limit };
+    let ends = TableEnds { sources, targets };
+    let status = answer_table(alloc, by, shared, stop, &ends, codes);
     put(handle, owner);
     status
 }

@@ -1,9 +1,9 @@
-use Rattle.std.proofs.Common.{ℕ, List, length, ap, ◌∙◌, subst}
+use Rattle.std.proofs.Common.{ℕ, List, ◌∙◌, subst}
 use Rattle.std.specs.Prelude.{IsTrue, map}
 use Rattle.path_algebra.specs.Choices.{Under}
 use Rattle.answer_lists.specs.KeptTree.{code_in, tree_in, vertices_in}
 use Rattle.answer_lists.specs.Near.{AreNearLines, hops_at, parent_at}
-use Rattle.answer_lists.proofs.NearLists.{done_is, found_listed, under_weaker}
+use Rattle.answer_lists.proofs.NearListed.{done_is, found_listed, under_weaker}
 use Rattle.answer_lists.proofs.near.answer.Goals as goal
 
 pub returns-clause-lists : goal.returns-clause-lists
@@ -16,5 +16,5 @@ returns-clause-lists c =
     let lines = subst (λ (ss : List ℕ). Under a.chosen (λ V A. AreNearLines A a.shared.now ss found (map (code_in k) found) (map (hops_at (tree_in k)) found)
     (map (parent_at (tree_in k)) found))) (c.deref.ensures.value ∙ c.in-Ok.ensures) found_near in
     λ status. let done = done_is c.write_lists-status.result written.found status in
-    found_listed a.chosen a.shared.now a.sources.now found _ _ _ lines _ (ap (λ (xs : List ℕ). length xs) c.reached.ensures)
+    found_listed a.chosen a.shared.now a.sources.now found _ _ _ lines _ written.count
     _ _ _ _ (written.vertices done) (written.codes done) (written.hops done) (written.parents done)

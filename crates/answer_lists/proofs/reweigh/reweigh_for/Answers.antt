@@ -10,7 +10,7 @@ use Rattle.answer_lists.proofs.reweigh.reweigh_for.Goals as goal
 pub returns-in-Err-Heavy-clause-refusal : goal.returns-in-Err-Heavy-clause-refusal
 returns-in-Err-Heavy-clause-refusal c =
     let f = c.in-Some.factored.now in
-    let here : c.graph.result.now ≡ c.args.second.now = c.graph.ensures ∙ c.rows.ensures.kept in
+    let here : c.graph.result.now ≡ c.args.second.now = c.graph.ensures ∙ c.by_head.ensures.kept in
     let cause = subst (λ (why : Unweighed). IsCause why c.graph.result.now f) c.in-Err-Heavy.field-0-is c.in-Err-Heavy.ensures.cause in
     let none = subst (λ (g : GraphData). (k : ℕ) → CountsFit g (cost_of f.algebra.cost) k → ⊥) here cause in
     let link : pos 8 ≡ pos 44 → JoinsNoOthers c.args.second.now c.args.first.now → ⊥ = search rules in

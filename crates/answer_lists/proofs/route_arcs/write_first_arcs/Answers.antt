@@ -1,4 +1,4 @@
-use Rattle.std.proofs.Common.{◌≡◌, ◌+◌, ◌++◌, ◌∷◌, [], ℕ, List, ◌∙◌, length, take, drop, sym, subst}
+use Rattle.std.proofs.Common.{◌≡◌, ◌+◌, ◌++◌, ◌∷◌, [], ℕ, List, ◌∙◌, take, drop, sym, subst}
 use Rattle.std.proofs.lemmas.List.{length-take-le, take_at}
 use Rattle.path_algebra.specs.Choices.{Under}
 use Rattle.path_algebra.specs.Walks.{IsBestCode}

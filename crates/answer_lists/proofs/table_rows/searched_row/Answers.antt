@@ -1,7 +1,7 @@
 use Rattle.std.proofs.Common.{rules, ◌<◌, length, get_or, refl, sym, subst}
 use Rattle.answer_lists.specs.Table.{IsTableCode, AreRowCodes}
 use Rattle.answer_lists.proofs.Tabling.{zipped_next}
-use Rattle.answer_lists.proofs.table.searched_row.Goals as goal
+use Rattle.answer_lists.proofs.table_rows.searched_row.Goals as goal
 
 pub loop-target-preserved : goal.loop-target-preserved
 loop-target-preserved g c =

@@ -1,6 +1,6 @@
 use Rattle.std.proofs.Common.{◌≡◌, [], ◌∷◌, take}
 use Rattle.answer_lists.specs.Table.{AreRowCodes}
-use Rattle.answer_lists.proofs.factored.Factored.ask_row.Given as goal
+use Rattle.answer_lists.proofs.factored_graph.FactoredGraph.ask_row.Given as goal
 
 abbrev pub invariant-loop-target : goal.invariant-loop-target
 invariant-loop-target g l = record {

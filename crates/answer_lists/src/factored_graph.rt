@@ -9,6 +9,7 @@ ghost use Rattle.path_algebra.specs.Walks.{AreBest};
 ghost use Rattle.route_tree.specs.Tree.{IsTree};
 ghost use Rattle.route_tree.specs.Found.{IsPairFound};
 ghost use Rattle.factor_routes.specs.Reweighing.{IsCause};
+ghost use Rattle.answer_lists.specs.Answers.{HasBoth};
 ghost use Rattle.answer_lists.specs.Table.{AreRowCodes};
 ghost use Rattle.answer_lists.specs.Tree.{HasLowCodes};
 
@@ -25,12 +26,12 @@ use std::sync::Arc;
 
 /// An owner of a factored graph, with an asker of its own once it was needed.
 #[derive(Drop)]
-pub(crate) struct Factored {
+pub(crate) struct FactoredGraph {
     factors: Arc<RoadFactors>,
     asker: Option<RouteAsker>,
 }
 
-impl Model for Factored {
+impl Model for FactoredGraph {
     ghost use Rattle.std.specs.Prelude.{◌≡◌, ℕ, IfSome};
     ghost use Rattle.std.specs.Arc.{arc_value};
     ghost use Rattle.path_algebra.specs.declared.counted_sums.CountedSums.{CountedSums};
@@ -43,24 +44,24 @@ impl Model for Factored {
     ghost invariant = { λ f. IfSome f.asker (λ a. a.factors ≡ arc_value f.factors) };
 }
 
-impl Factored {
+impl FactoredGraph {
     /// The first owner.
-    pub(crate) fn of(alloc: Global, factors: RoadFactors) -> Result<Factored, AllocError>
+    pub(crate) fn of(alloc: Global, factors: RoadFactors) -> Result<FactoredGraph, AllocError>
         ensures { IfOk result (λ f. f ≡ factors) }
     {
         let factors = Arc::new(alloc, factors).map_err(AllocError::from)?;
-        Ok(Factored {
+        Ok(FactoredGraph {
             factors,
             asker: None,
         })
     }
 
     /// One more owner, which makes its own asker.
-    pub(crate) fn try_clone(&self) -> Result<Factored, AllocError>
+    pub(crate) fn try_clone(&self) -> Result<FactoredGraph, AllocError>
         ensures { IfOk result (λ f. f ≡ self.now) }
     {
         let factors = Arc::try_clone(&self.factors)?;
-        Ok(Factored {
+        Ok(FactoredGraph {
             factors,
             asker: None,
         })
@@ -71,15 +72,15 @@ impl Factored {
         &self,
         alloc: Global,
         graph: &OutGraph,
-        rows: &InGraph,
-    ) -> Result<Factored, Unweighed>
-        requires { rows.now ≡ graph.now }
+        by_head: &InGraph,
+    ) -> Result<FactoredGraph, Unweighed>
+        requires { by_head.now ≡ graph.now }
         ensures roads { IfOk result (λ f. f.roads ≡ graph.now) }
         ensures cost { IfOk result (λ f. f.algebra.cost ≡ self.now.algebra.cost) }
         ensures cause { IfErr result (λ why. IsCause why graph.now self.now) }
     {
-        let factors = self.factors.reweighed(alloc, graph, rows)?;
-        match Factored::of(alloc, factors) {
+        let factors = self.factors.reweighed(alloc, graph, by_head)?;
+        match FactoredGraph::of(alloc, factors) {
             Ok(factored) => Ok(factored),
             Err(AllocError) => Err(Unweighed::Memory),
         }
@@ -166,18 +167,17 @@ impl Factored {
         &mut self,
         alloc: Global,
         algebra: A,
-        rows: &InGraph,
+        by_head: &InGraph,
         ends: (Vertex, Vertex),
     ) -> Result<Option<Found>, Memory>
         requires carried { IsCarried (A.meaning algebra) (cost_of self.old.algebra.cost) }
-        requires rows { rows.now ≡ self.old.roads }
-        requires source { HasVertex self.old.roads ends.0 }
-        requires target { HasVertex self.old.roads ends.1 }
+        requires by_head { by_head.now ≡ self.old.roads }
+        requires ends { HasBoth self.old.roads ends.0 ends.1 }
         ensures kept { self.new ≡ self.old }
         ensures found { IfOk result (IsPairFound (A.meaning algebra) self.old.roads ends.0 ends.1) }
     {
         let mut asker = self.take_asker(alloc)?;
-        let found = self.factors.find(alloc, algebra, rows, &mut asker, ends);
+        let found = self.factors.find(alloc, algebra, by_head, &mut asker, ends);
         self.asker = Some(asker);
         found
     }
@@ -187,15 +187,16 @@ impl Factored {
         &self,
         alloc: Global,
         algebra: A,
-        rows: &InGraph,
+        by_head: &InGraph,
         sources: &[Vertex],
     ) -> Result<(Labels<A::Value>, Tree), Memory>
         requires carried { IsCarried (A.meaning algebra) (cost_of self.now.algebra.cost) }
-        requires rows { rows.now ≡ self.now.roads }
+        requires by_head { by_head.now ≡ self.now.roads }
         requires sources { All (HasVertex self.now.roads) sources.now }
         ensures labels { IfOk result (λ s. AreBest (A.meaning algebra) self.now.roads sources.now s.0) }
         ensures tree { IfOk result (λ s. IsTree (A.meaning algebra) self.now.roads sources.now s.1) }
     {
-        self.factors.solve_with_tree(alloc, algebra, rows, sources)
+        self.factors
+            .solve_with_tree(alloc, algebra, by_head, sources)
     }
 }

@@ -1,8 +1,8 @@
-use Rattle.std.proofs.Common.{◌≡◌, ◌∙◌, [], ◌∷◌, ℕ, List, Option, ap, sym, subst}
+use Rattle.std.proofs.Common.{◌≡◌, ◌∙◌, [], ◌∷◌, List, Option, ap, sym, subst}
 use Rattle.path_algebra.specs.Walks.{IsBestLabel, label_of}
 use Rattle.answer_lists.specs.Table.{IsTableCode}
 use Rattle.answer_lists.proofs.Tabling.{label_coded}
-use Rattle.answer_lists.proofs.table.searched_code.Goals as goal
+use Rattle.answer_lists.proofs.table_rows.searched_code.Goals as goal
 
 pub returns-clause-code : goal.returns-clause-code
 returns-clause-code g c =

@@ -5,7 +5,7 @@ use Rattle.path_algebra.specs.declared.counted_sums.CountedSums.{CountedSums}
 use Rattle.path_factors.specs.State.{FactorState}
 use Rattle.answer_lists.specs.Table.{IsTableCode, AreRowCodes}
 use Rattle.answer_lists.proofs.Tabling.{label_coded, zipped_next}
-use Rattle.answer_lists.proofs.factored.Factored.ask_row.Goals as goal
+use Rattle.answer_lists.proofs.factored_graph.FactoredGraph.ask_row.Goals as goal
 
 pub loop-target-preserved : goal.loop-target-preserved
 loop-target-preserved g c =

@@ -16,10 +16,11 @@ use Rattle.batch_run.specs.declared.solve.diffusion.EndedDiffusion.{EndedDiffusi
 use Rattle.batch_run.specs.declared.settings.Settings.{Settings}
 use Rattle.batch_run.specs.declared.watcher.Progress.{Progress}
 use Rattle.batch_run.specs.declared.watcher.Progress.TheVariants as report
+use Rattle.elimination_order.specs.declared.counts.Counts.{Counts}
 use Rattle.question_solvers.specs.declared.factor_solver.Factoring.{Factoring}
 use Rattle.batch_run.specs.Cut.{IsCut, order_of}
 use Rattle.batch_run.specs.Diffusions.{IsEnded}
-use Rattle.batch_run.specs.Reports.{IsAccount, Due, Beginning, Attempt, Account, Answering, IsReportOf, FollowsReports, Reported, ReportedAllOrPrefix, ReportedPrefix, accounts_due, question_due, questions_due, start_due, batch_due, count_diffusions, diffused}
+use Rattle.batch_run.specs.Reports.{IsAccount, Due, Beginning, Ordering, Attempt, Account, Preparation, Answering, IsReportOf, FollowsReports, Reported, ReportedAllOrPrefix, ReportedPrefix, accounts_due, question_due, questions_due, order_due, factoring_due, start_due, batch_due, count_diffusions, diffused}
 
 -- the counts of a diffusion that was run to its end are those that were gathered
 module _ {S V : Type 0} (meaning : S → Algebra V) where
@@ -120,8 +121,8 @@ module _ {V S : Type 0} (A : Algebra V) (how : Settings) (g : GraphData) (may_be
   sources_ended i old new le h = subst (λ (l : List ℕ). Reported A how g may_become (map (Account k) l) old new) (take_all i xs le) h
 
 -- due of a batch until so many questions are answered
-abbrev pub due_first : Bool → Option Factoring → List Question → ℕ → List Due
-due_first plain became qs i = start_due plain became qs ++ questions_due plain 0 (take i qs)
+abbrev pub due_first : Bool → Preparation → List Question → ℕ → List Due
+due_first plain made qs i = start_due plain made qs ++ questions_due plain 0 (take i qs)
 
 -- of one question more
 due_push : (plain : Bool) (n : ℕ) (qs : List Question) (i k : ℕ) (d : Question) → i < length qs → k ≡ n + i + 1 →
@@ -145,30 +146,37 @@ due_from plain n (q ∷ qs) (suc i) =
     (after.0, ap (λ (x : List Due). head ++ x) after.1 ∙ sym (append_assoc head (questions_due plain (n + 1) (take i qs)) after.0))
 
 -- what is due until so many questions are answered is a prefix of all
-pub first_follows : (plain : Bool) (became : Option Factoring) (qs : List Question) (i : ℕ) → (rest : List Due) × (batch_due plain became qs ≡ due_first plain became qs i ++ rest)
-first_follows plain became qs i =
-    let head = start_due plain became qs in
+pub first_follows : (plain : Bool) (made : Preparation) (qs : List Question) (i : ℕ) → (rest : List Due) × (batch_due plain made qs ≡ due_first plain made qs i ++ rest)
+first_follows plain made qs i =
+    let head = start_due plain made qs in
     let after = due_from plain 0 qs i in
     (after.0, ap (λ (x : List Due). head ++ x) after.1 ∙ sym (append_assoc head (questions_due plain 0 (take i qs)) after.0))
 
--- and so is what is due before the first question
-pub start_follows : (plain : Bool) (became : Option Factoring) (qs : List Question) → (rest : List Due) × (batch_due plain became qs ≡ Beginning (length qs) (count_diffusions plain qs) ∷ rest)
-start_follows plain None qs = (questions_due plain 0 qs, refl)
-start_follows plain (Some f) qs = (Attempt f ∷ questions_due plain 0 qs, refl)
+-- and so is what is due before the graph is factored
+pub start_follows : (plain : Bool) (made : Preparation) (qs : List Question) → (rest : List Due) × (batch_due plain made qs ≡ Beginning (length qs) (count_diffusions plain qs) ∷ rest)
+start_follows plain made qs = ((order_due made.found ++ factoring_due made.became) ++ questions_due plain 0 qs, refl)
 
-module _ (plain : Bool) (became : Option Factoring) (qs : List Question) (i k : ℕ) (q : Question) (low : i < length qs) (number : k ≡ i + 1) where
-  pub next_due : due_first plain became qs (i + 1) ≡ due_first plain became qs i ++ question_due plain k (get_or qs i q)
+pub order_follows : (plain : Bool) (made : Preparation) (qs : List Question) →
+    (rest : List Due) × (batch_due plain made qs ≡ (Beginning (length qs) (count_diffusions plain qs) ∷ order_due made.found) ++ rest)
+order_follows plain made qs =
+    let first = Beginning (length qs) (count_diffusions plain qs) in (
+      factoring_due made.became ++ questions_due plain 0 qs,
+      ap (λ (x : List Due). first ∷ x) (append_assoc (order_due made.found) (factoring_due made.became) (questions_due plain 0 qs)),
+    )
+
+module _ (plain : Bool) (made : Preparation) (qs : List Question) (i k : ℕ) (q : Question) (low : i < length qs) (number : k ≡ i + 1) where
+  pub next_due : due_first plain made qs (i + 1) ≡ due_first plain made qs i ++ question_due plain k (get_or qs i q)
   next_due =
-      let head = start_due plain became qs in
+      let head = start_due plain made qs in
       let same : i + 1 ≡ suc i = omega arith in
-      ap (due_first plain became qs) same ∙ ap (λ (x : List Due). head ++ x) (due_push plain 0 qs i k q low (omega (arith, number)))
+      ap (due_first plain made qs) same ∙ ap (λ (x : List Due). head ++ x) (due_push plain 0 qs i k q low (omega (arith, number)))
       ∙ sym (append_assoc head (questions_due plain 0 (take i qs)) (question_due plain k (get_or qs i q)))
 
   -- and so it is with some accounts of the next question
-  pub accounts_follow : (ds es : List Due) → accounts_due plain k (get_or qs i q) ≡ ds ++ es → (rest : List Due) × (batch_due plain became qs ≡ (due_first plain became qs i ++ ds) ++ rest)
+  pub accounts_follow : (ds es : List Due) → accounts_due plain k (get_or qs i q) ≡ ds ++ es → (rest : List Due) × (batch_due plain made qs ≡ (due_first plain made qs i ++ ds) ++ rest)
   accounts_follow ds es e =
-      let first = due_first plain became qs i in
-      let after = first_follows plain became qs (i + 1) in
+      let first = due_first plain made qs i in
+      let after = first_follows plain made qs (i + 1) in
       let last = Answering k ∷ [] in (
         es ++ (last ++ after.0),
         after.1 ∙ ap (λ (x : List Due). x ++ after.0) next_due
@@ -185,24 +193,40 @@ module _ {V S : Type 0} (A : Algebra V) (how : Settings) (g : GraphData) (may_be
       one A how g may_become (Beginning (length qs) (count_diffusions plain qs)) (report.Begun n d) old new
       (ap (λ (m : ℕ). report.Begun m d) count ∙ ap (λ (m : ℕ). report.Begun (length qs) m) diffusions) become
 
-  -- and what became of factoring the graph is told
-  pub started : (became : Option Factoring) (old mid new : S) → Reported A how g may_become (Beginning (length qs) (count_diffusions plain qs) ∷ []) old mid →
-      IfSome became (λ f. may_become mid (report.Factored f) new) → IfNone became (new ≡ mid) → Reported A how g may_become (due_first plain became qs 0) old new
-  started None old mid new first told untold = subst (Reported A how g may_become (due_first plain None qs 0) old) (sym untold) first
-  started (Some f) old mid new first told untold =
-      more A how g may_become (Beginning (length qs) (count_diffusions plain qs) ∷ []) (Attempt f ∷ []) old mid new first (one A how g may_become (Attempt f) (report.Factored f) mid new refl told)
+  ordered : (found : Option Counts) (old new : S) → IfSome found (λ c. may_become old (report.Ordered c) new) → IfNone found (new ≡ old) → Reported A how g may_become (order_due found) old new
+  ordered None old new told untold = subst (Reported A how g may_become [] old) (sym untold) (none A how g may_become old)
+  ordered (Some c) old new told untold = one A how g may_become (Ordering c) (report.Ordered c) old new refl told
 
-  module _ (became : Option Factoring) where
+  factored : (became : Option Factoring) (old new : S) → IfSome became (λ f. may_become old (report.Factored f) new) → IfNone became (new ≡ old) → Reported A how g may_become (factoring_due became) old new
+  factored None old new told untold = subst (Reported A how g may_become [] old) (sym untold) (none A how g may_become old)
+  factored (Some f) old new told untold = one A how g may_become (Attempt f) (report.Factored f) old new refl told
+
+  module _ (made : Preparation) (old mid next : S) (first : Reported A how g may_become (Beginning (length qs) (count_diffusions plain qs) ∷ []) old mid)
+      (some : IfSome made.found (λ c. may_become mid (report.Ordered c) next)) (no : IfNone made.found (next ≡ mid)) where
+    -- what an order counted is told
+    pub begun_ordered : Reported A how g may_become (Beginning (length qs) (count_diffusions plain qs) ∷ order_due made.found) old next
+    begun_ordered = more A how g may_become (Beginning (length qs) (count_diffusions plain qs) ∷ []) (order_due made.found) old mid next first (ordered made.found mid next some no)
+
+    -- and then what became of factoring the graph
+    pub started : (new : S) → IfSome made.became (λ f. may_become next (report.Factored f) new) → IfNone made.became (new ≡ next) → Reported A how g may_become (due_first plain made qs 0) old new
+    started new told untold =
+        let begin = Beginning (length qs) (count_diffusions plain qs) in
+        let asked = order_due made.found in
+        let made_of = factoring_due made.became in
+        subst (λ (ds : List Due). Reported A how g may_become ds old new) (sym (append-nil (begin ∷ asked ++ made_of)))
+        (more A how g may_become (begin ∷ asked) made_of old next new begun_ordered (factored made.became next new told untold))
+
+  module _ (made : Preparation) where
     -- all questions are answered
-    pub ended : (i : ℕ) (old new : S) → length qs ≤ i → Reported A how g may_become (due_first plain became qs i) old new → Reported A how g may_become (batch_due plain became qs) old new
-    ended i old new le h = subst (λ (x : List Question). Reported A how g may_become (start_due plain became qs ++ questions_due plain 0 x) old new) (take_all i qs le) h
+    pub ended : (i : ℕ) (old new : S) → length qs ≤ i → Reported A how g may_become (due_first plain made qs i) old new → Reported A how g may_become (batch_due plain made qs) old new
+    ended i old new le h = subst (λ (x : List Question). Reported A how g may_become (start_due plain made qs ++ questions_due plain 0 x) old new) (take_all i qs le) h
 
     -- one question more is answered
-    pub answered : (i k : ℕ) (q : Question) → i < length qs → k ≡ i + 1 → (old mid new : S) → Reported A how g may_become (due_first plain became qs i) old mid →
-        Reported A how g may_become (question_due plain k (get_or qs i q)) mid new → Reported A how g may_become (due_first plain became qs (i + 1)) old new
+    pub answered : (i k : ℕ) (q : Question) → i < length qs → k ≡ i + 1 → (old mid new : S) → Reported A how g may_become (due_first plain made qs i) old mid →
+        Reported A how g may_become (question_due plain k (get_or qs i q)) mid new → Reported A how g may_become (due_first plain made qs (i + 1)) old new
     answered i k q low number old mid new first one =
-        subst (λ (x : List Due). Reported A how g may_become x old new) (sym (next_due plain became qs i k q low number))
-        (more A how g may_become (due_first plain became qs i) (question_due plain k (get_or qs i q)) old mid new first one)
+        subst (λ (x : List Due). Reported A how g may_become x old new) (sym (next_due plain made qs i k q low number))
+        (more A how g may_become (due_first plain made qs i) (question_due plain k (get_or qs i q)) old mid new first one)
 
 -- a question is answered
 module _ {V S : Type 0} (A : Algebra V) (how : Settings) (g : GraphData) (may_become : S → Progress → S → Type 0) (plain : Bool) (k : ℕ) (q : Question) where

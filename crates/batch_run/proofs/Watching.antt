@@ -33,11 +33,11 @@ module _ {V S W : Type 0} (A : Algebra V) (how : Settings) (IsRead : GraphData �
 
   -- what it reports of inputs that were read, from what answering them reports
   module _ (new : S) (g : GraphData) (asked : Asked) (read : IsRead g asked) where
-    pub watched_all : ReportedWhole A how g (without_diffusions how) (IsTold how.factors) asked.questions may_become old new → Watched A how IsRead may_become old new out out_after (Ok tt)
+    pub watched_all : ReportedWhole A how g (without_diffusions how) (IsTold g how.factors) asked.questions may_become old new → Watched A how IsRead may_become old new out out_after (Ok tt)
     watched_all w = record {
       reports = w.reported.reports;
       are = record {
-        all = record { graph = g; asked = asked; read = read; became = w.became; told = w.told; are_due = w.reported.are_due };
+        all = record { graph = g; asked = asked; read = read; made = w.made; told = w.told; are_due = w.reported.are_due };
         first = tt;
         nothing = tt;
         untouched = tt;
@@ -45,7 +45,7 @@ module _ {V S W : Type 0} (A : Algebra V) (how : Settings) (IsRead : GraphData �
       told = w.reported.told;
     }
 
-    pub watched_first : (cause : Cause) → ReportedWritten A how g asked (without_diffusions how) (IsTold how.factors) may_become old new out out_after → Watched A how IsRead may_become old new out out_after (Err (fault_of cause))
+    pub watched_first : (cause : Cause) → ReportedWritten A how g asked (without_diffusions how) (IsTold g how.factors) may_become old new out out_after → Watched A how IsRead may_become old new out out_after (Err (fault_of cause))
     watched_first cause w = record {
       reports = w.reported.reported.reports;
       are = record {
@@ -54,7 +54,7 @@ module _ {V S W : Type 0} (A : Algebra V) (how : Settings) (IsRead : GraphData �
           graph = g;
           asked = asked;
           read = read;
-          became = w.became;
+          made = w.made;
           told = w.told;
           prefix = w.reported.prefix;
           rest = w.reported.rest;

@@ -2,8 +2,8 @@
 -- begins (2 questions, 3 diffusions), question 1 from 1 was gathered, 1 is answered, question 2
 -- from 4 was gathered, question 2 from 5 was, 2 are answered. With the plain solver: it begins (2
 -- questions, 0 diffusions), 1 is answered, 2 are. With factors: it begins (2 questions, 0
--- diffusions), the graph is factored, 1 is answered, 2 are.
-use Rattle.std.specs.Prelude.{◌≡◌, ◌≢◌, ℕ, ◌+◌, Bool, true, false, List, [], ◌∷◌, ◌++◌, length, map, Option, None, Some, IsSome, Result, Ok, Err, OnOk, IfErr}
+-- diffusions), an order is found, the graph is factored, 1 is answered, 2 are.
+use Rattle.std.specs.Prelude.{◌≡◌, ◌≢◌, ℕ, ◌+◌, Bool, true, false, List, [], ◌∷◌, ◌++◌, length, map, Option, None, Some, IfSome, IsSome, Result, Ok, Err, OnOk, IfErr}
 use Rattle.std.specs.List.{AllByRecursion, AllZip, flat_map}
 use Rattle.text_lines.specs.Streams.{Output}
 use Rattle.road_graph.specs.GraphData.{GraphData}
@@ -13,7 +13,10 @@ use Rattle.shard_store.specs.declared.tally.Tally.{Tally}
 use Rattle.shard_store.specs.Plans.{PlanData}
 use Rattle.shard_store.specs.Setup.{setup_of}
 use Rattle.station.specs.Gather.{IsGathered}
+use Rattle.elimination_order.specs.Bounds.{AreWithinBounds}
+use Rattle.elimination_order.specs.declared.counts.Counts.{Counts}
 use Rattle.question_solvers.specs.declared.factor_solver.Factoring.{Factoring}
+use Rattle.question_solvers.specs.Solvers.{IsToldRightly}
 use Rattle.batch_run.specs.declared.faults.File.TheVariants.{NoFile}
 use Rattle.batch_run.specs.declared.faults.RunFault.{RunFault}
 use Rattle.batch_run.specs.declared.settings.Settings.{Settings}
@@ -21,7 +24,7 @@ use Rattle.batch_run.specs.Answered.{WroteAtLeast}
 use Rattle.batch_run.specs.Choice.{without_diffusions}
 use Rattle.batch_run.specs.Cut.{IsCut, order_of}
 use Rattle.batch_run.specs.declared.watcher.Progress.{Progress}
-use Rattle.batch_run.specs.declared.watcher.Progress.TheVariants.{Begun, Factored, Gathered, Answered}
+use Rattle.batch_run.specs.declared.watcher.Progress.TheVariants.{Begun, Ordered, Factored, Gathered, Answered}
 
 -- The counts of a diffusion over a graph from a source are those that `gather` reports with some
 -- labels, in the shards and the order that the settings choose: some events, counted in full, lead
@@ -33,11 +36,18 @@ pub record IsAccount {V : Type 0} (A : Algebra V) (how : Settings) (g : GraphDat
   pub labels : List (Option V)
   pub gathered : IsGathered (λ (B : Algebra V). B) (setup_of A g source plan (order_of how)) (record { labels = labels; tally = tally })
 
--- what is due to be reported: that the batch begins, with so many questions and diffusions; what
--- became of factoring its graph; that a question's diffusion from a source was gathered; or that so
--- many questions are answered
+-- what is told of factoring a graph: what the order counted that was sought, if one was found; and
+-- what became of factoring it, if factors are to answer
+pub record Preparation : Type 0 where
+  pub found : Option Counts
+  pub became : Option Factoring
+
+-- what is due to be reported: that the batch begins, with so many questions and diffusions; what an
+-- order for its graph counted; what became of factoring it; that a question's diffusion from a
+-- source was gathered; or that so many questions are answered
 pub data Due : Type 0 where
   Beginning : (questions diffusions : ℕ) → Due
+  Ordering : (counts : Counts) → Due
   Attempt : (became : Factoring) → Due
   Account : (question source : ℕ) → Due
   Answering : (questions : ℕ) → Due
@@ -45,6 +55,7 @@ pub data Due : Type 0 where
 -- the report is the one that is due; one of a diffusion that was gathered has its counts
 abbrev pub IsReportOf : {V : Type 0} → Algebra V → Settings → GraphData → Due → Progress → Type 0
 IsReportOf A how g (Beginning n d) r = r ≡ Begun n d
+IsReportOf A how g (Ordering counts) r = r ≡ Ordered counts
 IsReportOf A how g (Attempt became) r = r ≡ Factored became
 IsReportOf A how g (Account k s) r = (tally : Tally) × IsAccount A how g s tally × (r ≡ Gathered k s tally)
 IsReportOf A how g (Answering n) r = r ≡ Answered n
@@ -72,21 +83,39 @@ abbrev pub questions_due : Bool → ℕ → List Question → List Due
 questions_due plain n [] = []
 questions_due plain n (q ∷ qs) = accounts_due plain (n + 1) q ++ Answering (n + 1) ∷ [] ++ questions_due plain (n + 1) qs
 
--- due before the first question: that the batch begins, and what became of factoring its graph, if
--- factors are to answer
-abbrev pub start_due : Bool → Option Factoring → List Question → List Due
-start_due plain None qs = Beginning (length qs) (count_diffusions plain qs) ∷ []
-start_due plain (Some became) qs = Beginning (length qs) (count_diffusions plain qs) ∷ Attempt became ∷ []
+-- due of an order, if one was found
+abbrev pub order_due : Option Counts → List Due
+order_due None = []
+order_due (Some counts) = Ordering counts ∷ []
+
+-- due of factoring, if factors are to answer
+abbrev pub factoring_due : Option Factoring → List Due
+factoring_due None = []
+factoring_due (Some became) = Attempt became ∷ []
+
+-- due before the first question: that the batch begins, and what is told of factoring its graph
+abbrev pub start_due : Bool → Preparation → List Question → List Due
+start_due plain made qs = Beginning (length qs) (count_diffusions plain qs) ∷ order_due made.found ++ factoring_due made.became
 
 -- due of a batch: that, and then what is due of each question
-abbrev pub batch_due : Bool → Option Factoring → List Question → List Due
-batch_due plain became qs = start_due plain became qs ++ questions_due plain 0 qs
+abbrev pub batch_due : Bool → Preparation → List Question → List Due
+batch_due plain made qs = start_due plain made qs ++ questions_due plain 0 qs
 
--- what is told of factoring the graph: if the settings choose factors, what became of it; else
--- nothing
-abbrev pub IsTold : (factors : Bool) → Option Factoring → Type 0
-IsTold true became = IsSome became
-IsTold false became = became ≡ None
+-- what is told of an order for this graph: that one was found, if it was, with counts within the
+-- bounds; nothing if the settings choose no factors
+abbrev pub IsOrderTold : GraphData → (factors : Bool) → Option Counts → Type 0
+IsOrderTold g true found = IfSome found (AreWithinBounds g.vertices (length g.arcs))
+IsOrderTold g false found = found ≡ None
+
+-- what is told of factoring this graph: if the settings choose factors, what became of it, and if it
+-- is too dense, counts that are above a bound; else nothing
+abbrev pub IsFactoringTold : GraphData → (factors : Bool) → Option Factoring → Type 0
+IsFactoringTold g true became = IsSome became × IfSome became (IsToldRightly g)
+IsFactoringTold g false became = became ≡ None
+
+pub record IsTold (g : GraphData) (factors : Bool) (made : Preparation) : Type 0 where
+  pub order : IsOrderTold g factors made.found
+  pub factoring : IsFactoringTold g factors made.became
 
 -- given these reports, one after the other, a watcher went from the one state to the other
 abbrev pub FollowsReports : {S : Type 0} → (S → Progress → S → Type 0) → S → List Progress → S → Type 0
@@ -112,25 +141,26 @@ ReportedAllOrPrefix A how g may_become due old new (Ok _) = Reported A how g may
 ReportedAllOrPrefix A how g may_become due old new (Err _) = ReportedPrefix A how g may_become due old new
 
 -- all that is due of questions was reported, and of factoring what may be told
-pub record ReportedWhole {V S : Type 0} (A : Algebra V) (how : Settings) (g : GraphData) (plain : Bool) (Told : Option Factoring → Type 0) (qs : List Question) (may_become : S → Progress → S → Type 0) (old new : S) : Type 0 where
-  pub became : Option Factoring
-  pub told : Told became
-  pub reported : Reported A how g may_become (batch_due plain became qs) old new
+pub record ReportedWhole {V S : Type 0} (A : Algebra V) (how : Settings) (g : GraphData) (plain : Bool) (Told : Preparation → Type 0) (qs : List Question) (may_become : S → Progress → S → Type 0) (old new : S) : Type 0 where
+  pub made : Preparation
+  pub told : Told made
+  pub reported : Reported A how g may_become (batch_due plain made qs) old new
 
 -- what a report says was written, before: that a batch begins, the header; that so many questions
 -- are answered, their answers too, each whole
 abbrev pub IsWritten : {V W : Type 0} → Algebra V → GraphData → Asked → Output W → Output W → Due → Type 0
 IsWritten A g asked out out_after (Beginning n d) = WroteAtLeast A g asked 0 out out_after
+IsWritten A g asked out out_after (Ordering counts) = Unit {0}
 IsWritten A g asked out out_after (Attempt became) = Unit {0}
 IsWritten A g asked out out_after (Account k s) = Unit {0}
 IsWritten A g asked out out_after (Answering n) = WroteAtLeast A g asked n out out_after
 
 -- a prefix of what is due of a batch was reported, of factoring what may be told, and what it says
 -- was written
-pub record ReportedWritten {V S W : Type 0} (A : Algebra V) (how : Settings) (g : GraphData) (asked : Asked) (plain : Bool) (Told : Option Factoring → Type 0) (may_become : S → Progress → S → Type 0) (old new : S) (out out_after : Output W) : Type 0 where
-  pub became : Option Factoring
-  pub told : Told became
-  pub reported : ReportedPrefix A how g may_become (batch_due plain became asked.questions) old new
+pub record ReportedWritten {V S W : Type 0} (A : Algebra V) (how : Settings) (g : GraphData) (asked : Asked) (plain : Bool) (Told : Preparation → Type 0) (may_become : S → Progress → S → Type 0) (old new : S) (out out_after : Output W) : Type 0 where
+  pub made : Preparation
+  pub told : Told made
+  pub reported : ReportedPrefix A how g may_become (batch_due plain made asked.questions) old new
   pub written : AllByRecursion (IsWritten A g asked out out_after) reported.prefix
 
 -- these are all reports that are due of what was read, in order
@@ -138,9 +168,9 @@ pub record AreAllReports {V : Type 0} (A : Algebra V) (how : Settings) (IsRead :
   pub graph : GraphData
   pub asked : Asked
   pub read : IsRead graph asked
-  pub became : Option Factoring
-  pub told : IsTold how.factors became
-  pub are_due : AllZip (IsReportOf A how graph) (batch_due (without_diffusions how) became asked.questions) reports
+  pub made : Preparation
+  pub told : IsTold graph how.factors made
+  pub are_due : AllZip (IsReportOf A how graph) (batch_due (without_diffusions how) made asked.questions) reports
 
 -- these are the first reports that are due of what was read, in order, and what each says was
 -- written
@@ -148,11 +178,11 @@ pub record AreFirstReports {V W : Type 0} (A : Algebra V) (how : Settings) (IsRe
   pub graph : GraphData
   pub asked : Asked
   pub read : IsRead graph asked
-  pub became : Option Factoring
-  pub told : IsTold how.factors became
+  pub made : Preparation
+  pub told : IsTold graph how.factors made
   pub prefix : List Due
   pub rest : List Due
-  pub due_is : batch_due (without_diffusions how) became asked.questions ≡ prefix ++ rest
+  pub due_is : batch_due (without_diffusions how) made asked.questions ≡ prefix ++ rest
   pub are_due : AllZip (IsReportOf A how graph) prefix reports
   pub written : AllByRecursion (IsWritten A graph asked out out_after) prefix
 

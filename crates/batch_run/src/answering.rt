@@ -1,8 +1,9 @@
 //! Answers all questions of a batch.
-ghost use Rattle.std.specs.Prelude.{◌≡◌, ◌+◌, ◌<◌, length, slice_index_or, IfErr, IfNone, IfSome, OnErr, OnOk};
+ghost use Rattle.std.specs.Prelude.{◌≡◌, ◌+◌, ◌<◌, length, slice_index_or, IfErr, IfNone, IfOk, IfSome, OnErr, OnOk};
 ghost use Rattle.road_files.specs.Asked.{AreQuestionsOf, Question, asked_of};
 ghost use Rattle.batch_run.specs.Answered.{AnsweredAll, WroteNext};
 ghost use Rattle.batch_run.specs.Batches.{IsReadyAt, MayStopBatch, ReportedBatch, ReportedOfBatch};
+ghost use Rattle.batch_run.specs.Factored.{IsSought, is_by_factors};
 ghost use Rattle.batch_run.specs.Reports.{Reported, ReportedPrefix, accounts_due, question_due};
 ghost use Rattle.batch_run.specs.Solvers.{IsSameSolver, graph_of, is_without_diffusions};
 
@@ -13,7 +14,8 @@ use crate::solve::{Solver, solve_next, start};
 use crate::watcher::{Progress, Watcher};
 use crate::write::answer_at;
 use path_algebra::PathAlgebra;
-use question_solvers::Factoring;
+use question_solvers::{Counts, Factoring, seek_order};
+use road_graph::Memory;
 use std::sync::Wait;
 use std::thread::Threads;
 use text_lines::RoadWrite;
@@ -54,6 +56,32 @@ fn answer_next<A: PathAlgebra, W: RoadWrite, R: Threads + Wait + Sync, T: Gate, 
     Ok(())
 }
 
+/// Seeks an order of elimination, if factors are to answer and there is none yet: what it counted,
+/// if one is found. The only error is want of memory.
+fn seek<A: PathAlgebra, R, T>(
+    batch: &Batch<'_, A, R, T>,
+    solver: &mut Solver<A>,
+) -> Result<Option<Counts>, Memory>
+    ensures same { IsSameSolver solver.old solver.new }
+    ensures kind { is_by_factors solver.new ≡ is_by_factors solver.old }
+    ensures found { IfOk result (IsSought solver.old) }
+{
+    match solver {
+        Solver::Plain(_) | Solver::Workers(_) => Ok(None),
+        Solver::Factors(solver) => seek_order(batch.run.alloc, batch.algebra, solver),
+    }
+}
+
+/// Reports what an order of elimination counted, if one was found.
+fn report_order<O: Watcher>(found: Option<Counts>, watcher: &mut O)
+    ensures some { IfSome found (λ c. O.may_become watcher.old (Progress.Ordered c) watcher.new) }
+    ensures none { IfNone found (watcher.new ≡ watcher.old) }
+{
+    if let Some(counts) = found {
+        watcher.report(Progress::Ordered { counts });
+    }
+}
+
 /// Reports what became of factoring the graph, if factors are to answer.
 fn report_factoring<O: Watcher>(became: Option<Factoring>, watcher: &mut O)
     ensures some { IfSome became (λ f. O.may_become watcher.old (Progress.Factored f) watcher.new) }
@@ -84,6 +112,8 @@ pub fn answer_all<A: PathAlgebra, W: RoadWrite, R: Threads + Wait + Sync, T: Gat
 {
     let plain = solver.is_without_diffusions();
     begin(batch.algebra, batch.questions, plain, out, watcher)?;
+    let found = seek(batch, solver)?;
+    report_order(found, watcher);
     start(batch, solver)?;
     report_factoring(solver.factoring(), watcher);
     for i in 0..batch.questions.len() {

@@ -23,7 +23,7 @@ pub use faults::{Cause, File, RunFault, SETTINGS, WRITE, fault_in, fault_of_run}
 pub use inputs::{BatchInput, BatchRead, BundleInput, PairInput};
 pub use laws::{answers_exist, best_first_accounts_count_each_arc_once, usual_turns_are_enough};
 pub use orders::OrderedInput;
-pub use question_solvers::{FactorSolver, Factoring, PlainSolver, Refusal, Solved};
+pub use question_solvers::{Counts, FactorSolver, Factoring, PlainSolver, Refusal, Solved};
 pub use run::{read_batch, run_batch};
 pub use settings::{Settings, SolverKind};
 pub use solve::{Solver, WorkerSolver};

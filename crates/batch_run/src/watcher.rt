@@ -1,7 +1,7 @@
 //! What a batch reports while it runs, and to whom.
 ghost use Rattle.batch_run.specs.declared.watcher.Progress.{Progress};
 
-use question_solvers::Factoring;
+use question_solvers::{Counts, Factoring};
 use road_graph::Vertex;
 use shard_part::Tally;
 
@@ -12,6 +12,10 @@ pub enum Progress {
     Begun {
         questions: u32,
         diffusions: u64,
+    },
+    /// With factors, if an order of elimination was sought and found: what it counted.
+    Ordered {
+        counts: Counts,
     },
     /// With factors, before the first question: the graph was factored, or was refused and why.
     Factored {

@@ -1,4 +1,4 @@
-use Rattle.std.proofs.Common.{rules, refl, ap, subst, get_or, Ok, Err, ◌∙◌}
+use Rattle.std.proofs.Common.{rules, refl, ap, subst, get_or, None, Ok, Err, ◌∙◌}
 use Rattle.std.proofs.lemmas.Result.{err_from_is_err_and}
 use Rattle.road_graph.specs.GraphData.{GraphData}
 use Rattle.road_files.specs.Asked.{asked_of, FromSource}
@@ -10,8 +10,8 @@ use Rattle.batch_run.specs.Factored.{MayTell}
 use Rattle.batch_run.specs.Solvers.{graph_of, is_without_diffusions}
 use Rattle.batch_run.proofs.AnsweredFirst.{start, answered, stopped_first, stopped_at, stopped_for_memory, all_answered}
 use Rattle.batch_run.proofs.Reporting.{begun as reports_begun}
-use Rattle.batch_run.proofs.Telling.{some_told}
-use Rattle.batch_run.proofs.WrittenReports.{at_least, only_begun, unreported, until_all, until_ended, until_first, until_next, until_stopped}
+use Rattle.batch_run.proofs.Telling.{none_sought, some_told}
+use Rattle.batch_run.proofs.WrittenReports.{at_least, only_begun, only_ordered, unreported, until_all, until_ended, until_first, until_next, until_stopped}
 use Rattle.batch_run.proofs.answering.answer_all.Goals as goal
 
 pub begin-requires-after_bounds : goal.begin-requires-after_bounds
@@ -25,8 +25,23 @@ returns-in_err-begin-clause-answered g c =
 
 pub returns-in_err-begin-clause-reported : goal.returns-in_err-begin-clause-reported
 returns-in_err-begin-clause-reported g c =
-    let told = some_told c.args.solver.now in
-    unreported (g.A.PathAlgebra.meaning c.args.batch.now.algebra) c.args.batch.now.run.now.settings.now (graph_of c.args.solver.now) (asked_of c.args.batch.now.questions.now) (is_without_diffusions c.args.solver.now) (MayTell c.args.solver.now) g.O.Watcher.may_become _ _ told.0 told.1 _ _ c.in_err-begin.ensures.unreported
+    let told = some_told c.args.solver.now None (none_sought c.args.solver.now) in
+    unreported (g.A.PathAlgebra.meaning c.args.batch.now.algebra) c.args.batch.now.run.now.settings.now (graph_of c.args.solver.now) (asked_of c.args.batch.now.questions.now) (is_without_diffusions c.args.solver.now) (MayTell c.args.solver.now) g.O.Watcher.may_become _ _ _ told.1 _ _ c.in_err-begin.ensures.unreported
+
+pub returns-in_err-found-clause-answered : goal.returns-in_err-found-clause-answered
+returns-in_err-found-clause-answered g c =
+    let fault = err_from_is_err_and c.from_residual-in_err-found.result c.from_residual-in_err-found.ensures.1 in
+    rw fault.1 (stopped_for_memory (g.A.PathAlgebra.meaning c.args.batch.now.algebra) (graph_of c.args.solver.now) (asked_of c.args.batch.now.questions.now)
+    (MayStopBatch g.A.PathAlgebra.meaning g.T.Gate.may_answer c.args.batch.now c.args.solver.now) _ _ fault.0 fault.2 (rw fault.2 (λ other. absurd (other refl)))
+    (start (g.A.PathAlgebra.meaning c.args.batch.now.algebra) (graph_of c.args.solver.now) (asked_of c.args.batch.now.questions.now) _ _ c.in_ok-begin.ensures.wrote))
+
+pub returns-in_err-found-clause-reported : goal.returns-in_err-found-clause-reported
+returns-in_err-found-clause-reported g c =
+    let told = some_told c.args.solver.now None (none_sought c.args.solver.now) in
+    only_begun (g.A.PathAlgebra.meaning c.args.batch.now.algebra) c.args.batch.now.run.now.settings.now (graph_of c.args.solver.now) (asked_of c.args.batch.now.questions.now) (is_without_diffusions c.args.solver.now) (MayTell c.args.solver.now) g.O.Watcher.may_become _ _ _ told.1 _
+    (at_least (g.A.PathAlgebra.meaning c.args.batch.now.algebra) (graph_of c.args.solver.now) (asked_of c.args.batch.now.questions.now) 0 _ _ (start (g.A.PathAlgebra.meaning c.args.batch.now.algebra) (graph_of c.args.solver.now) (asked_of c.args.batch.now.questions.now) _ _ c.in_ok-begin.ensures.wrote)) _
+    (reports_begun (g.A.PathAlgebra.meaning c.args.batch.now.algebra) c.args.batch.now.run.now.settings.now (graph_of c.args.solver.now) g.O.Watcher.may_become (is_without_diffusions c.args.solver.now) (asked_of c.args.batch.now.questions.now).questions _ _ _ _ refl
+    (ap (λ b. count_diffusions b (asked_of c.args.batch.now.questions.now).questions) c.is_without_diffusions-plain.ensures) c.in_ok-begin.ensures.reported)
 
 pub returns-in_err-start-clause-answered : goal.returns-in_err-start-clause-answered
 returns-in_err-start-clause-answered g c =
@@ -37,11 +52,12 @@ returns-in_err-start-clause-answered g c =
 
 pub returns-in_err-start-clause-reported : goal.returns-in_err-start-clause-reported
 returns-in_err-start-clause-reported g c =
-    let told = some_told c.args.solver.now in
-    only_begun (g.A.PathAlgebra.meaning c.args.batch.now.algebra) c.args.batch.now.run.now.settings.now (graph_of c.args.solver.now) (asked_of c.args.batch.now.questions.now) (is_without_diffusions c.args.solver.now) (MayTell c.args.solver.now) g.O.Watcher.may_become _ _ told.0 told.1 _
+    let told = some_told c.args.solver.now c.in_ok-found.found c.in_ok-found.ensures.found in
+    only_ordered (g.A.PathAlgebra.meaning c.args.batch.now.algebra) c.args.batch.now.run.now.settings.now (graph_of c.args.solver.now) (asked_of c.args.batch.now.questions.now) (is_without_diffusions c.args.solver.now) (MayTell c.args.solver.now) g.O.Watcher.may_become _ _ _ told.1 _
     (at_least (g.A.PathAlgebra.meaning c.args.batch.now.algebra) (graph_of c.args.solver.now) (asked_of c.args.batch.now.questions.now) 0 _ _ (start (g.A.PathAlgebra.meaning c.args.batch.now.algebra) (graph_of c.args.solver.now) (asked_of c.args.batch.now.questions.now) _ _ c.in_ok-begin.ensures.wrote)) _
     (reports_begun (g.A.PathAlgebra.meaning c.args.batch.now.algebra) c.args.batch.now.run.now.settings.now (graph_of c.args.solver.now) g.O.Watcher.may_become (is_without_diffusions c.args.solver.now) (asked_of c.args.batch.now.questions.now).questions _ _ _ _ refl
-    (ap (λ b. count_diffusions b (asked_of c.args.batch.now.questions.now).questions) c.is_without_diffusions-plain.ensures) c.in_ok-begin.ensures.reported)
+    (ap (λ b. count_diffusions b (asked_of c.args.batch.now.questions.now).questions) c.is_without_diffusions-plain.ensures) c.in_ok-begin.ensures.reported) _
+    c.report_order.ensures.some c.report_order.ensures.none
 
 pub answer_next-requires-clause-within : goal.answer_next-requires-clause-within
 answer_next-requires-clause-within g c κs within = rw c.loop-i.invariant.same.graph c.requires.within
@@ -49,15 +65,20 @@ answer_next-requires-clause-within g c κs within = rw c.loop-i.invariant.same.g
 pub loop-i-init : goal.loop-i-init
 loop-i-init g c =
     let header = start (g.A.PathAlgebra.meaning c.args.batch.now.algebra) (graph_of c.args.solver.now) (asked_of c.args.batch.now.questions.now) _ _ c.in_ok-begin.ensures.wrote in
+    let sought = c.in_ok-found.ensures in
+    let started = c.in_ok-start.ensures in
+    let graph = started.same.graph ∙ sought.same.graph in
     record {
       answered = header;
-      ready = c.in_ok-start.ensures.ready;
-      same = c.in_ok-start.ensures.same;
-      first = until_first (g.A.PathAlgebra.meaning c.args.batch.now.algebra) c.args.batch.now.run.now.settings.now (graph_of c.args.solver.now) (asked_of c.args.batch.now.questions.now) (is_without_diffusions c.args.solver.now) (MayTell c.args.solver.now) g.O.Watcher.may_become _ _ c.factoring.result
-          (record { moment = c.start.new.solver; graph = c.in_ok-start.ensures.same.graph; kind = c.in_ok-start.ensures.kind; is_true = c.factoring.ensures }) _
+      ready = started.ready;
+      same = record { graph = graph; kind = started.same.kind ∙ sought.same.kind };
+      first = until_first (g.A.PathAlgebra.meaning c.args.batch.now.algebra) c.args.batch.now.run.now.settings.now (graph_of c.args.solver.now) (asked_of c.args.batch.now.questions.now) (is_without_diffusions c.args.solver.now) (MayTell c.args.solver.now) g.O.Watcher.may_become _ _
+          (record { found = c.in_ok-found.found; became = c.factoring.result })
+          (record { sought = sought.found; moment = c.start.new.solver; graph = graph; kind = started.kind ∙ sought.kind; is_true = c.factoring.ensures }) _
           (at_least (g.A.PathAlgebra.meaning c.args.batch.now.algebra) (graph_of c.args.solver.now) (asked_of c.args.batch.now.questions.now) 0 _ _ header) _
           (reports_begun (g.A.PathAlgebra.meaning c.args.batch.now.algebra) c.args.batch.now.run.now.settings.now (graph_of c.args.solver.now) g.O.Watcher.may_become (is_without_diffusions c.args.solver.now) (asked_of c.args.batch.now.questions.now).questions _ _ _ _ refl
-          (ap (λ b. count_diffusions b (asked_of c.args.batch.now.questions.now).questions) c.is_without_diffusions-plain.ensures) c.in_ok-begin.ensures.reported) _ c.report_factoring.ensures.some c.report_factoring.ensures.none;
+          (ap (λ b. count_diffusions b (asked_of c.args.batch.now.questions.now).questions) c.is_without_diffusions-plain.ensures) c.in_ok-begin.ensures.reported) _
+          c.report_order.ensures.some c.report_order.ensures.none _ c.report_factoring.ensures.some c.report_factoring.ensures.none;
     }
 
 pub loop-i-preserved : goal.loop-i-preserved

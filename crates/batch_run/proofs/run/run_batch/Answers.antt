@@ -52,7 +52,7 @@ returns-in_err-answer_and_flush g c =
       read = g.met.I.BatchInput.later c.args.input.now c.read_batch.new.input (fault_of cause) refl (no_setting cause) c.in-Ok.ensures.done;
       stopped = stopped;
       watched = watched_first A how is_read g.O.Watcher.may_become _ _ _ _ roads asked c.in-Ok.ensures.read cause
-          (written_wider A how roads asked (without_diffusions how) (MayTell c.in-Ok.read.0) (IsTold how.factors) (told_by_kind c.in-Ok.read.0 how.factors c.in-Ok.ensures.factors) g.O.Watcher.may_become _ _ _ _
+          (written_wider A how roads asked (without_diffusions how) (MayTell c.in-Ok.read.0) (IsTold roads how.factors) (told_by_kind c.in-Ok.read.0 how.factors c.in-Ok.ensures.factors) g.O.Watcher.may_become _ _ _ _
           (subst (λ (b : Bool). ReportedWritten A how roads asked b (MayTell c.in-Ok.read.0) g.O.Watcher.may_become c.args.watcher.now c.answer_and_flush.new.watcher (g.W.RoadWrite.seen c.args.out.now)
           (g.W.RoadWrite.seen c.answer_and_flush.new.out)) c.in-Ok.ensures.kind was.reported));
     })
@@ -74,6 +74,6 @@ returns g c =
       read = c.in-Ok.ensures.done;
       stopped = record { stalled = tt; gated = tt };
       watched = watched_all A how is_read g.O.Watcher.may_become _ _ _ _ roads asked c.in-Ok.ensures.read
-          (whole_wider A how roads asked (without_diffusions how) (MayTell c.in-Ok.read.0) (IsTold how.factors) (told_by_kind c.in-Ok.read.0 how.factors c.in-Ok.ensures.factors) g.O.Watcher.may_become _ _ (g.W.RoadWrite.seen c.args.out.now) (g.W.RoadWrite.seen c.args.out.now)
+          (whole_wider A how roads asked (without_diffusions how) (MayTell c.in-Ok.read.0) (IsTold roads how.factors) (told_by_kind c.in-Ok.read.0 how.factors c.in-Ok.ensures.factors) g.O.Watcher.may_become _ _ (g.W.RoadWrite.seen c.args.out.now) (g.W.RoadWrite.seen c.args.out.now)
           (subst (λ (b : Bool). ReportedWhole A how roads b (MayTell c.in-Ok.read.0) asked.questions g.O.Watcher.may_become c.args.watcher.now c.answer_and_flush.new.watcher) c.in-Ok.ensures.kind was.all));
     }

@@ -167,7 +167,8 @@ pub const ACCOUNTS: &str = concat!(
 /// Whether a run says how far it is.
 pub const PROGRESS: &str = concat!(
     "Report on standard error how many questions are answered, after each\n",
-    "hundredth of them, and whether `--factors` factored the graph.",
+    "hundredth of them, and of `--factors` the order's links and triangles\n",
+    "and the outcome.",
 );
 
 /// Whether a run says how long it took.

@@ -1,10 +1,11 @@
 -- The lines that show how far a batch is.
 use Rattle.std.specs.Prelude.{ℕ, ◌-◌, ◌*◌, ◌/◌, List, [], ◌∷◌, ◌++◌, Bool, codes, decimal, nat_eq, nat_lt, if◌then◌else◌, ◌||◌}
+use Rattle.elimination_order.specs.declared.counts.Counts.{Counts}
 use Rattle.question_solvers.specs.declared.factor_solver.Factoring.{Factoring}
 use Rattle.question_solvers.specs.declared.factor_solver.Factoring.TheVariants.{Untried, Made, Refused}
 use Rattle.question_solvers.specs.declared.factor_solver.Refusal.TheVariants.{Dense, Heavy}
 use Rattle.batch_run.specs.declared.watcher.Progress.{Progress}
-use Rattle.batch_run.specs.declared.watcher.Progress.TheVariants.{Begun, Factored, Gathered, Answered}
+use Rattle.batch_run.specs.declared.watcher.Progress.TheVariants.{Begun, Ordered, Factored, Gathered, Answered}
 
 -- how many whole hundredths of all questions so many are
 abbrev pub hundredths : ℕ → ℕ → ℕ
@@ -22,16 +23,30 @@ line_of_progress answered all = codes "diffuse: " ++ decimal answered ++ codes "
 abbrev pub due_line : ℕ → ℕ → List ℕ
 due_line answered all = if is_due answered all then line_of_progress answered all else []
 
+-- the links and triangles that an order counted
+abbrev pub links_text : Counts → List ℕ
+links_text c = decimal c.links ++ codes " links, " ++ decimal c.triangles ++ codes " triangles"
+
+-- the line that says that an order was found, and what it makes
+abbrev pub line_of_order : Counts → List ℕ
+line_of_order c = codes "diffuse: an order was found (" ++ links_text c ++ codes ")" ++ 10 ∷ []
+
+-- the line that says that the graph is too dense, and what its order had counted when it was given
+-- up
+abbrev pub line_of_dense : Counts → List ℕ
+line_of_dense c = codes "diffuse: the graph is too dense to factor (" ++ links_text c ++ codes "); searches answer" ++ 10 ∷ []
+
 -- the line that says what became of factoring the graph
 abbrev pub line_of_factoring : Factoring → List ℕ
 line_of_factoring Untried = codes "diffuse: the graph is not factored; searches answer" ++ 10 ∷ []
 line_of_factoring Made = codes "diffuse: the graph is factored" ++ 10 ∷ []
-line_of_factoring (Refused Dense) = codes "diffuse: the graph is too dense to factor; searches answer" ++ 10 ∷ []
+line_of_factoring (Refused (Dense counts)) = line_of_dense counts
 line_of_factoring (Refused Heavy) = codes "diffuse: the graph's sums are too large to factor; searches answer" ++ 10 ∷ []
 
 -- how many questions there are, after a report
 abbrev pub all_after : ℕ → Progress → ℕ
 all_after all (Begun questions diffusions) = questions
+all_after all (Ordered counts) = all
 all_after all (Factored became) = all
 all_after all (Gathered question source tally) = all
 all_after all (Answered questions) = all
@@ -39,6 +54,7 @@ all_after all (Answered questions) = all
 -- what is shown at a report of a batch with so many questions
 abbrev pub shown_at : ℕ → Progress → List ℕ
 shown_at all (Begun questions diffusions) = due_line 0 questions
+shown_at all (Ordered counts) = line_of_order counts
 shown_at all (Factored became) = line_of_factoring became
 shown_at all (Gathered question source tally) = []
 shown_at all (Answered questions) = due_line questions all

@@ -89,6 +89,6 @@ pub(crate) fn write_report<W: RoadWrite>(
             source,
             tally,
         } => write_account(to, *question, source.0, *tally),
-        Progress::Factored { .. } | Progress::Answered { .. } => Ok(()),
+        Progress::Ordered { .. } | Progress::Factored { .. } | Progress::Answered { .. } => Ok(()),
     }
 }

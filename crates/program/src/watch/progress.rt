@@ -1,9 +1,9 @@
 //! The lines that show how far a batch is.
 ghost use Rattle.std.specs.Prelude.{◌≡◌};
-ghost use Rattle.program.specs.Progress.{due_line, hundredths, is_due, line_of_factoring, line_of_progress, shown_at};
+ghost use Rattle.program.specs.Progress.{due_line, hundredths, is_due, line_of_dense, line_of_factoring, line_of_order, line_of_progress, shown_at};
 ghost use Rattle.program.specs.Watching.{IsAdded};
 
-use batch_run::{Factoring, Progress, Refusal};
+use batch_run::{Counts, Factoring, Progress, Refusal};
 use text_lines::{Line, RoadWrite, push_number, write_bytes};
 
 /// How many whole hundredths of all questions so many are.
@@ -45,27 +45,56 @@ fn show_progress<E: RoadWrite>(errors: &mut E, answered: u32, all: u32)
     }
 }
 
-/// The line that says what became of factoring the graph.
-fn line_of_factoring(became: Factoring) -> &'static str
-    ensures { result.now ≡ line_of_factoring became }
+/// The line that says that an order was found, and what it makes.
+fn line_of_order(counts: Counts) -> Line
+    ensures { result.bytes ≡ line_of_order counts }
 {
-    match became {
-        Factoring::Made => "diffuse: the graph is factored\n",
-        Factoring::Refused(Refusal::Dense) => {
-            "diffuse: the graph is too dense to factor; searches answer\n"
-        }
-        Factoring::Refused(Refusal::Heavy) => {
-            "diffuse: the graph's sums are too large to factor; searches answer\n"
-        }
-        Factoring::Untried => "diffuse: the graph is not factored; searches answer\n",
-    }
+    let mut line = Line::new();
+    line.push_str("diffuse: an order was found (");
+    push_number(&mut line, counts.links);
+    line.push_str(" links, ");
+    push_number(&mut line, counts.triangles);
+    line.push_str(" triangles)\n");
+    line
 }
 
-/// Shows what became of factoring the graph.
-fn show_factoring<E: RoadWrite>(errors: &mut E, became: Factoring)
-    ensures { IsAdded (E.seen errors.old) (E.seen errors.new) (line_of_factoring became) }
+/// The line that says that the graph is too dense, and what its order had counted when it was given
+/// up.
+fn line_of_dense(counts: Counts) -> Line
+    ensures { result.bytes ≡ line_of_dense counts }
 {
-    let _ = write_bytes(errors, line_of_factoring(became).as_bytes());
+    let mut line = Line::new();
+    line.push_str("diffuse: the graph is too dense to factor (");
+    push_number(&mut line, counts.links);
+    line.push_str(" links, ");
+    push_number(&mut line, counts.triangles);
+    line.push_str(" triangles); searches answer\n");
+    line
+}
+
+/// The line that says what became of factoring the graph.
+fn line_of_factoring(became: Factoring) -> Line
+    ensures { result.bytes ≡ line_of_factoring became }
+{
+    let mut line = Line::new();
+    match became {
+        Factoring::Made => line.push_str("diffuse: the graph is factored\n"),
+        Factoring::Refused(Refusal::Dense(counts)) => return line_of_dense(counts),
+        Factoring::Refused(Refusal::Heavy) => {
+            line.push_str("diffuse: the graph's sums are too large to factor; searches answer\n");
+        }
+        Factoring::Untried => {
+            line.push_str("diffuse: the graph is not factored; searches answer\n");
+        }
+    }
+    line
+}
+
+/// Shows a line.
+fn show_line<E: RoadWrite>(errors: &mut E, line: &Line)
+    ensures { IsAdded (E.seen errors.old) (E.seen errors.new) line.now.bytes }
+{
+    let _ = write_bytes(errors, line.as_str().as_bytes());
 }
 
 /// Shows what a report says of so many questions.
@@ -74,7 +103,8 @@ pub(crate) fn show_report<E: RoadWrite>(errors: &mut E, all: u32, report: &Progr
 {
     match report {
         Progress::Begun { questions, .. } => show_progress(errors, 0, *questions),
-        Progress::Factored { became } => show_factoring(errors, *became),
+        Progress::Ordered { counts } => show_line(errors, &line_of_order(*counts)),
+        Progress::Factored { became } => show_line(errors, &line_of_factoring(*became)),
         Progress::Gathered { .. } => {}
         Progress::Answered { questions } => show_progress(errors, *questions, all),
     }

@@ -72,7 +72,7 @@ fn show_if_wanted<E: RoadWrite>(errors: &mut E, progress: bool, all: u32, report
 /// Takes note that the next question is solved, once the questions were read or one was answered.
 fn note_phase<P: FileSystem>(files: &P, report: &Progress) {
     match report {
-        Progress::Factored { .. } | Progress::Gathered { .. } => {}
+        Progress::Ordered { .. } | Progress::Factored { .. } | Progress::Gathered { .. } => {}
         Progress::Begun { .. } | Progress::Answered { .. } => files.enter(Phase::Solving),
     }
 }

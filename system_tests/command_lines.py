@@ -188,7 +188,8 @@ SHOWN = "diffuse: 1 of 1 questions answered\n"
 PROGRESS = [
     ("solve g q --progress", SHORTEST, SHOWN, 0),
     ("solve g q --plain --progress", SHORTEST, SHOWN, 0),
-    ("solve g q --factors --progress", SHORTEST, "diffuse: the graph is factored\n" + SHOWN, 0),
+    ("solve g q --factors --progress", SHORTEST, "diffuse: an order was found (6 links, 2 triangles)\ndiffuse: the graph is factored\n" + SHOWN, 0),
+    ("solve g q --factors --order upward --progress", SHORTEST, "diffuse: the graph is factored\n" + SHOWN, 0),
     ("solve g q --accounts a", SHORTEST, "", 0),
     ("solve g q --accounts a --progress", SHORTEST, SHOWN, 0),
     ("solve g q --accounts none/a", "", fault("42"), 5),

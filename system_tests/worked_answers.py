@@ -172,7 +172,13 @@ WHOLE = [(FIVE, 5), (TWO_WAYS, 6), (CYCLE, 3), (FREE, 4), (SETTLED, 9), (WALK, 5
 
 # What `--progress` says of a graph, and pairs with their values and hops. There may be 64 links for each vertex, and 4,096 more; a vertex needs
 # 16 bits for its hops from 2^15 vertices to 2^16 - 1, which leaves 2^47 for the sums.
-FACTORED, DENSE, HEAVY = "is factored", "is too dense to factor; searches answer", "'s sums are too large to factor; searches answer"
+COUNTS = r"\({} links, {} triangles\)"
+DENSE, HEAVY = f"the graph is too dense to factor {COUNTS}; searches answer".format(r"\d+", r"\d+"), "the graph's sums are too large to factor; searches answer"
+
+
+def factored(links=r"\d+", triangles=r"\d+"):
+    """What is said of an order that makes so many links and triangles, and of the factors."""
+    return f"an order was found {COUNTS}\ndiffuse: the graph is factored".format(links, triangles)
 
 
 def star(rays):
@@ -195,12 +201,12 @@ def at_random(n, times):
 
 
 GUARDED = [
-    ("shortest", star(5000), FACTORED, [(2, 5001, 5, 2), (5001, 1, 3, 1)]),
-    ("shortest", complete(175), FACTORED, [(1, 175, 5, 1), (175, 1, 7, 1)]),
-    ("hops", complete(175), FACTORED, []), ("hops", complete(176), DENSE, []),
-    ("hops", at_random(3000, 1), FACTORED, []), ("hops", at_random(3000, 10), DENSE, []),
-    ("shortest", chain(32769, MOST), FACTORED, [(1, 32769, 140737488322560, 32768), (32769, 1)]),
-    ("shortest", chain(32770, MOST), HEAVY, []), ("within --limit 5", chain(32770, MOST), HEAVY, []), ("hops", chain(32770, MOST), FACTORED, []),
+    ("shortest", star(5000), factored(5000, 0), [(2, 5001, 5, 2), (5001, 1, 3, 1)]),
+    ("shortest", complete(175), factored(15225, 877975), [(1, 175, 5, 1), (175, 1, 7, 1)]),
+    ("hops", complete(175), factored(15225, 877975), []), ("hops", complete(176), DENSE, []),
+    ("hops", at_random(3000, 1), factored(), []), ("hops", at_random(3000, 10), DENSE, []),
+    ("shortest", chain(32769, MOST), factored(32768, 0), [(1, 32769, 140737488322560, 32768), (32769, 1)]),
+    ("shortest", chain(32770, MOST), HEAVY, []), ("within --limit 5", chain(32770, MOST), HEAVY, []), ("hops", chain(32770, MOST), factored(32769, 0), []),
 ]
 
 

@@ -1,6 +1,6 @@
 //! Batches that are answered by factors: the same bytes, what is told of the factors, and what
 //! refuses them.
-use super::reports::{answered, assert_notes, assert_reports, begun, watch_pair};
+use super::reports::{answered, assert_notes, assert_reports, begun, ordered, watch_pair};
 use super::{FIVE, FROM_ONE, PAIRS, SHORTEST, THRICE, assert_answered, assert_ended, run_two};
 use crate::tolls::Tolls;
 use batch_run::{Factoring, File, OpenGate, Progress, Refusal, RunFault, Settings};
@@ -47,11 +47,14 @@ fn told(became: Factoring) -> Progress {
     Progress::Factored { became }
 }
 
+/// In any order in which a vertex of least degree is next there are as many links as pairs of
+/// vertices that arcs join, six, and as many triangles as there are of them, two.
 #[test]
 fn factors_are_reported_once(rt: HostRuntime) {
     let settings = factored(false, 1);
     let wanted = [
         begun(3, 0),
+        ordered(6, 2),
         told(Factoring::Made),
         answered(1),
         answered(2),
@@ -59,7 +62,7 @@ fn factors_are_reported_once(rt: HostRuntime) {
     ];
     assert_reports(&rt, Shortest, PAIRS, &settings, &wanted);
     assert_reports(&rt, Shortest, THRICE, &settings, &wanted);
-    let none = [begun(0, 0), told(Factoring::Made)];
+    let none = [begun(0, 0), ordered(6, 2), told(Factoring::Made)];
     assert_reports(&rt, Hops, "p aux sp ss 0\n", &settings, &none);
 }
 
@@ -76,20 +79,36 @@ fn complete(rt: &(impl Abort + AllocGlobal), vertices: u32) -> String {
     text
 }
 
-/// There may be 64 links for each vertex, and 4,096 more.
+/// There may be 64 links for each vertex, and 4,096 more: of 176 vertices 15,360.
 #[test]
 fn a_graph_that_is_too_dense_is_reported(rt: HostRuntime) {
     let settings = factored(false, 1);
-    for &(vertices, became) in &[
-        (175, Factoring::Made),
-        (176, Factoring::Refused(Refusal::Dense)),
-    ] {
-        let graph = complete(&rt, vertices);
-        let inputs = (graph.as_str(), FROM_ONE);
-        let (ended, notes) = watch_pair(&rt, rt.alloc(), Shortest, inputs, &settings, &OpenGate);
-        assert_eq!(rt; ended, Ok(()));
-        assert_notes(&rt, &notes, &[begun(1, 0), told(became), answered(1)]);
-    }
+    let graph = complete(&rt, 175);
+    let inputs = (graph.as_str(), FROM_ONE);
+    let (ended, notes) = watch_pair(&rt, rt.alloc(), Shortest, inputs, &settings, &OpenGate);
+    assert_eq!(rt; ended, Ok(()));
+    let wanted = [
+        begun(1, 0),
+        ordered(15225, 877975),
+        told(Factoring::Made),
+        answered(1),
+    ];
+    assert_notes(&rt, &notes, &wanted);
+    let graph = complete(&rt, 176);
+    let inputs = (graph.as_str(), FROM_ONE);
+    let (ended, notes) = watch_pair(&rt, rt.alloc(), Shortest, inputs, &settings, &OpenGate);
+    assert_eq!(rt; ended, Ok(()));
+    let Some(
+        Progress::Factored {
+            became: Factoring::Refused(Refusal::Dense(counts)),
+        },
+    ) = notes.at(1)
+    else {
+        panic!(rt; "the graph is not too dense");
+    };
+    assert!(rt; 15360 < counts.links);
+    let dense = told(Factoring::Refused(Refusal::Dense(counts)));
+    assert_notes(&rt, &notes, &[begun(1, 0), dense, answered(1)]);
 }
 
 #[test]

@@ -3,7 +3,9 @@ use super::gates::Closed;
 use super::workers::SEVERAL;
 use super::{FIVE, PAIRS};
 use crate::texts::joined;
-use batch_run::{Gate, OpenGate, Progress, Run, RunFault, Settings, Watcher, run_bundle, run_pair};
+use batch_run::{
+    Counts, Gate, OpenGate, Progress, Run, RunFault, Settings, Watcher, run_bundle, run_pair,
+};
 use path_algebra::{PathAlgebra, Reach, Shortest};
 use road_graph::Vertex;
 use shard_part::Tally;
@@ -23,11 +25,19 @@ pub(super) struct Notes {
     full: bool,
 }
 
+/// A report, without the work that an order took: that is not counted by hand.
+fn without_work(report: Progress) -> Progress {
+    match report {
+        Progress::Ordered { counts } => ordered(counts.links, counts.triangles),
+        other => other,
+    }
+}
+
 impl Watcher for Notes {
     ghost may_become = { λ _ _ _. Unit {0} };
 
     fn report(&mut self, report: Progress) {
-        if self.reports.push(report).is_err() {
+        if self.reports.push(without_work(report)).is_err() {
             self.full = true;
         }
     }
@@ -40,6 +50,21 @@ impl Notes {
             full: false,
         }
     }
+
+    /// The report at a place.
+    pub(super) fn at(&self, i: usize) -> Option<Progress> {
+        self.reports.get(i).copied()
+    }
+}
+
+/// The report of an order that makes so many links and triangles.
+pub(super) fn ordered(links: u64, triangles: u64) -> Progress {
+    let counts = Counts {
+        links,
+        triangles,
+        work: 0,
+    };
+    Progress::Ordered { counts }
 }
 
 /// The report that so many questions over so many diffusions were read.

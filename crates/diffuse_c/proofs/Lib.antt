@@ -3,3 +3,4 @@ mod FaultNumbers
 mod LentArcs
 mod Refusing
 mod Values
+mod PassedOn

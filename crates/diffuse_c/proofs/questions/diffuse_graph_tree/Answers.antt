@@ -1,0 +1,15 @@
+use Rattle.std.proofs.Common.{◌∙◌, [], ◌∷◌, ap, refl, sym, Some}
+use Rattle.std.specs.Prelude.{All}
+use Rattle.road_graph.specs.GraphData.{HasVertex}
+use Rattle.answer_lists.specs.Answers.{ReportsListRefusals}
+use Rattle.answer_lists.specs.Tree.{HaveAllOrNone}
+use Rattle.diffuse_c.specs.declared.owners.Owner.{Owner}
+use Rattle.diffuse_c.proofs.PassedOn.{passed_on}
+use Rattle.diffuse_c.proofs.questions.diffuse_graph_tree.Goals as goal
+
+pub returns-clause-refusals : goal.returns-clause-refusals
+returns-clause-refusals c =
+    let a = c.args in let s = c.answer_tree-status in
+    let same = c.in-Some.ensures.graph ∙ ap (λ (o : Owner). Some o.shared) (sym c.deref_mut.ensures.value) in
+    passed_on a.handle.now.held.roads c.deref_mut.result.now.shared (0 ∷ 2 ∷ 3 ∷ 17 ∷ 43 ∷ 45 ∷ []) (λ g n. ReportsListRefusals (All (HasVertex g) a.sources.now) (HaveAllOrNone g.vertices a.codes.now a.hops.now a.parents.now) a.algebra a.limit n)
+    s.result same (refl, (refl, (refl, (refl, (refl, (refl, tt)))))) s.ensures.status s.ensures.refusals

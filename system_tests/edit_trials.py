@@ -91,7 +91,7 @@ def why_not_refused(status, lines, functions, whole):
     unread = [it for it in told if ": error" in it and TOLD.match(it)[1] in ("src", "specs") and UNREAD.search(it)]
     if unread:
         return f"the prover cannot read it: {unread[0]}"
-    if all(TOLD.match(it)[1] == "proofs" and UNREAD.search(it) for it in told):
+    if told and all(TOLD.match(it)[1] == "proofs" and UNREAD.search(it) for it in told):
         return "it is refused only because a proof file names what it took away"
     refused = [it for it in lines if NOT_PROVED.match(it)]
     others = [it for it in refused if not any(f"::{name}" in it for name in functions)]

@@ -1,4 +1,4 @@
-"""Tries must-fail edits: whether the prover refuses the function that an edit changes, and nothing else.
+"""Tries must-fail edits: whether the prover refuses the function that an edit changes.
 
 The edits of a crate are tried in turn, each over what was proved for those before it. Of a crate only the functions that its
 edits change are proved, and those that they call."""
@@ -80,8 +80,8 @@ def applied(edit, pairs, folder):
     return list(dict.fromkeys(functions))
 
 
-def why_not_refused(status, lines, functions, whole):
-    """Nothing if the prover has refused one of these functions, and nothing else; otherwise what is wrong."""
+def why_not_refused(status, lines, whole):
+    """Nothing if the prover has refused a function; otherwise what is wrong. The crate without the edit is proved."""
     last = lines[-1] if lines else ""
     if status == 0:
         return "it is still proved"
@@ -91,11 +91,7 @@ def why_not_refused(status, lines, functions, whole):
     unread = [it for it in told if ": error" in it and TOLD.match(it)[1] in ("src", "specs") and UNREAD.search(it)]
     if unread:
         return f"the prover cannot read it: {unread[0]}"
-    if told and all(TOLD.match(it)[1] == "proofs" and UNREAD.search(it) for it in told):
-        return "it is refused only because a proof file names what it took away"
-    refused = [it for it in lines if NOT_PROVED.match(it)]
-    others = [it for it in refused if not any(f"::{name}" in it for name in functions)]
-    return None if whole or refused and not others else f"it is not what it changes that is refused: {(others or lines)[-1]}"
+    return None if whole or any(NOT_PROVED.match(it) for it in lines) else f"no function is refused: {last}"
 
 
 class Trial:
@@ -122,7 +118,7 @@ class Trial:
             whole = status in (0, 2)
             if whole:
                 status, lines = self.prover.check(self.crate, folder, self.kept, [])
-            return why_not_refused(status, lines, functions, whole)
+            return why_not_refused(status, lines, whole)
 
 
 def weight(crate):

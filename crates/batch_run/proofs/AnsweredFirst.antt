@@ -14,8 +14,8 @@ use Rattle.answer_text.specs.AnswerData.{AnswerData}
 use Rattle.answer_text.specs.IsAnswer.{IsAnswer, AreAnswers}
 use Rattle.answer_text.specs.AnswerText.{answer_text, blocks_text, header_text}
 use Rattle.answer_text.proofs.OneAnswer.{blocks_split, answers_count}
-use Rattle.batch_run.specs.declared.faults.Cause.{Cause}
-use Rattle.batch_run.specs.declared.faults.Cause.TheVariants as causes
+use Rattle.batch_run.specs.declared.cause.Cause.{Cause}
+use Rattle.batch_run.specs.declared.cause.Cause.TheVariants as causes
 use Rattle.worker_fleet.specs.declared.group.GroupFault.{GroupFault}
 use Rattle.worker_fleet.specs.declared.group.GroupFault.TheVariants as group
 use Rattle.batch_run.specs.Answered.{AnsweredAll, WroteAnswers, WroteNext, begun_text, WroteFirst, WroteWhole}

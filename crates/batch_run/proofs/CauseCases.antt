@@ -3,8 +3,8 @@ use Rattle.std.proofs.Common.{◌≡◌, ◌≢◌, ◌⊎◌, inl, inr, Bool, f
 use Rattle.batch_run.specs.Causes.{MayStop, number_of}
 use Rattle.worker_fleet.specs.declared.group.GroupFault.{GroupFault}
 use Rattle.worker_fleet.specs.declared.group.GroupFault.TheVariants.{Memory, Stalled, Gated}
-use Rattle.batch_run.specs.declared.faults.Cause.{Cause}
-use Rattle.batch_run.specs.declared.faults.Cause.TheVariants.{Unsolved, Write}
+use Rattle.batch_run.specs.declared.cause.Cause.{Cause}
+use Rattle.batch_run.specs.declared.cause.Cause.TheVariants.{Unsolved, Write}
 
 -- a cause is a failed write, or another
 pub write_or_other : (cause : Cause) → (cause ≡ Write) ⊎ (cause ≢ Write)

@@ -12,11 +12,11 @@ use Rattle.path_algebra.specs.Algebra.{Algebra}
 use Rattle.answer_text.specs.IsAnswer.{AreAnswers}
 use Rattle.answer_text.specs.AnswerText.{blocks_text, header_text}
 use Rattle.answer_text.proofs.OneAnswer.{answers_count}
-use Rattle.batch_run.specs.declared.faults.Cause.{Cause}
-use Rattle.batch_run.specs.declared.faults.Cause.TheVariants.{Unsolved, Write}
+use Rattle.batch_run.specs.declared.cause.Cause.{Cause}
+use Rattle.batch_run.specs.declared.cause.Cause.TheVariants.{Unsolved, Write}
 use Rattle.worker_fleet.specs.declared.group.GroupFault.TheVariants.{Memory}
 use Rattle.question_solvers.specs.declared.factor_solver.Factoring.{Factoring}
-use Rattle.batch_run.specs.declared.settings.Settings.{Settings}
+use Rattle.batch_settings.specs.declared.settings.Settings.{Settings}
 use Rattle.batch_run.specs.declared.watcher.Progress.{Progress}
 use Rattle.batch_run.specs.Answered.{AnsweredAll, WroteAnswers, WroteFirst, WroteWhole, WroteAllOrFirst, begun_text}
 use Rattle.batch_run.specs.Reports.{Preparation, ReportedWritten}

@@ -9,7 +9,7 @@ use Rattle.road_graph.specs.GraphData.{GraphData}
 use Rattle.path_algebra.specs.Algebra.{Algebra}
 use Rattle.batch_run.specs.declared.solve.diffusion.GatheredDiffusion.{GatheredDiffusion}
 use Rattle.batch_run.specs.declared.solve.queue.DiffusionQueue.{DiffusionQueue}
-use Rattle.batch_run.specs.declared.settings.Settings.{Settings}
+use Rattle.batch_settings.specs.declared.settings.Settings.{Settings}
 use Rattle.batch_run.specs.Cut.{IsCut}
 use Rattle.batch_run.specs.Diffusions.{AreNext, IsGatheredOver, sources_in_order}
 use Rattle.batch_run.proofs.Together.{all_before, last_of_all}

@@ -4,14 +4,14 @@ use Rattle.road_graph.specs.GraphData.{GraphData}
 use Rattle.road_files.specs.Asked.{Asked}
 use Rattle.path_algebra.specs.Algebra.{Algebra}
 use Rattle.worker_fleet.specs.Stops.{Says}
-use Rattle.batch_run.specs.declared.faults.Cause.{Cause}
-use Rattle.batch_run.specs.declared.faults.Cause.TheVariants.{Unsolved, Write}
+use Rattle.batch_run.specs.declared.cause.Cause.{Cause}
+use Rattle.batch_run.specs.declared.cause.Cause.TheVariants.{Unsolved, Write}
 use Rattle.worker_fleet.specs.declared.group.GroupFault.TheVariants.{Memory}
-use Rattle.batch_run.specs.declared.faults.File.{File}
-use Rattle.batch_run.specs.declared.settings.Settings.{Settings}
+use Rattle.batch_inputs.specs.declared.faults.File.{File}
+use Rattle.batch_settings.specs.declared.settings.Settings.{Settings}
 use Rattle.batch_run.specs.Answered.{WroteAnswers, WroteAnswersPrefix, WroteWhole}
 use Rattle.batch_run.specs.Causes.{MayStop, fault_of, number_of}
-use Rattle.batch_run.specs.Choice.{without_diffusions}
+use Rattle.batch_settings.specs.Choice.{without_diffusions}
 use Rattle.batch_run.specs.Ran.{BegunUnfinished, BegunWhole, IsPassedOn}
 use Rattle.text_lines.specs.Streams.{Output}
 use Rattle.batch_run.specs.Runs.{Ran}

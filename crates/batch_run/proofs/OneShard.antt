@@ -9,12 +9,12 @@ use Rattle.road_files.specs.Asked.{Asked}
 use Rattle.path_algebra.specs.Algebra.{Algebra}
 use Rattle.shard_store.specs.declared.queue_order.QueueOrder.TheVariants.{Arrival, BestFirst}
 use Rattle.shard_store.specs.Setup.{SetupData}
-use Rattle.worker_fleet.specs.declared.dealing.Dealing.{Dealing}
+use Rattle.batch_settings.specs.declared.dealing.Dealing.{Dealing}
 use Rattle.worker_fleet.specs.declared.group.GroupFault.TheVariants.{Stalled}
 use Rattle.worker_fleet.specs.OneShard.{IsBrief}
 use Rattle.worker_fleet.specs.Stops.{StopsGroup}
-use Rattle.batch_run.specs.declared.faults.RunFault.{RunFault}
-use Rattle.batch_run.specs.declared.settings.Settings.{Settings}
+use Rattle.batch_inputs.specs.declared.faults.RunFault.{RunFault}
+use Rattle.batch_settings.specs.declared.settings.Settings.{Settings}
 use Rattle.batch_run.specs.Stopping.{IsDiffusionOf, IsEnoughFor, HasEnoughTurns, Stopped}
 
 -- twice as many turns as a graph has arcs, and three

@@ -11,8 +11,8 @@ use Rattle.path_algebra.specs.Algebra.{Algebra}
 use Rattle.answer_text.specs.AnswerData.{AnswerData, AnswerList}
 use Rattle.answer_text.specs.IsAnswer.{AreAnswers, IsAnswerList}
 use Rattle.answer_text.specs.AnswerText.{answers_text}
-use Rattle.batch_run.specs.declared.faults.Cause.{Cause}
-use Rattle.batch_run.specs.declared.faults.Cause.TheVariants.{Write}
+use Rattle.batch_run.specs.declared.cause.Cause.{Cause}
+use Rattle.batch_run.specs.declared.cause.Cause.TheVariants.{Write}
 use Rattle.std.specs.Prelude.{◌≢◌, IfErr}
 use Rattle.batch_run.specs.Ran.{IsPassedOn}
 use Rattle.batch_run.specs.Answered.{AsksWithin, begun_text, WroteFirst, WroteAnswersPrefix, WroteAllOrFirst, WroteAllOrPrefix}

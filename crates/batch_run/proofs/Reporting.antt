@@ -13,7 +13,7 @@ use Rattle.shard_store.specs.Setup.{SetupData, setup_of}
 use Rattle.station.specs.declared.gathering.Gathered.{Gathered}
 use Rattle.station.specs.Gather.{IsGathered}
 use Rattle.batch_run.specs.declared.solve.diffusion.EndedDiffusion.{EndedDiffusion}
-use Rattle.batch_run.specs.declared.settings.Settings.{Settings}
+use Rattle.batch_settings.specs.declared.settings.Settings.{Settings}
 use Rattle.batch_run.specs.declared.watcher.Progress.{Progress}
 use Rattle.batch_run.specs.declared.watcher.Progress.TheVariants as report
 use Rattle.elimination_order.specs.declared.counts.Counts.{Counts}

@@ -6,8 +6,8 @@ use Rattle.path_algebra.specs.Algebra.{Algebra}
 use Rattle.worker_fleet.specs.declared.group.GroupFault.{GroupFault}
 use Rattle.worker_fleet.specs.Stops.{Says}
 use Rattle.worker_fleet.proofs.Stopped.{StopsGroup-says}
-use Rattle.batch_run.specs.declared.faults.Cause.{Cause}
-use Rattle.batch_run.specs.declared.settings.Settings.{Settings}
+use Rattle.batch_run.specs.declared.cause.Cause.{Cause}
+use Rattle.batch_settings.specs.declared.settings.Settings.{Settings}
 use Rattle.batch_run.specs.Causes.{MayStop, fault_of}
 use Rattle.batch_run.specs.Stopping.{IsDiffusionOf, Stops, Stopped}
 use Rattle.batch_run.proofs.CauseCases.{gated_by_number, may_stop_weaker, stalled_by_number}

@@ -1,10 +1,11 @@
 -- A run under settings that suit ends by no fault of a setting.
 use Rattle.std.proofs.Common.{◌≡◌, ◌≢◌, ◌↔◌, ◌∙◌, Bool, true, false, Option, Result, Ok, Err, sym, ap}
 use Rattle.path_algebra.specs.declared.counted_sums.Cost.{Cost}
-use Rattle.batch_run.specs.declared.faults.File.TheVariants.{NoFile}
-use Rattle.batch_run.specs.declared.faults.RunFault.{RunFault}
-use Rattle.batch_run.specs.declared.settings.Settings.{Settings}
-use Rattle.batch_run.specs.Unsuited.{IsUnsuited, IsRefusedUnsuited}
+use Rattle.batch_inputs.specs.declared.faults.File.TheVariants.{NoFile}
+use Rattle.batch_inputs.specs.declared.faults.RunFault.{RunFault}
+use Rattle.batch_settings.specs.declared.settings.Settings.{Settings}
+use Rattle.batch_settings.specs.Unsuited.{IsUnsuited}
+use Rattle.batch_run.specs.Unsuited.{IsRefusedUnsuited}
 
 -- the fault of an outcome, or this one
 fault_or : RunFault → Result (Unit {0}) RunFault → RunFault

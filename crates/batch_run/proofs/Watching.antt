@@ -4,13 +4,13 @@ use Rattle.text_lines.specs.Streams.{Output}
 use Rattle.road_graph.specs.GraphData.{GraphData}
 use Rattle.road_files.specs.Asked.{Asked}
 use Rattle.path_algebra.specs.Algebra.{Algebra}
-use Rattle.batch_run.specs.declared.faults.Cause.{Cause}
-use Rattle.batch_run.specs.declared.faults.File.TheVariants.{NoFile}
-use Rattle.batch_run.specs.declared.faults.RunFault.{RunFault}
-use Rattle.batch_run.specs.declared.settings.Settings.{Settings}
+use Rattle.batch_run.specs.declared.cause.Cause.{Cause}
+use Rattle.batch_inputs.specs.declared.faults.File.TheVariants.{NoFile}
+use Rattle.batch_inputs.specs.declared.faults.RunFault.{RunFault}
+use Rattle.batch_settings.specs.declared.settings.Settings.{Settings}
 use Rattle.batch_run.specs.declared.watcher.Progress.{Progress}
 use Rattle.batch_run.specs.Causes.{fault_of}
-use Rattle.batch_run.specs.Choice.{without_diffusions}
+use Rattle.batch_settings.specs.Choice.{without_diffusions}
 use Rattle.batch_run.specs.Reports.{IsTold, ReportedWhole, ReportedWritten, Watched}
 use Rattle.batch_run.proofs.CauseCases.{no_setting}
 

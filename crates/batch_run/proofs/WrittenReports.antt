@@ -11,8 +11,8 @@ use Rattle.road_files.specs.Asked.{Question, Asked}
 use Rattle.path_algebra.specs.Algebra.{Algebra}
 use Rattle.text_lines.specs.Written.{WrotePrefix}
 use Rattle.batch_run.specs.Answered.{WroteAtLeast, WroteNext, begun_text}
-use Rattle.batch_run.specs.declared.faults.Cause.{Cause}
-use Rattle.batch_run.specs.declared.settings.Settings.{Settings}
+use Rattle.batch_run.specs.declared.cause.Cause.{Cause}
+use Rattle.batch_settings.specs.declared.settings.Settings.{Settings}
 use Rattle.batch_run.specs.declared.watcher.Progress.{Progress}
 use Rattle.batch_run.specs.declared.watcher.Progress.TheVariants as report
 use Rattle.elimination_order.specs.declared.counts.Counts.{Counts}

@@ -9,9 +9,9 @@ use Rattle.answer_text.specs.IsAnswer.{IsAnswer, AreAnswers, IsAnswerList}
 use Rattle.answer_text.specs.AnswerText.{answer_text, header_text, blocks_text, answers_text}
 use Rattle.text_lines.specs.Streams.{Output}
 use Rattle.text_lines.specs.Written.{WritesText, WrotePrefix, FailedAfterPrefix}
-use Rattle.batch_run.specs.declared.faults.Cause.{Cause}
+use Rattle.batch_run.specs.declared.cause.Cause.{Cause}
 use Rattle.worker_fleet.specs.declared.group.GroupFault.TheVariants.{Memory}
-use Rattle.batch_run.specs.declared.faults.Cause.TheVariants.{Unsolved, Write}
+use Rattle.batch_run.specs.declared.cause.Cause.TheVariants.{Unsolved, Write}
 
 -- the right answer to a question was written, whole; or a prefix of it, and then a write failed
 abbrev pub WroteAnswer : {V X E : Type 0} → Algebra V → GraphData → Question → (old new : Output X) → Result (Unit {0}) E → Type 0

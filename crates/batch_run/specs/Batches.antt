@@ -10,7 +10,7 @@ use Rattle.graph_text.specs.declared.from_arcs.FromArcs.{Ghosts as FromArcsGhost
 use Rattle.worker_fleet.specs.declared.group.GroupFault.{GroupFault}
 use Rattle.batch_run.specs.declared.batch.Batch.{Batch}
 use Rattle.batch_run.specs.declared.batch.BatchOver.{BatchOver}
-use Rattle.batch_run.specs.declared.faults.Cause.{Cause}
+use Rattle.batch_run.specs.declared.cause.Cause.{Cause}
 use Rattle.batch_run.specs.declared.solve.Solver.{Solver}
 use Rattle.batch_run.specs.declared.solve.queue.DiffusionQueue.{DiffusionQueue}
 use Rattle.batch_run.specs.declared.watcher.Progress.{Progress}

@@ -2,10 +2,10 @@
 use Rattle.std.specs.Prelude.{◌≡◌, ◌≢◌, ℕ, Bool, false}
 use Rattle.worker_fleet.specs.declared.group.GroupFault.{GroupFault}
 use Rattle.worker_fleet.specs.declared.group.GroupFault.TheVariants.{Memory, Stalled, Gated}
-use Rattle.batch_run.specs.declared.faults.Cause.{Cause}
-use Rattle.batch_run.specs.declared.faults.Cause.TheVariants.{Unsolved, Write}
-use Rattle.batch_run.specs.declared.faults.File.TheVariants.{NoFile}
-use Rattle.batch_run.specs.declared.faults.RunFault.{RunFault}
+use Rattle.batch_run.specs.declared.cause.Cause.{Cause}
+use Rattle.batch_run.specs.declared.cause.Cause.TheVariants.{Unsolved, Write}
+use Rattle.batch_inputs.specs.declared.faults.File.TheVariants.{NoFile}
+use Rattle.batch_inputs.specs.declared.faults.RunFault.{RunFault}
 
 -- the number that reports it
 abbrev pub number_of : Cause → ℕ

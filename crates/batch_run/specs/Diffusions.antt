@@ -13,7 +13,7 @@ use Rattle.worker_fleet.specs.Groups.{HasShard}
 use Rattle.batch_run.specs.declared.solve.diffusion.EndedDiffusion.{EndedDiffusion}
 use Rattle.batch_run.specs.declared.solve.diffusion.GatheredDiffusion.{GatheredDiffusion}
 use Rattle.batch_run.specs.declared.solve.queue.DiffusionQueue.{DiffusionQueue}
-use Rattle.batch_run.specs.declared.settings.Settings.{Settings}
+use Rattle.batch_settings.specs.declared.settings.Settings.{Settings}
 use Rattle.batch_run.specs.Cut.{IsCut, order_of}
 use Rattle.batch_run.specs.Reports.{IsAccount}
 

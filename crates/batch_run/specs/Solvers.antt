@@ -4,7 +4,7 @@ use Rattle.road_graph.specs.GraphData.{GraphData}
 use Rattle.road_files.specs.Asked.{Asked}
 use Rattle.path_algebra.specs.declared.algebra.PathAlgebra.{Ghosts}
 use Rattle.path_algebra.specs.Algebra.{Algebra}
-use Rattle.batch_run.specs.declared.settings.Settings.{Settings}
+use Rattle.batch_settings.specs.declared.settings.Settings.{Settings}
 use Rattle.batch_run.specs.Diffusions.{AreNext, sources_to_come}
 use Rattle.question_solvers.specs.Solvers.{IsFactorReady, IsPlainReady, last_by_factors, last_of_plain}
 use Rattle.question_solvers.specs.declared.solved.Solved.{Solved}

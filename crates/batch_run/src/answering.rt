@@ -9,7 +9,7 @@ ghost use Rattle.batch_run.specs.Solvers.{IsSameSolver, graph_of, is_without_dif
 
 use crate::batch::Batch;
 use crate::begin::begin;
-use crate::faults::Cause;
+use crate::cause::Cause;
 use crate::solve::{Solver, solve_next, start};
 use crate::watcher::{Progress, Watcher};
 use crate::write::answer_at;

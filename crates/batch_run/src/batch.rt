@@ -1,9 +1,9 @@
 //! What the questions of a batch have in common.
 ghost use Rattle.std.specs.Prelude.{◌≡◌, ◌≤◌, length};
 ghost use Rattle.road_files.specs.Asked.{AskWithin, AskWithin-prop, asked_of};
-ghost use Rattle.batch_run.specs.InRange.{AreInRange};
+ghost use Rattle.batch_settings.specs.InRange.{AreInRange};
 
-use crate::settings::Settings;
+use batch_settings::Settings;
 use graph_text::FromArcs;
 use path_algebra::PathAlgebra;
 use question_solvers::Task;

@@ -1,15 +1,14 @@
 //! Runs a batch of a pair of inputs, or of a bundle.
 ghost use Rattle.batch_run.specs.Reports.{Watched};
 ghost use Rattle.batch_run.specs.Runs.{RanBundle, RanPair};
-ghost use Rattle.batch_run.specs.Ran.{IsBundleOf, IsPairOf};
+ghost use Rattle.batch_inputs.specs.Spelled.{IsBundleOf, IsPairOf};
 ghost use Rattle.batch_run.specs.Stopping.{Stopped};
 ghost use Rattle.batch_run.specs.Unsuited.{IsRefusedUnsuited};
 
 use crate::batch::Run;
-use crate::faults::RunFault;
-use crate::inputs::{BundleInput, PairInput};
 use crate::run::run_batch;
 use crate::watcher::Watcher;
+use batch_inputs::{BundleInput, PairInput, RunFault};
 use path_algebra::PathAlgebra;
 use std::sync::Wait;
 use std::thread::Threads;

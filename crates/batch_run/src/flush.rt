@@ -10,7 +10,7 @@ ghost use Rattle.worker_fleet.specs.declared.group.GroupFault.TheVariants.{Memor
 
 use crate::answering::answer_all;
 use crate::batch::Batch;
-use crate::faults::Cause;
+use crate::cause::Cause;
 use crate::laws::answers_exist;
 use crate::solve::Solver;
 use crate::watcher::Watcher;

@@ -11,7 +11,7 @@ ghost use Rattle.station.specs.Gather.{each_shows};
 ghost use Rattle.batch_run.specs.Answered.{AsksWithin};
 ghost use Rattle.batch_run.specs.Reports.{IsAccount};
 ghost use Rattle.batch_run.specs.Stopping.{IsEnoughFor};
-ghost use Rattle.batch_run.specs.declared.settings.Settings.{Settings};
+ghost use Rattle.batch_settings.specs.declared.settings.Settings.{Settings};
 
 use path_algebra::PathAlgebra;
 use path_plain::best_values_exist;

@@ -9,9 +9,9 @@ use Rattle.clap.specs.Simple.{App, subcommand_of}
 use Rattle.clap.specs.Walk.{Row, Text, all_of, first_of, one_of}
 use Rattle.clap.specs.declared.error.kind.ErrorKind.{ErrorKind}
 use Rattle.clap.specs.declared.error.kind.ErrorKind.TheVariants.{OutOfMemory}
-use Rattle.worker_fleet.specs.declared.dealing.Dealing.{Dealing}
-use Rattle.worker_fleet.specs.declared.dealing.Dealing.TheVariants.{Shards, Questions}
-use Rattle.batch_run.specs.declared.settings.Settings.{Settings}
+use Rattle.batch_settings.specs.declared.dealing.Dealing.{Dealing}
+use Rattle.batch_settings.specs.declared.dealing.Dealing.TheVariants.{Shards, Questions}
+use Rattle.batch_settings.specs.declared.settings.Settings.{Settings}
 use Rattle.command_args.specs.declared.parsed.RunOptions.{RunOptions}
 use Rattle.command_args.specs.declared.parsed.WatchOptions.{WatchOptions}
 use Rattle.command_args.specs.declared.parsed.Subcommand.{Subcommand}

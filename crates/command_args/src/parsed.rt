@@ -8,7 +8,7 @@ ghost use Rattle.clap.specs.Walk.{all_of, one_of, rows_of};
 ghost use Rattle.command_args.specs.Asked.{AreOptions, AreSettings, AreWatched, AskForNone, AskFor, AskForTable, AreRefused, IsDealing, IsFaultNumber, IsNamed, IsParsedAs, IsSet, Reads, ReadsOr, text_of};
 
 use crate::clap_command::command;
-use batch_run::{Dealing, Settings};
+use batch_settings::{Dealing, Settings};
 use clap::error::ErrorKind;
 use clap::{ArgMatches, Error};
 use std::alloc::{AllocError, Global};

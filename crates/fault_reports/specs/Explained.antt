@@ -1,7 +1,7 @@
 -- What is said of faults by their numbers.
 use Rattle.std.specs.Prelude.{◌≡◌, ◌≢◌, ℕ, ◌⊎◌, List, [], ◌∷◌, ◌++◌, Result, All, Any, Contains, codes, decimal, flat_map, map}
-use Rattle.batch_run.specs.declared.faults.RunFault.{RunFault}
-use Rattle.batch_run.specs.Runs.{Output}
+use Rattle.batch_inputs.specs.declared.faults.RunFault.{RunFault}
+use Rattle.text_lines.specs.Streams.{Output}
 use Rattle.fault_reports.specs.declared.rows.FaultRow.{FaultRow}
 use Rattle.fault_reports.specs.Reports.{EndsAs, IsUsage, Reaches, ReportsFault, run_fault}
 

@@ -2,10 +2,10 @@
 use Rattle.std.specs.Prelude.{◌≡◌, ℕ, ◌⊎◌, ◌<◌, List, [], ◌∷◌, ◌++◌, Result, Ok, Err, codes, decimal, nat_eq, if◌then◌else◌, ◌||◌}
 use Rattle.std.specs.Io.KnownBytes.{Appends}
 use Rattle.text_lines.specs.Written.{WrotePrefix, FailedAfterPrefix}
-use Rattle.batch_run.specs.declared.faults.File.TheVariants.{NoFile}
-use Rattle.batch_run.specs.declared.faults.RunFault.{RunFault}
-use Rattle.batch_run.specs.FaultTexts.{file_text, line_text}
-use Rattle.batch_run.specs.Runs.{Output}
+use Rattle.batch_inputs.specs.declared.faults.File.TheVariants.{NoFile}
+use Rattle.batch_inputs.specs.declared.faults.RunFault.{RunFault}
+use Rattle.batch_inputs.specs.FaultTexts.{file_text, line_text}
+use Rattle.text_lines.specs.Streams.{Output}
 
 -- the line that reports a fault
 abbrev pub fault_text : RunFault → List ℕ

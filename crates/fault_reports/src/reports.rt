@@ -2,7 +2,7 @@
 ghost use Rattle.std.specs.Prelude.{◌≡◌};
 ghost use Rattle.fault_reports.specs.Reports.{EndsAs, Reaches, ReportsFault, ReportsUsage, fault_text, status_of};
 
-use batch_run::{RunFault, WRITE, fault_of_run};
+use batch_inputs::{RunFault, WRITE, fault_of_run};
 use text_lines::{Line, RoadWrite, push_number, write_bytes};
 
 /// The exit status of wrong usage.

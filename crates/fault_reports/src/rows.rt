@@ -3,7 +3,7 @@ ghost use Rattle.std.specs.Prelude.{◌≡◌, Some, Any, IfOk, IfSome, IfNone, 
 ghost use Rattle.fault_reports.specs.Explained.{AreAskedFor, Explains, HasNoRow, IsRowOf, row_text};
 
 use crate::reports::{end_with, report_fault, report_usage, write_and_flush};
-use batch_run::fault_of_run;
+use batch_inputs::fault_of_run;
 use std::alloc::{AllocError, Global};
 use std::fmt;
 use text_lines::{MEMORY, RoadWrite};

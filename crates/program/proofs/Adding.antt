@@ -4,8 +4,9 @@ use Rattle.std.specs.Option.{option_map}
 use Rattle.std.proofs.Common.{inl, inr, refl, sym, subst, ◌∙◌, arith}
 use Rattle.std.proofs.KnownBytes.{Appends-nil, Appends-trans, Appends-kept}
 use Rattle.text_lines.specs.Streams.{Output}
-use Rattle.batch_run.specs.declared.faults.RunFault.{RunFault}
-use Rattle.program.specs.Watching.{Account, AreKept, AreLost, EndsAccounts, HasAccounts, IsAdded}
+use Rattle.batch_inputs.specs.declared.faults.RunFault.{RunFault}
+use Rattle.command_files.specs.Added.{IsAdded}
+use Rattle.program.specs.Watching.{Account, AreKept, AreLost, EndsAccounts, HasAccounts}
 
 -- nothing was added
 pub added_none : {X : Type 0} (old : Output X) → IsAdded old old []

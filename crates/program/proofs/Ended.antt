@@ -5,10 +5,10 @@ use Rattle.std.proofs.Common.{List, ap, subst, true, false, inl, inr}
 use Rattle.road_graph.specs.GraphData.{GraphData}
 use Rattle.road_files.specs.Asked.{Asked}
 use Rattle.path_algebra.specs.declared.choice.AlgebraChoice.{AlgebraChoice}
-use Rattle.batch_run.specs.declared.faults.File.{File}
-use Rattle.batch_run.specs.declared.faults.RunFault.{RunFault}
-use Rattle.batch_run.specs.declared.settings.Settings.{Settings}
-use Rattle.batch_run.specs.Orders.{HasReadOrdered}
+use Rattle.batch_inputs.specs.declared.faults.File.{File}
+use Rattle.batch_inputs.specs.declared.faults.RunFault.{RunFault}
+use Rattle.batch_settings.specs.declared.settings.Settings.{Settings}
+use Rattle.batch_inputs.specs.Orders.{HasReadOrdered}
 use Rattle.text_lines.specs.Streams.{Input, Output}
 use Rattle.program.specs.Progress.{progress_text}
 use Rattle.program.specs.Watching.{EndsWatched, IsAddedIf}

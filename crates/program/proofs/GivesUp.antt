@@ -3,7 +3,7 @@ use Rattle.std.proofs.Common.{◌≡◌, ◌≢◌, ℕ, List, Option, None, Som
 use Rattle.std.specs.Prelude.{IfErr}
 use Rattle.std.proofs.lemmas.Bool.Decides.{nat_tests}
 use Rattle.text_lines.specs.Streams.{Output}
-use Rattle.batch_run.specs.declared.faults.RunFault.{RunFault}
+use Rattle.batch_inputs.specs.declared.faults.RunFault.{RunFault}
 use Rattle.fault_reports.specs.Reports.{EndsAs, status_of}
 use Rattle.program.specs.Watching.{Account, outcome_of}
 

@@ -1,5 +1,4 @@
 mod Said
-mod Among
 mod Ungated
 mod Unstalled
 mod GivesUp

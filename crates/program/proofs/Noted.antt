@@ -4,8 +4,8 @@ use Rattle.std.proofs.Common.{refl, sym, subst, ◌∙◌}
 use Rattle.text_lines.specs.Streams.{Output}
 use Rattle.road_graph.specs.GraphData.{GraphData}
 use Rattle.road_files.specs.Asked.{Asked}
-use Rattle.batch_run.specs.declared.faults.RunFault.{RunFault}
-use Rattle.batch_run.specs.declared.settings.Settings.{Settings}
+use Rattle.batch_inputs.specs.declared.faults.RunFault.{RunFault}
+use Rattle.batch_settings.specs.declared.settings.Settings.{Settings}
 use Rattle.batch_run.specs.declared.watcher.Progress.{Progress}
 use Rattle.batch_run.specs.Reports.{AreReports, FollowsReports, Watched}
 use Rattle.path_algebra.specs.declared.choice.AlgebraChoice.{AlgebraChoice}

@@ -5,7 +5,7 @@ use Rattle.clap.specs.declared.error.kind.ErrorKind.{ErrorKind}
 use Rattle.clap.specs.declared.error.kind.ErrorKind.TheVariants as kind
 use Rattle.fault_reports.specs.Reports.{IsUsage}
 use Rattle.program.specs.CommandLine.{IsShown, SaysBy}
-use Rattle.program.specs.Moments.{Moment}
+use Rattle.command_files.specs.Moments.{Moment}
 
 module _ {P W E : Type 0} (old new : Moment P W E) (result : ℕ) where
   -- wrong words are a usage fault

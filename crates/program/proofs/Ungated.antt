@@ -6,9 +6,9 @@ use Rattle.road_files.specs.Asked.{Asked}
 use Rattle.path_algebra.specs.declared.choice.AlgebraChoice.{AlgebraChoice}
 use Rattle.path_algebra.specs.Choices.{Under}
 use Rattle.path_algebra.proofs.Chosen.{under_any}
-use Rattle.batch_run.specs.declared.faults.File.{File}
-use Rattle.batch_run.specs.declared.faults.RunFault.{RunFault}
-use Rattle.batch_run.specs.declared.settings.Settings.{Settings}
+use Rattle.batch_inputs.specs.declared.faults.File.{File}
+use Rattle.batch_inputs.specs.declared.faults.RunFault.{RunFault}
+use Rattle.batch_settings.specs.declared.settings.Settings.{Settings}
 use Rattle.batch_run.specs.Runs.{Output, Ran}
 use Rattle.batch_run.specs.Stopping.{Closes}
 use Rattle.program.specs.Runs.{gate_is_open}

@@ -2,7 +2,7 @@
 use Rattle.std.specs.Prelude.{◌≡◌, ℕ, ◌⊎◌, List, Result}
 use Rattle.clap.specs.declared.error.kind.ErrorKind.{ErrorKind}
 use Rattle.clap.specs.declared.error.kind.ErrorKind.TheVariants.{DisplayHelp, DisplayVersion, OutOfMemory}
-use Rattle.batch_run.specs.declared.faults.RunFault.{RunFault}
+use Rattle.batch_inputs.specs.declared.faults.RunFault.{RunFault}
 use Rattle.command_args.specs.declared.parsed.Subcommand.{Subcommand}
 use Rattle.command_args.specs.declared.parsed.Subcommand.TheVariants.{Solve, Bundle, Serve, Check, Order, Faults}
 use Rattle.command_args.specs.Asked.{AskFor, AskForNone}
@@ -10,9 +10,9 @@ use Rattle.fault_reports.specs.declared.rows.FaultRow.{FaultRow}
 use Rattle.fault_reports.specs.Reports.{EndsAs, IsUsage, Reaches, ReportsFault, run_fault}
 use Rattle.fault_reports.specs.Explained.{Explains, IsFaultTable}
 use Rattle.program.specs.Commands.{DoesBundle, DoesCheck, DoesServe, DoesSolve}
-use Rattle.program.specs.Moments.{Moment}
+use Rattle.command_files.specs.Moments.{Moment}
 use Rattle.program.specs.Ordering.{DoesOrder}
-use Rattle.program.specs.Opening.{Tells, Tries}
+use Rattle.command_files.specs.Opening.{Tells, Tries}
 
 -- a subcommand over files of this type, a standard input of that, and new files of a third
 abbrev pub DoesSubcommand : (F I S : Type 0) → {P W E : Type 0} → Tries P → Tries P → Tells P → Subcommand → Moment P W E → Moment P W E → ℕ → Type 0

@@ -3,10 +3,11 @@ use Rattle.std.specs.Prelude.{◌≡◌, ℕ, ◌⊎◌, ◌↔◌, List, [], �
 use Rattle.answer_check.specs.declared.verdict.Verdict.{Verdict}
 use Rattle.path_algebra.specs.declared.choice.AlgebraChoice.{AlgebraChoice}
 use Rattle.path_algebra.specs.Choices.{Under, arc_cost_of}
-use Rattle.batch_run.specs.declared.faults.RunFault.{RunFault}
-use Rattle.batch_run.specs.Inputs.{HasReadBundle, HasReadPair}
-use Rattle.batch_run.specs.Orders.{HasReadOrdered, IsOrderedFile, IsRunFile}
-use Rattle.batch_run.specs.Ran.{IsBundleFile, IsBundleOf, IsPairFile, IsPairOf}
+use Rattle.batch_inputs.specs.declared.faults.RunFault.{RunFault}
+use Rattle.batch_inputs.specs.Inputs.{HasReadBundle, HasReadPair}
+use Rattle.batch_inputs.specs.Orders.{HasReadOrdered, IsOrderedFile, IsRunFile}
+use Rattle.batch_inputs.specs.Spelled.{IsBundleOf, IsPairOf}
+use Rattle.batch_inputs.specs.InputFaults.{IsBundleFile, IsPairFile}
 use Rattle.batch_run.specs.Runs.{Input, Output}
 use Rattle.batch_run.specs.Unsuited.{IsRefusedUnsuited}
 use Rattle.service.specs.Served.{RanService}
@@ -16,15 +17,15 @@ use Rattle.command_args.specs.declared.parsed.ServeArgs.{ServeArgs}
 use Rattle.command_args.specs.declared.parsed.SolveArgs.{SolveArgs}
 use Rattle.command_args.specs.declared.parsed.WatchOptions.{WatchOptions}
 use Rattle.fault_reports.specs.Reports.{EndsAs}
-use Rattle.program.specs.declared.opened_input.OpenedInput.{OpenedInput}
-use Rattle.program.specs.declared.refusal.Refusal.{Refusal}
-use Rattle.program.specs.Inputs.{stdin_name}
+use Rattle.command_files.specs.declared.opened_input.OpenedInput.{OpenedInput}
+use Rattle.command_files.specs.declared.refusal.Refusal.{Refusal}
+use Rattle.command_files.specs.Inputs.{stdin_name}
 use Rattle.program.specs.Judgements.{EndsCheck, RanJudge}
-use Rattle.program.specs.Moments.{Moment}
-use Rattle.program.specs.Opening.{CannotChoose, CannotCreate, CannotOpen, CreatesIf, HasOpened, IsChosen, Tells, Tries, accounts_name, inputs_bundled, inputs_judged, inputs_served, inputs_solved, one_if, written_names}
-use Rattle.program.specs.Refusals.{Says}
+use Rattle.command_files.specs.Moments.{Moment}
+use Rattle.command_files.specs.Opening.{CannotChoose, CannotCreate, CannotOpen, CreatesIf, HasOpened, IsChosen, Tells, Tries, accounts_name, inputs_bundled, inputs_judged, inputs_served, inputs_solved, one_if, written_names}
+use Rattle.command_files.specs.Refusals.{Says}
 use Rattle.program.specs.Runs.{gate_is_open}
-use Rattle.program.specs.Times.{ShowsTimes}
+use Rattle.command_files.specs.Times.{ShowsTimes}
 use Rattle.program.specs.Watching.{EndsWatched}
 
 -- a command was refused, for a reason that leaves the files so: its output is as it was, and the

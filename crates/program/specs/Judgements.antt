@@ -1,10 +1,10 @@
 -- What judging leaves, between two moments of its inputs and its output.
 use Rattle.std.specs.Prelude.{◌≡◌, ◌≢◌, ℕ, ◌+◌, ◌≤◌, ◌↔◌, ◌⊎◌, Option, Result, Ok, Err, OnOk, IfOk, IfErr}
 use Rattle.answer_check.specs.declared.verdict.Verdict.{Verdict}
-use Rattle.batch_run.specs.declared.faults.File.{File}
-use Rattle.batch_run.specs.declared.faults.File.TheVariants.{Graph, Questions, Answers, NoFile}
-use Rattle.batch_run.specs.declared.faults.RunFault.{RunFault}
-use Rattle.batch_run.specs.Inputs.{HasReadPair}
+use Rattle.batch_inputs.specs.declared.faults.File.{File}
+use Rattle.batch_inputs.specs.declared.faults.File.TheVariants.{Graph, Questions, Answers, NoFile}
+use Rattle.batch_inputs.specs.declared.faults.RunFault.{RunFault}
+use Rattle.batch_inputs.specs.Inputs.{HasReadPair}
 use Rattle.batch_run.specs.Runs.{Input, Output}
 use Rattle.fault_reports.specs.Reports.{EndsAs, Reaches, ReportsFault}
 use Rattle.program.specs.Verdicts.{IsJudged, IsAnswersFault, IsOwnFault, IsLimitFault, IsReadingFault, verdict_text, verdict_status}

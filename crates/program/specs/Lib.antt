@@ -1,12 +1,7 @@
-pub mod Moments
-pub mod Inputs
-pub mod Refusals
-pub mod Opening
 pub mod Accounts
 pub mod Progress
 pub mod Runs
 pub mod Watching
-pub mod Times
 pub mod Verdicts
 pub mod Judgements
 pub mod Commands

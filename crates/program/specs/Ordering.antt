@@ -7,15 +7,15 @@ use Rattle.text_lines.specs.Streams.{Input, Output}
 use Rattle.graph_text.specs.GraphFiles.{gr_rules}
 use Rattle.order_files.specs.WrittenOrders.{places_text}
 use Rattle.path_factors.specs.Factors.{HasEachVertex}
-use Rattle.batch_run.specs.declared.faults.File.TheVariants.{Graph}
-use Rattle.batch_run.specs.declared.faults.RunFault.{RunFault}
+use Rattle.batch_inputs.specs.declared.faults.File.TheVariants.{Graph}
+use Rattle.batch_inputs.specs.declared.faults.RunFault.{RunFault}
 use Rattle.command_args.specs.declared.parsed.OrderArgs.{OrderArgs}
 use Rattle.fault_reports.specs.Reports.{EndsAs, Reaches, run_fault}
-use Rattle.program.specs.declared.opened_input.OpenedInput.{OpenedInput}
-use Rattle.program.specs.declared.refusal.Refusal.TheVariants.{Fault}
+use Rattle.command_files.specs.declared.opened_input.OpenedInput.{OpenedInput}
+use Rattle.command_files.specs.declared.refusal.Refusal.TheVariants.{Fault}
 use Rattle.program.specs.Commands.{IsRefused}
-use Rattle.program.specs.Moments.{Moment}
-use Rattle.program.specs.Opening.{AreOpened, IsMissing, Tries, inputs_ordered}
+use Rattle.command_files.specs.Moments.{Moment}
+use Rattle.command_files.specs.Opening.{AreOpened, IsMissing, Tries, inputs_ordered}
 
 -- nothing was written: the graph was too dense to factor, or memory was refused
 abbrev pub HasNoOrder : {W : Type 0} → Output W → Output W → Result (Unit {0}) RunFault → Type 0

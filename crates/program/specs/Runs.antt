@@ -5,9 +5,9 @@ use Rattle.road_graph.specs.GraphData.{GraphData}
 use Rattle.road_files.specs.Asked.{Asked}
 use Rattle.path_algebra.specs.declared.choice.AlgebraChoice.{AlgebraChoice}
 use Rattle.path_algebra.specs.Choices.{OfChosen, Under, arc_cost_of}
-use Rattle.batch_run.specs.declared.faults.File.{File}
-use Rattle.batch_run.specs.declared.faults.RunFault.{RunFault}
-use Rattle.batch_run.specs.declared.settings.Settings.{Settings}
+use Rattle.batch_inputs.specs.declared.faults.File.{File}
+use Rattle.batch_inputs.specs.declared.faults.RunFault.{RunFault}
+use Rattle.batch_settings.specs.declared.settings.Settings.{Settings}
 use Rattle.batch_run.specs.Runs.{Output, Ran}
 use Rattle.batch_run.specs.Stopping.{Stopped}
 use Rattle.batch_run.specs.Unsuited.{IsRefusedUnsuited}

@@ -14,9 +14,10 @@ use Rattle.answer_check.specs.declared.verdict.Verdict.{Verdict}
 use Rattle.answer_check.specs.declared.verdict.Verdict.TheVariants.{Valid, Invalid}
 use Rattle.answer_check.specs.Reasons.{reason_number}
 use Rattle.answer_check.specs.Verdicts.{IsVerdict}
-use Rattle.batch_run.specs.declared.faults.RunFault.{RunFault}
-use Rattle.batch_run.specs.declared.faults.File.TheVariants.{Graph, Questions, Answers}
-use Rattle.batch_run.specs.Ran.{IsPairOf, IsReadAs, IsTextFault, IsRoadNumber}
+use Rattle.batch_inputs.specs.declared.faults.RunFault.{RunFault}
+use Rattle.batch_inputs.specs.declared.faults.File.TheVariants.{Graph, Questions, Answers}
+use Rattle.batch_inputs.specs.Spelled.{IsPairOf, IsReadAs}
+use Rattle.batch_inputs.specs.InputFaults.{IsTextFault, IsRoadNumber}
 use Rattle.path_algebra.specs.declared.choice.AlgebraChoice.{AlgebraChoice}
 use Rattle.path_algebra.specs.Choices.{GoTogether, Under, limit_of, name_of}
 

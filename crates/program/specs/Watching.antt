@@ -3,9 +3,9 @@ use Rattle.std.specs.Prelude.{◌≡◌, ◌≢◌, ◌⊎◌, ℕ, ◌<◌, ◌
 use Rattle.std.specs.Io.KnownBytes.{Appends, Keeps}
 use Rattle.road_graph.specs.GraphData.{GraphData}
 use Rattle.road_files.specs.Asked.{Asked}
-use Rattle.batch_run.specs.declared.faults.File.{File}
-use Rattle.batch_run.specs.declared.faults.RunFault.{RunFault}
-use Rattle.batch_run.specs.declared.settings.Settings.{Settings}
+use Rattle.batch_inputs.specs.declared.faults.File.{File}
+use Rattle.batch_inputs.specs.declared.faults.RunFault.{RunFault}
+use Rattle.batch_settings.specs.declared.settings.Settings.{Settings}
 use Rattle.batch_run.specs.declared.watcher.Progress.{Progress}
 use Rattle.batch_run.specs.Reports.{AreReports}
 use Rattle.text_lines.specs.Streams.{Output}
@@ -15,11 +15,8 @@ use Rattle.program.specs.declared.watch.watcher.CommandWatcher.{CommandWatcher}
 use Rattle.program.specs.Accounts.{account_of, accounts_text}
 use Rattle.program.specs.Progress.{all_after, progress_text, shown_at}
 use Rattle.fault_reports.specs.Reports.{EndsAs, Reaches, run_fault}
+use Rattle.command_files.specs.Added.{IsAdded}
 use Rattle.program.specs.Runs.{RanUnder}
-
--- the text was added, and no write failed; or a write failed
-abbrev pub IsAdded : {X : Type 0} → Output X → Output X → List ℕ → Type 0
-IsAdded old new text = (Appends old.written new.written text × (new.failures ≡ old.failures)) ⊎ (old.failures < new.failures)
 
 -- the text was added, if progress is shown, or a write failed; else nothing was done
 abbrev pub IsAddedIf : {E X : Type 0} → (E → Output X) → Bool → E → E → List ℕ → Type 0

@@ -2,9 +2,10 @@
 ghost use Rattle.std.specs.Prelude.{◌≡◌};
 ghost use Rattle.std.specs.Option.{option_map};
 ghost use Rattle.path_algebra.specs.Choices.{OfChosen, Under, arc_cost_of};
-ghost use Rattle.batch_run.specs.Inputs.{HasReadPair};
-ghost use Rattle.batch_run.specs.Ran.{IsPairFile, IsPairOf};
-ghost use Rattle.batch_run.specs.Orders.{HasReadOrdered, IsOrderedFile, IsRunFile};
+ghost use Rattle.batch_inputs.specs.Inputs.{HasReadPair};
+ghost use Rattle.batch_inputs.specs.Spelled.{IsPairOf};
+ghost use Rattle.batch_inputs.specs.InputFaults.{IsPairFile};
+ghost use Rattle.batch_inputs.specs.Orders.{HasReadOrdered, IsOrderedFile, IsRunFile};
 ghost use Rattle.batch_run.specs.Reports.{Watched};
 ghost use Rattle.batch_run.specs.Runs.{Ran};
 ghost use Rattle.batch_run.specs.Stopping.{Stopped};
@@ -13,14 +14,13 @@ ghost use Rattle.service.specs.Served.{RanService};
 ghost use Rattle.program.specs.Runs.{gate_is_open};
 ghost use Rattle.program.specs.Watching.{EndsAccounts, EndsWatched, outcome_of};
 
-use crate::files::FileSystem;
-use crate::host::Host;
-use crate::task::{Task, Watching};
+use crate::task::Task;
 use crate::watch::CommandWatcher;
 use batch_run::{
     BatchInput, OpenGate, OrderedInput, PairInput, Run, RunFault, WRITE, Watcher, fault_of_run,
     run_batch, usual_turns_are_enough,
 };
+use command_files::{FileSystem, Host, Watching};
 use fault_reports::end_with;
 use path_algebra::with_algebra;
 use service::run_service;

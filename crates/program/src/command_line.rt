@@ -2,18 +2,15 @@
 ghost use Rattle.std.specs.Prelude.{map, string_bytes};
 ghost use Rattle.clap.specs.Values.{kind_of};
 ghost use Rattle.program.specs.CommandLine.{DoesCommandLine, IsSaid};
-ghost use Rattle.program.specs.Moments.{moment};
+ghost use Rattle.command_files.specs.Moments.{moment};
 
 use crate::commands::{bundle, check, order, serve, solve};
-use crate::files::{FileSystem, HostFiles};
-use crate::host::Host;
-use crate::refusal::{Refusal, refuse};
 use crate::streams::take_closed_streams;
-use crate::times::{Stopwatch, TimedWriter};
 use batch_run::fault_of_run;
 use clap::Error;
 use clap::error::ErrorKind;
 use command_args::{Subcommand, parse_args};
+use command_files::{FileSystem, Host, HostFiles, Refusal, Stopwatch, TimedWriter, refuse};
 use fault_reports::{all_faults, end_with, explain, report_fault, report_usage, write_and_flush};
 use std::alloc::Global;
 use std::io::Write;

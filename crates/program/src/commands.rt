@@ -1,23 +1,19 @@
 //! The commands, each as its arguments ask: it gives the exit status, and reports a fault in one
 //! line on the error output.
 ghost use Rattle.program.specs.Commands.{DoesBundle, DoesCheck, DoesServe, DoesSolve};
-ghost use Rattle.program.specs.Moments.{moment};
+ghost use Rattle.command_files.specs.Moments.{moment};
 ghost use Rattle.program.specs.Ordering.{DoesOrder};
 
 use crate::answering::{answer, answer_pair, serve_chosen};
-use crate::creating::{ERRORS_NAME, OUTPUT_NAME, create_accounts};
-use crate::files::FileSystem;
-use crate::host::Host;
 use crate::judging::{end_check, judge};
-use crate::opening::{
-    STDIN_NAME, choose, open_to_bundle, open_to_check, open_to_order, open_to_serve, open_to_solve,
-};
 use crate::ordering::order_input;
-use crate::refusal::refuse;
 use crate::task::Task;
-use crate::times::show_times;
 use batch_run::BundleInput;
 use command_args::{BundleArgs, CheckArgs, OrderArgs, ServeArgs, SolveArgs};
+use command_files::{
+    ERRORS_NAME, FileSystem, Host, OUTPUT_NAME, STDIN_NAME, choose, create_accounts,
+    open_to_bundle, open_to_check, open_to_order, open_to_serve, open_to_solve, refuse, show_times,
+};
 use fault_reports::end_with;
 use std::sync::Wait;
 use std::thread::Threads;

@@ -7,10 +7,10 @@ use Rattle.text_lines.proofs.WriteLaws.{wrote_then}
 use Rattle.road_files.specs.Asked.{Asked}
 use Rattle.path_algebra.specs.Algebra.{Algebra}
 use Rattle.answer_text.specs.AnswerText.{answers_text}
-use Rattle.batch_run.specs.declared.faults.Cause.{Cause}
-use Rattle.batch_run.specs.declared.faults.Cause.TheVariants.{Unsolved, Write}
+use Rattle.batch_run.specs.declared.cause.Cause.{Cause}
+use Rattle.batch_run.specs.declared.cause.Cause.TheVariants.{Unsolved, Write}
 use Rattle.worker_fleet.specs.declared.group.GroupFault.TheVariants.{Memory, Stalled, Gated}
-use Rattle.batch_run.specs.declared.settings.Settings.{Settings}
+use Rattle.batch_settings.specs.declared.settings.Settings.{Settings}
 use Rattle.batch_run.specs.Stopping.{IsEnoughFor}
 use Rattle.batch_run.specs.Answered.{WroteAnswers, WroteAnswersPrefix, WroteWhole, begun_text}
 use Rattle.worker_fleet.specs.Stops.{Says}

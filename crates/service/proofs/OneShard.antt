@@ -4,12 +4,12 @@ use Rattle.std.proofs.Common.{◌≡◌, ◌≢◌, ℕ, ◌*◌, ◌<◌, ◌�
 use Rattle.road_graph.specs.GraphData.{GraphData}
 use Rattle.road_files.specs.Asked.{Asked}
 use Rattle.path_algebra.specs.Algebra.{Algebra}
-use Rattle.worker_fleet.specs.declared.dealing.Dealing.{Dealing}
+use Rattle.batch_settings.specs.declared.dealing.Dealing.{Dealing}
 use Rattle.worker_fleet.specs.declared.group.GroupFault.TheVariants.{Stalled}
 use Rattle.worker_fleet.specs.OneShard.{IsBrief}
 use Rattle.worker_fleet.specs.Stops.{StopsGroup}
-use Rattle.batch_run.specs.declared.faults.Cause.{Cause}
-use Rattle.batch_run.specs.declared.settings.Settings.{Settings}
+use Rattle.batch_run.specs.declared.cause.Cause.{Cause}
+use Rattle.batch_settings.specs.declared.settings.Settings.{Settings}
 use Rattle.batch_run.specs.Causes.{MayStop, fault_of, number_of}
 use Rattle.batch_run.specs.Stopping.{IsEnoughFor, Stops}
 use Rattle.batch_run.proofs.OneShard.{not_stalled}

@@ -5,13 +5,15 @@ use Rattle.road_files.specs.Asked.{Asked}
 use Rattle.graph_text.specs.GraphFiles.{gr_rules}
 use Rattle.path_algebra.specs.Algebra.{Algebra}
 use Rattle.path_algebra.specs.declared.counted_sums.Cost.{Cost}
-use Rattle.batch_run.specs.declared.faults.File.{File}
-use Rattle.batch_run.specs.declared.faults.File.TheVariants.{Graph, Questions, Order, NoFile}
-use Rattle.batch_run.specs.declared.faults.RunFault.{RunFault}
-use Rattle.batch_run.specs.declared.settings.Settings.{Settings}
-use Rattle.batch_run.specs.Orders.{HasOrderFaultIn, HasReadOrdered, IsOrderedFile}
-use Rattle.batch_run.specs.Ran.{IsNumberOf, IsOrderNumber, IsReadAs, IsRoadNumber}
-use Rattle.batch_run.specs.Unsuited.{IsRefusedUnsuited, IsUnsuited}
+use Rattle.batch_inputs.specs.declared.faults.File.{File}
+use Rattle.batch_inputs.specs.declared.faults.File.TheVariants.{Graph, Questions, Order, NoFile}
+use Rattle.batch_inputs.specs.declared.faults.RunFault.{RunFault}
+use Rattle.batch_settings.specs.declared.settings.Settings.{Settings}
+use Rattle.batch_inputs.specs.Orders.{HasOrderFaultIn, HasReadOrdered, IsOrderedFile}
+use Rattle.batch_inputs.specs.Spelled.{IsReadAs}
+use Rattle.batch_inputs.specs.InputFaults.{IsNumberOf, IsOrderNumber, IsRoadNumber}
+use Rattle.batch_settings.specs.Unsuited.{IsUnsuited}
+use Rattle.batch_run.specs.Unsuited.{IsRefusedUnsuited}
 use Rattle.batch_run.proofs.Suiting.{suited_by, suited_whole}
 use Rattle.batch_run.specs.Runs.{Input, Output}
 use Rattle.service.specs.GraphInput.{HasReadGraph, HasReadGraphOrdered, IsGraphFile, IsServingFile, graph_later, graph_unread}

@@ -10,11 +10,11 @@ use Rattle.answer_text.specs.AnswerText.{answers_text}
 use Rattle.batch_run.specs.Answered.{begun_text}
 use Rattle.worker_fleet.specs.Stops.{Says}
 use Rattle.batch_run.specs.Causes.{MayStop, number_of}
-use Rattle.batch_run.specs.declared.faults.Cause.{Cause}
-use Rattle.batch_run.specs.declared.faults.Cause.TheVariants.{Write}
-use Rattle.batch_run.specs.declared.settings.Settings.{Settings}
+use Rattle.batch_run.specs.declared.cause.Cause.{Cause}
+use Rattle.batch_run.specs.declared.cause.Cause.TheVariants.{Write}
+use Rattle.batch_settings.specs.declared.settings.Settings.{Settings}
 use Rattle.batch_run.specs.declared.solve.Solver.{Solver}
-use Rattle.batch_run.specs.Choice.{without_diffusions}
+use Rattle.batch_settings.specs.Choice.{without_diffusions}
 use Rattle.batch_run.specs.Stopping.{IsEnoughFor}
 use Rattle.batch_run.specs.Solvers.{graph_of, is_without_diffusions}
 use Rattle.service.specs.Replies.{fault_text}

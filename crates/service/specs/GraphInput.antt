@@ -5,12 +5,13 @@ use Rattle.std.specs.Io.KnownBytes.{IsAtEnd}
 use Rattle.text_lines.specs.Reads.{BreaksNone, RunsOutAfter}
 use Rattle.text_lines.specs.Streams.{Input}
 use Rattle.graph_text.specs.GraphFiles.{gr_rules}
-use Rattle.batch_run.specs.declared.faults.File.TheVariants.{Graph, Questions, NoFile}
-use Rattle.batch_run.specs.declared.faults.File.{File}
-use Rattle.batch_run.specs.declared.faults.RunFault.{RunFault}
-use Rattle.batch_run.specs.InputLaws.{not_failed}
-use Rattle.batch_run.specs.Orders.{HasReadOrdered}
-use Rattle.batch_run.specs.Ran.{IsGraphFault, IsReadAs}
+use Rattle.batch_inputs.specs.declared.faults.File.TheVariants.{Graph, Questions, NoFile}
+use Rattle.batch_inputs.specs.declared.faults.File.{File}
+use Rattle.batch_inputs.specs.declared.faults.RunFault.{RunFault}
+use Rattle.batch_inputs.specs.InputLaws.{not_failed}
+use Rattle.batch_inputs.specs.Orders.{HasReadOrdered}
+use Rattle.batch_inputs.specs.Spelled.{IsReadAs}
+use Rattle.batch_inputs.specs.InputFaults.{IsGraphFault}
 
 -- a graph was read, or this fault stopped the service
 pub record HasReadGraph {G : Type 0} (graph graph_after : Input G) (outcome : Result (Unit {0}) RunFault) : Type 0 where

@@ -1,7 +1,7 @@
 -- What whoever watches a service is told: how its input and its output are at each read, before it.
 use Rattle.std.specs.Prelude.{◌≡◌, ◌⊎◌, ℕ, ◌+◌, Bool, List, [], ◌∷◌, length}
 use Rattle.path_algebra.specs.Algebra.{Algebra}
-use Rattle.batch_run.specs.declared.settings.Settings.{Settings}
+use Rattle.batch_settings.specs.declared.settings.Settings.{Settings}
 use Rattle.text_lines.specs.Streams.{Input, Output}
 use Rattle.road_files.specs.Asked.{Asked}
 use Rattle.service.specs.Answering.{MayAnswer}

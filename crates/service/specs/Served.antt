@@ -4,10 +4,11 @@ use Rattle.std.specs.Io.KnownBytes.{IsAtEnd}
 use Rattle.road_graph.specs.GraphData.{GraphData}
 use Rattle.graph_text.specs.GraphFiles.{gr_rules}
 use Rattle.path_algebra.specs.Algebra.{Algebra}
-use Rattle.batch_run.specs.declared.faults.File.TheVariants.{Graph, Questions, Order, NoFile}
-use Rattle.batch_run.specs.declared.faults.RunFault.{RunFault}
-use Rattle.batch_run.specs.declared.settings.Settings.{Settings}
-use Rattle.batch_run.specs.Ran.{IsReadAs, IsOrderNumber, IsRoadNumber}
+use Rattle.batch_inputs.specs.declared.faults.File.TheVariants.{Graph, Questions, Order, NoFile}
+use Rattle.batch_inputs.specs.declared.faults.RunFault.{RunFault}
+use Rattle.batch_settings.specs.declared.settings.Settings.{Settings}
+use Rattle.batch_inputs.specs.Spelled.{IsReadAs}
+use Rattle.batch_inputs.specs.InputFaults.{IsOrderNumber, IsRoadNumber}
 use Rattle.text_lines.specs.Streams.{Input, Output}
 use Rattle.service.specs.Fed.{Served, ServedSoFar, ServedToLimit, ServedPart}
 use Rattle.service.specs.Answering.{MayAnswer}

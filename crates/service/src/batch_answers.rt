@@ -2,7 +2,7 @@
 ghost use Rattle.std.specs.Prelude.{ℕ, List};
 ghost use Rattle.text_lines.specs.Written.{WritesText};
 ghost use Rattle.road_files.specs.Asked.{AreQuestionsOf, asked_of};
-ghost use Rattle.batch_run.specs.InRange.{AreInRange};
+ghost use Rattle.batch_settings.specs.InRange.{AreInRange};
 ghost use Rattle.batch_run.specs.Solvers.{IsSameSolver, graph_of};
 ghost use Rattle.service.specs.Answering.{MayAnswerBy};
 

@@ -15,8 +15,8 @@ impl<G: RoadRead> BatchInput for GraphInput<'_, G> {
     ghost use Rattle.std.specs.Prelude.{◌≡◌};
     ghost use Rattle.std.proofs.Common.{refl, sym, ◌∙◌};
     ghost use Rattle.graph_text.specs.GraphFiles.{gr_rules};
-    ghost use Rattle.batch_run.specs.declared.faults.File.TheVariants.{Graph, NoFile};
-    ghost use Rattle.batch_run.specs.Ran.{IsReadAs};
+    ghost use Rattle.batch_inputs.specs.declared.faults.File.TheVariants.{Graph, NoFile};
+    ghost use Rattle.batch_inputs.specs.Spelled.{IsReadAs};
     ghost use Rattle.service.specs.GraphInput.{HasReadGraph, IsGraphFile, graph_later, graph_unread};
 
     ghost is_read = { λ s g _. IsReadAs gr_rules (G.seen s.graph.now).left g };

@@ -2,7 +2,7 @@
 ghost use Rattle.std.specs.Prelude.{◌≡◌, ◌≢◌, ℕ, ◌≤◌, ◌+◌, [], length, IfOk, OnOk, OnErr, Err};
 ghost use Rattle.std.specs.Io.KnownBytes.{IsAtEnd, ReadConsumes};
 ghost use Rattle.service.specs.Giving.{MayGiveOver};
-ghost use Rattle.batch_run.specs.Choice.{without_diffusions};
+ghost use Rattle.batch_settings.specs.Choice.{without_diffusions};
 ghost use Rattle.batch_run.specs.Solvers.{graph_of, is_without_diffusions};
 ghost use Rattle.service.specs.Fed.{Served, ServedSoFar, ServedToLimit, ServedPart};
 ghost use Rattle.service.specs.Reading.{ToldReads};

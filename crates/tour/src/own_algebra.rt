@@ -1,7 +1,8 @@
 //! Files and an algebra of one's own: a bundle is answered from bytes to bytes, and its answers are
 //! judged.
 ghost use Rattle.std.specs.Prelude.{Some, [], IfOk};
-ghost use Rattle.batch_run.specs.Ran.{Done, IsBundleOf};
+ghost use Rattle.batch_inputs.specs.Spelled.{IsBundleOf};
+ghost use Rattle.batch_run.specs.Ran.{Done};
 ghost use Rattle.tour.specs.InMemory.{in_memory};
 ghost use Rattle.tour.specs.Stops.{stops};
 

@@ -6,8 +6,8 @@ use Rattle.std.proofs.lemmas.Grind.{common_steps}
 use Rattle.std.proofs.lemmas.List.{nil_from_length}
 use Rattle.station.specs.Station.{StationData}
 use Rattle.worker_fleet.specs.declared.driving.Driven.{Driven}
-use Rattle.worker_fleet.specs.declared.dealing.Dealing.{Dealing}
-use Rattle.worker_fleet.specs.declared.dealing.Dealing.TheVariants.{Shards, Questions}
+use Rattle.batch_settings.specs.declared.dealing.Dealing.{Dealing}
+use Rattle.batch_settings.specs.declared.dealing.Dealing.TheVariants.{Shards, Questions}
 use Rattle.worker_fleet.specs.Dealt.{begins_at, following, dealt, share_of, of_group}
 use Rattle.worker_fleet.specs.Groups.{gathered, Some_of}
 

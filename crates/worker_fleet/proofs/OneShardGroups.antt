@@ -12,7 +12,7 @@ use Rattle.post_floor.specs.Data.{FloorData, first_parts}
 use Rattle.station.specs.OneShard.{HasOneShard}
 use Rattle.station.specs.Opened.{AreOpened, station_of}
 use Rattle.station.specs.Station.{StationData}
-use Rattle.worker_fleet.specs.declared.dealing.Dealing.{Dealing}
+use Rattle.batch_settings.specs.declared.dealing.Dealing.{Dealing}
 use Rattle.worker_fleet.specs.declared.driving.Driven.{Driven}
 use Rattle.worker_fleet.specs.declared.group.GroupFault.TheVariants as faults
 use Rattle.worker_fleet.specs.declared.driving.Outcome.TheVariants.{Stalled}

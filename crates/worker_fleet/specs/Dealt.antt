@@ -1,7 +1,7 @@
 -- Groups of things that are dealt to workers in turn, and put together again.
 use Rattle.std.specs.Prelude.{◌≡◌, ℕ, suc, ◌+◌, ◌%◌, List, [], ◌∷◌, ◌++◌, nat_eq, nat_lt, if◌then◌else◌, slice_index_or, slice_set, Vec}
-use Rattle.worker_fleet.specs.declared.dealing.Dealing.{Dealing}
-use Rattle.worker_fleet.specs.declared.dealing.Dealing.TheVariants.{Shards, Questions}
+use Rattle.batch_settings.specs.declared.dealing.Dealing.{Dealing}
+use Rattle.batch_settings.specs.declared.dealing.Dealing.TheVariants.{Shards, Questions}
 
 -- the place after this one of n; the first comes after the last
 abbrev pub following : ℕ → ℕ → ℕ

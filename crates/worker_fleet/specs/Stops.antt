@@ -7,7 +7,7 @@ use Rattle.shard_store.specs.Setup.{SetupData}
 use Rattle.post_floor.specs.Data.{FloorData}
 use Rattle.station.specs.Opened.{AreOpened}
 use Rattle.station.specs.Station.{StationData}
-use Rattle.worker_fleet.specs.declared.dealing.Dealing.{Dealing}
+use Rattle.batch_settings.specs.declared.dealing.Dealing.{Dealing}
 use Rattle.worker_fleet.specs.declared.driving.Driven.{Driven}
 use Rattle.worker_fleet.specs.declared.driving.Outcome.TheVariants as outcomes
 use Rattle.worker_fleet.specs.declared.group.GroupFault.{GroupFault}

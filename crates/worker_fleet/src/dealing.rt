@@ -3,31 +3,18 @@ ghost use Rattle.std.specs.Prelude.{◌≡◌, ℕ, ◌<◌, ◌++◌, [], lengt
 ghost use Rattle.std.specs.List.{All};
 ghost use Rattle.worker_fleet.specs.Dealt.{begins_at, following, dealt, share_of, of_group, PushesAt};
 
+use batch_settings::Dealing;
 use std::alloc::{AllocError, Global};
 
-/// To which workers the stations of a group of diffusions are dealt. Those of one diffusion go to
-/// the workers in turn.
-#[derive(Clone, Copy, PartialEq, Eq, Debug)]
-pub enum Dealing {
-    /// The first station of each diffusion goes to worker 0, so that a worker has the same shards
-    /// of all.
-    Shards,
-    /// The first station of diffusion q goes to worker q modulo their number, so that with one
-    /// shard a worker has whole diffusions.
-    Questions,
-}
-
-impl Dealing {
-    /// The worker to whom the first station of a diffusion goes.
-    fn begins_at(self, workers: usize, diffusion: usize) -> usize
-        requires { 0 < workers }
-        ensures worker { result ≡ begins_at self workers diffusion }
-        ensures below { result < workers }
-    {
-        match self {
-            Dealing::Shards => 0,
-            Dealing::Questions => diffusion % workers,
-        }
+/// The worker to whom the first station of a diffusion goes.
+fn begins_at(rule: Dealing, workers: usize, diffusion: usize) -> usize
+    requires { 0 < workers }
+    ensures worker { result ≡ begins_at rule workers diffusion }
+    ensures below { result < workers }
+{
+    match rule {
+        Dealing::Shards => 0,
+        Dealing::Questions => diffusion % workers,
     }
 }
 
@@ -99,7 +86,7 @@ pub(crate) fn deal_all<T: Drop>(
     let mut shares = empty_lists(alloc, workers)?;
     let mut group = 0;
     for things in groups {
-        deal(&mut shares, rule.begins_at(workers, group), group, things)?;
+        deal(&mut shares, begins_at(rule, workers, group), group, things)?;
         group += 1;
     }
     Ok(shares)

@@ -8,10 +8,11 @@ ghost use Rattle.worker_fleet.specs.Groups.{gathered, HasShard, IsDone};
 ghost use Rattle.worker_fleet.specs.Stops.{IsFirstStop, IsStop};
 
 use crate::call_off::CallOff;
-use crate::dealing::{Dealing, deal_all, empty_lists, put_all};
+use crate::dealing::{deal_all, empty_lists, put_all};
 use crate::driving::{Driven, Outcome, drive_unless};
 use crate::fleet::{Assignment, run_each};
 use crate::gate::Gate;
+use batch_settings::Dealing;
 use path_algebra::PathAlgebra;
 use post_floor::Floor;
 use station::Station;

@@ -9,8 +9,8 @@ mod gate;
 mod group;
 mod one_shard;
 
+pub use batch_settings::Dealing;
 pub use call_off::CallOff;
-pub use dealing::Dealing;
 pub use driving::{Driven, Outcome, drive};
 pub use gate::{Gate, OpenGate};
 pub use group::{GroupFault, GroupSettings, run_group};

@@ -4,7 +4,7 @@ ghost use Rattle.std.specs.Prelude.{◌≢◌, ℕ, ◌*◌, ◌<◌, ◌≤◌,
 ghost use Rattle.std.specs.List.{All};
 ghost use Rattle.post_floor.specs.Data.{FloorData};
 ghost use Rattle.station.specs.Station.{StationData};
-ghost use Rattle.worker_fleet.specs.declared.dealing.Dealing.{Dealing};
+ghost use Rattle.batch_settings.specs.declared.dealing.Dealing.{Dealing};
 ghost use Rattle.worker_fleet.specs.declared.driving.Driven.{Driven};
 ghost use Rattle.worker_fleet.specs.declared.driving.Outcome.TheVariants.{Stalled};
 ghost use Rattle.worker_fleet.specs.declared.group.GroupFault.TheVariants as faults;

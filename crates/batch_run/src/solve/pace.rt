@@ -1,8 +1,9 @@
 //! How the parts of a diffusion take their items.
-ghost use Rattle.std.specs.Prelude.{◌≡◌};
+ghost use Rattle.std.specs.Prelude.{◌≡◌, ◌↔◌, true, false};
+ghost use Rattle.shard_store.specs.declared.queue_order.QueueOrder.TheVariants.{Arrival, BestFirst};
 ghost use Rattle.batch_run.specs.Cut.{order_of};
 
-use crate::settings::Settings;
+use batch_settings::Settings;
 use road_graph::{ArcNo, Graph};
 use shard_part::QueueOrder;
 
@@ -26,9 +27,21 @@ impl Pace {
             None => Some(mean_weight(graph) / 5),
         };
         Pace {
-            order: settings.order(),
+            order: queue_order(settings),
             ahead,
         }
+    }
+}
+
+/// In which order a part takes its items.
+fn queue_order(settings: &Settings) -> QueueOrder
+    ensures arrival { (result ≡ Arrival) ↔ (settings.now.best_first ≡ false) }
+    ensures best_first { (result ≡ BestFirst) ↔ (settings.now.best_first ≡ true) }
+{
+    if settings.best_first {
+        QueueOrder::BestFirst
+    } else {
+        QueueOrder::Arrival
     }
 }
 

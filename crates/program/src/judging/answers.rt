@@ -3,7 +3,7 @@ ghost use Rattle.std.specs.Prelude.{◌≡◌, ◌≢◌, ◌+◌, ◌≤◌, �
 ghost use Rattle.road_files.specs.Asked.{AskWithin, asked_of};
 ghost use Rattle.path_algebra.specs.declared.name.AlgebraName.TheVariants.{Own};
 ghost use Rattle.answer_text.specs.AnswerData.{answer_list};
-ghost use Rattle.batch_run.specs.Inputs.{HasReadPair};
+ghost use Rattle.batch_inputs.specs.Inputs.{HasReadPair};
 ghost use Rattle.path_algebra.specs.Choices.{GoTogether, Under, limit_of, name_of};
 ghost use Rattle.answer_check.specs.Verdicts.{IsVerdict};
 ghost use Rattle.program.specs.Judgements.{RanJudge, outcome_of_pair};

@@ -5,7 +5,7 @@ ghost use Rattle.program.specs.Judgements.{EndsCheck};
 ghost use Rattle.program.specs.Verdicts.{verdict_text, verdict_status};
 
 use answer_check::Verdict;
-use batch_run::RunFault;
+use batch_inputs::RunFault;
 use fault_reports::{report_fault, write_and_flush};
 use text_lines::{Line, RoadWrite, push_spaced};
 

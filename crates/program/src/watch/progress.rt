@@ -1,7 +1,7 @@
 //! The lines that show how far a batch is.
 ghost use Rattle.std.specs.Prelude.{◌≡◌};
 ghost use Rattle.program.specs.Progress.{due_line, hundredths, is_due, line_of_dense, line_of_factoring, line_of_order, line_of_progress, shown_at};
-ghost use Rattle.program.specs.Watching.{IsAdded};
+ghost use Rattle.command_files.specs.Added.{IsAdded};
 
 use batch_run::{Counts, Factoring, Progress, Refusal};
 use text_lines::{Line, RoadWrite, push_number, write_bytes};

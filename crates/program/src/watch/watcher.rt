@@ -4,11 +4,10 @@ ghost use Rattle.program.specs.Accounts.{account_of};
 ghost use Rattle.program.specs.Progress.{all_after, shown_at};
 ghost use Rattle.program.specs.Watching.{HasAccounts, IsAddedIf, Notes};
 
-use crate::files::FileSystem;
-use crate::times::Phase;
 use crate::watch::accounts::write_report;
 use crate::watch::progress::show_report;
 use batch_run::{Progress, Watcher};
+use command_files::{FileSystem, Phase};
 use path_algebra::AlgebraName;
 use text_lines::RoadWrite;
 

@@ -1,9 +1,9 @@
 use Rattle.std.proofs.Common.{inl, inr, refl, ap, subst, Bool, Err}
 use Rattle.std.proofs.lemmas.Result.{err_from_is_err_and}
 use Rattle.road_files.specs.Asked.{asked_of}
-use Rattle.batch_run.specs.declared.faults.RunFault.{RunFault}
+use Rattle.batch_inputs.specs.declared.faults.RunFault.{RunFault}
 use Rattle.batch_run.specs.Causes.{MayStop, fault_of}
-use Rattle.batch_run.specs.Choice.{without_diffusions}
+use Rattle.batch_settings.specs.Choice.{without_diffusions}
 use Rattle.batch_run.specs.Reports.{IsTold, ReportedWhole, ReportedWritten}
 use Rattle.batch_run.specs.Stopping.{Stops}
 use Rattle.batch_run.specs.Factored.{MayTell}

@@ -1,7 +1,7 @@
 use Rattle.std.proofs.Common.{◌≡◌, refl, rules, subst}
 use Rattle.std.specs.Prelude.{Result}
-use Rattle.batch_run.specs.Inputs.{HasReadPair}
-use Rattle.batch_run.specs.declared.faults.RunFault.{RunFault}
+use Rattle.batch_inputs.specs.Inputs.{HasReadPair}
+use Rattle.batch_inputs.specs.declared.faults.RunFault.{RunFault}
 use Rattle.program.proofs.Ended.{after_pair, ends_as}
 use Rattle.program.proofs.answering.answer_pair.Goals as goal
 

@@ -2,7 +2,7 @@ use Rattle.std.proofs.Common.{◌≡◌, ◌≤◌, false, true, rules, subst, s
 use Rattle.std.proofs.Math.Path.{subst⁻¹}
 use Rattle.path_algebra.specs.Choices.{name_of}
 use Rattle.program.specs.Accounts.{accounts_text}
-use Rattle.batch_run.specs.Orders.{IsOrderedFile}
+use Rattle.batch_inputs.specs.Orders.{IsOrderedFile}
 use Rattle.fault_reports.specs.Reports.{EndsAs}
 use Rattle.program.specs.Runs.{gate_is_open}
 use Rattle.program.specs.Watching.{HasAccounts, Notes, outcome_of}

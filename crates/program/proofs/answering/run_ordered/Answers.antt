@@ -1,6 +1,6 @@
 use Rattle.std.proofs.Common.{◌≡◌, rules, subst}
 use Rattle.std.specs.Option.{option_map}
-use Rattle.batch_run.specs.Orders.{HasReadOrdered, IsRunFile}
+use Rattle.batch_inputs.specs.Orders.{HasReadOrdered, IsRunFile}
 use Rattle.program.proofs.answering.run_ordered.Goals as goal
 
 pub returns-clause-read : goal.returns-clause-read

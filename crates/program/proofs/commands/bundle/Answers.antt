@@ -1,13 +1,14 @@
 use Rattle.std.proofs.Common.{◌≡◌, inl, inr, refl, rules, subst}
 use Rattle.std.specs.Option.{option_map}
 use Rattle.std.specs.Prelude.{Result, is_some}
-use Rattle.batch_run.specs.Inputs.{HasReadBundle}
-use Rattle.batch_run.specs.Orders.{IsRunFile}
-use Rattle.batch_run.specs.Ran.{IsBundleFile, IsBundleOf}
-use Rattle.batch_run.specs.declared.faults.RunFault.{RunFault}
-use Rattle.program.specs.Inputs.{opened_input}
-use Rattle.program.specs.Moments.{moment}
-use Rattle.program.specs.Opening.{IsChosen}
+use Rattle.batch_inputs.specs.Inputs.{HasReadBundle}
+use Rattle.batch_inputs.specs.Orders.{IsRunFile}
+use Rattle.batch_inputs.specs.Spelled.{IsBundleOf}
+use Rattle.batch_inputs.specs.InputFaults.{IsBundleFile}
+use Rattle.batch_inputs.specs.declared.faults.RunFault.{RunFault}
+use Rattle.command_files.specs.Inputs.{opened_input}
+use Rattle.command_files.specs.Moments.{moment}
+use Rattle.command_files.specs.Opening.{IsChosen}
 use Rattle.program.proofs.Ended.{after_bundle, ends_as, wanted_made}
 use Rattle.program.proofs.commands.bundle.Goals as goal
 

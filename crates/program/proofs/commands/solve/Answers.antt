@@ -1,9 +1,9 @@
 use Rattle.std.proofs.Common.{◌≡◌, inl, inr, refl, rules, subst}
 use Rattle.std.specs.Option.{option_map}
 use Rattle.std.specs.Prelude.{is_some}
-use Rattle.program.specs.Inputs.{opened_input}
-use Rattle.program.specs.Moments.{moment}
-use Rattle.program.specs.Opening.{IsChosen}
+use Rattle.command_files.specs.Inputs.{opened_input}
+use Rattle.command_files.specs.Moments.{moment}
+use Rattle.command_files.specs.Opening.{IsChosen}
 use Rattle.program.proofs.Ended.{ends_as, wanted_made}
 use Rattle.program.proofs.commands.solve.Goals as goal
 

@@ -4,7 +4,7 @@ use Rattle.text_lines.specs.Rules.{text_read}
 use Rattle.road_files.specs.Asked.{asked_of}
 use Rattle.answer_text.specs.AnswerFiles.{answer_rules}
 use Rattle.answer_text.specs.AnswerData.{answer_list}
-use Rattle.batch_run.specs.Ran.{IsReadAs}
+use Rattle.batch_inputs.specs.Spelled.{IsReadAs}
 use Rattle.program.specs.Verdicts.{IsAnswersFault}
 use Rattle.program.proofs.judging.answers.read_inputs.Goals as goal
 

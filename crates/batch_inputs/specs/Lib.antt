@@ -1,0 +1,6 @@
+pub mod Spelled
+pub mod InputFaults
+pub mod FaultTexts
+pub mod Inputs
+pub mod Orders
+pub mod InputLaws

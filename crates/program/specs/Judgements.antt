@@ -20,6 +20,17 @@ abbrev pub outcome_of_pair : {X : Type 0} → Result X RunFault → Result (Unit
 outcome_of_pair (Ok x) = Ok tt
 outcome_of_pair (Err f) = fault_of_pair f.file f
 
+-- answers were read after a graph and questions, or a fault stopped that, or it came later
+pub record HasReadAnswers {X S : Type 0} (answers answers_after : Input S) (outcome : Result X RunFault) : Type 0 where
+  -- without a fault no read of them failed
+  pub sound : OnOk outcome (answers_after.failures ≡ answers.failures)
+  -- 1 is reported of them exactly if a read of them failed
+  pub failed : (outcome ≡ Err (record { number = 1; file = Answers; line = 0 })) ↔ (answers_after.failures ≢ answers.failures)
+  -- after a fault of the graph or of the questions they are as they were
+  pub last : IfErr outcome (λ f. (f.file ≡ Graph) ⊎ (f.file ≡ Questions) → answers_after ≡ answers)
+  -- at most 2 ^ 32 + 1 reads of them were asked for
+  pub asked : answers_after.asked ≤ answers.asked + 4294967297
+
 -- the answers of one input to the questions of another over the graph of a third were judged, or
 -- this fault stopped it
 pub record RanJudge {G Q S : Type 0} (given : Option ℕ) (first first_after : Input G) (second second_after : Input Q) (third third_after : Input S) (outcome : Result Verdict RunFault) : Type 0 where
@@ -27,23 +38,17 @@ pub record RanJudge {G Q S : Type 0} (given : Option ℕ) (first first_after : I
   pub judged : IfOk outcome (IsJudged first.left second.left third.left given)
   -- how the graph and the questions were read
   pub pair : HasReadPair first first_after second second_after (outcome_of_pair outcome)
-  -- without a fault no read of the answers failed
-  pub sound : OnOk outcome (third_after.failures ≡ third.failures)
+  -- and how the answers were
+  pub read : HasReadAnswers third third_after outcome
   -- a fault of the answers is their first one, or they name an algebra of a caller's own; the graph
   -- and the questions have none
   pub answers : IfErr outcome (λ f. f.file ≡ Answers → IsAnswersFault first.left second.left third.left f ⊎ IsOwnFault first.left second.left third.left f)
   -- 43 is reported only of a limit that does not go with the algebra that the answers name
   pub limit : IfErr outcome (λ f. f.number ≡ 43 → IsLimitFault first.left second.left third.left given)
-  -- 1 is reported of the answers exactly if a read of them failed
-  pub read_answers : (outcome ≡ Err (record { number = 1; file = Answers; line = 0 })) ↔ (third_after.failures ≢ third.failures)
   -- a fault is one of an input, with a number of its own, or want of memory or a limit
   pub kinds : IfErr outcome (λ f. IsReadingFault f ⊎ ((f.file ≡ NoFile) × (f.line ≡ 0) × ((f.number ≡ 3) ⊎ (f.number ≡ 43))))
   -- 1 to 3 have no line
   pub placed : IfErr outcome (λ f. f.number ≤ 3 → f.line ≡ 0)
-  -- the answers are read last: after a fault of the graph or of the questions they are as they were
-  pub last : IfErr outcome (λ f. (f.file ≡ Graph) ⊎ (f.file ≡ Questions) → third_after ≡ third)
-  -- at most 2 ^ 32 + 1 reads of the answers were asked for
-  pub asked : third_after.asked ≤ third.asked + 4294967297
 
 -- the verdict reached the output, and gives the exit status; or it could not be written, which is
 -- reported

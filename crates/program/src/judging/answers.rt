@@ -1,12 +1,12 @@
 //! Judges answers, from bytes to a verdict.
-ghost use Rattle.std.specs.Prelude.{◌≡◌, ◌≢◌, ◌+◌, ◌≤◌, ◌↔◌, ◌⊎◌, Err, IfOk, IfErr, OnOk};
+ghost use Rattle.std.specs.Prelude.{◌≡◌, ◌≢◌, ◌≤◌, ◌⊎◌, IfOk, IfErr};
 ghost use Rattle.road_files.specs.Asked.{AskWithin, asked_of};
 ghost use Rattle.path_algebra.specs.declared.name.AlgebraName.TheVariants.{Own};
 ghost use Rattle.answer_text.specs.AnswerData.{answer_list};
 ghost use Rattle.batch_inputs.specs.Inputs.{HasReadPair};
 ghost use Rattle.path_algebra.specs.Choices.{GoTogether, Under, limit_of, name_of};
 ghost use Rattle.answer_check.specs.Verdicts.{IsVerdict};
-ghost use Rattle.program.specs.Judgements.{RanJudge, outcome_of_pair};
+ghost use Rattle.program.specs.Judgements.{HasReadAnswers, RanJudge, outcome_of_pair};
 ghost use Rattle.program.specs.Verdicts.{AreInputs, IsAnswersFault, IsReadingFault};
 
 use answer_check::{Verdict, check};
@@ -86,15 +86,9 @@ fn read_inputs<G: RoadRead, Q: RoadRead, S: RoadRead>(
         (Q.seen questions_in.new) (outcome_of_pair result) }
     ensures answers { IfErr result (λ f. f.file ≡ File.Answers → IsAnswersFault
         (G.seen graph_in.old).left (Q.seen questions_in.old).left (S.seen answers_in.old).left f) }
-    ensures sound { OnOk result ((S.seen answers_in.new).failures ≡
-        (S.seen answers_in.old).failures) }
-    ensures read_answers { (result ≡ Err (record { number = 1; file = File.Answers; line = 0 }))
-        ↔ ((S.seen answers_in.new).failures ≢ (S.seen answers_in.old).failures) }
+    ensures read_answers { HasReadAnswers (S.seen answers_in.old) (S.seen answers_in.new) result }
     ensures kinds { IfErr result IsReadingFault }
     ensures placed { IfErr result (λ f. f.number ≤ 3 → f.line ≡ 0) }
-    ensures last { IfErr result (λ f.
-        (f.file ≡ File.Graph) ⊎ (f.file ≡ File.Questions) → answers_in.new ≡ answers_in.old) }
-    ensures asked { (S.seen answers_in.new).asked ≤ (S.seen answers_in.old).asked + 4294967297 }
 {
     let mut pair = PairInput {
         graph: graph_in,

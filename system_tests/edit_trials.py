@@ -1,7 +1,8 @@
 """Tries must-fail edits: whether the prover refuses the function that an edit changes.
 
-The edits of a crate are tried in turn, each over what was proved for those before it. Of a crate only the functions that its
-edits change are proved, and those that they call."""
+The edits of a crate are tried in turn, each over what was proved for those before it, and over what the tree has kept of the
+crate's last check (`rt ci` keeps nothing). Of a crate only the functions that its edits change are proved, and those that they
+call."""
 import os
 import re
 import shutil
@@ -99,6 +100,9 @@ class Trial:
 
     def __init__(self, prover, crate, room):
         self.prover, self.crate, self.kept = prover, crate, Path(room) / "kept"
+        before = prover.tree / "crates" / crate / "out/incremental"
+        if before.exists():
+            shutil.copytree(before, self.kept)
 
     def copy(self, folder):
         for part in ("src", "specs", "proofs"):

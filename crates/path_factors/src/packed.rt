@@ -46,16 +46,6 @@ fn repeated<W: Copy>(alloc: Global, walk: W, count: usize) -> Result<Vec<W>, Mem
     Ok(walks)
 }
 
-/// Puts the same walk everywhere.
-fn fill<W: Copy>(walks: &mut Vec<W>, none: W)
-    ensures count { length walks.new.items ≡ length walks.old.items }
-    ensures all { (k : ℕ) → k < length walks.new.items → slice_index_or walks.new.items k none ≡ none }
-{
-    for k in 0..walks.len() {
-        walks[k] = none;
-    }
-}
-
 impl<W: Copy> PackedRows<W> {
     ghost use Rattle.path_factors.specs.Factors.{row_of};
     ghost use Rattle.path_factors.specs.Edges.{AreBlank, AreEdgesImproved};
@@ -82,7 +72,9 @@ impl<W: Copy> PackedRows<W> {
 
     /// The same edges, with the same walk both ways at each.
     pub(crate) fn blank_copy(&self, alloc: Global, none: W) -> Result<Self, Memory>
-        ensures { IfOk result (λ rows. heads_in rows.leaving ≡ heads_in self.now.leaving) }
+        ensures heads { IfOk result (λ rows. heads_in rows.leaving ≡ heads_in self.now.leaving) }
+        ensures risers { IfOk result (λ rows. AreBlank none rows.leaving) }
+        ensures fallers { IfOk result (λ rows. AreBlank none rows.entering) }
     {
         let starts = self.starts.to_vec(alloc)?;
         let places = self.places.to_vec(alloc)?;
@@ -139,17 +131,6 @@ impl<W: Copy> PackedRows<W> {
         ensures { result.now ≡ row_of (heads_in self.now.leaving) i }
     {
         row_between(&self.starts, &self.places, i)
-    }
-
-    /// Puts the same walk at each link.
-    pub(crate) fn clear(&mut self, none: W)
-        ensures leaving { heads_in self.new.leaving ≡ heads_in self.old.leaving }
-        ensures entering { heads_in self.new.entering ≡ heads_in self.old.leaving }
-        ensures risers { AreBlank none self.new.leaving }
-        ensures fallers { AreBlank none self.new.entering }
-    {
-        fill(&mut self.leaving, none);
-        fill(&mut self.entering, none);
     }
 
     /// Makes both links of an edge of a place no worse than these, where `j` is its index.

@@ -2,6 +2,7 @@
 ghost use Rattle.std.specs.Prelude.{◌≡◌, IfOk, IfErr};
 ghost use Rattle.std.specs.Arc.{arc_value};
 ghost use Rattle.path_factors.specs.Factors.{ArePlaces, CoversArcs};
+ghost use Rattle.path_factors.specs.Edges.{AreBlank};
 ghost use Rattle.path_factors.specs.Eliminating.{AreClosedTo};
 ghost use Rattle.path_factors.specs.Heads.{IsOutline, heads_in};
 ghost use Rattle.path_factors.specs.Reweighing.{Fits, IsReason, JoinsNoOthers};
@@ -25,7 +26,7 @@ pub enum Unfit {
 }
 
 impl<'g, A: ComposingAlgebra> Weighing<'g, A> {
-    /// No walk at any link.
+    /// Rows with no walk at any link, before the first arc.
     fn open(
         algebra: A,
         graph: &'g OutGraph,
@@ -35,19 +36,20 @@ impl<'g, A: ComposingAlgebra> Weighing<'g, A> {
     ) -> Self
         requires places { ArePlaces graph.now.vertices (arc_value order).value.items places.items }
         requires outline { IsOutline graph.now places.items (heads_in rows.leaving) }
+        requires risers { AreBlank (A.walks algebra).no_walk rows.leaving }
+        requires fallers { AreBlank (A.walks algebra).no_walk rows.entering }
         ensures algebra { result.algebra ≡ algebra }
         ensures roads { result.roads ≡ graph.now }
         ensures order { result.factor.order ≡ (arc_value order).value.items }
     {
         composition_holds(algebra);
-        let mut cleared = rows;
-        cleared.clear(algebra.no_walk());
+        let _ = rows.len();
         Weighing {
             algebra,
             graph,
             order,
             places,
-            rows: cleared,
+            rows,
         }
     }
 
@@ -67,7 +69,7 @@ impl<'g, A: ComposingAlgebra> Weighing<'g, A> {
         }
     }
 
-    /// The factor of a graph by an order, over rows with its outline.
+    /// The factor of a graph by an order, over rows with its outline and no walk at any link.
     pub(crate) fn weigh(
         algebra: A,
         graph: &'g OutGraph,
@@ -77,6 +79,8 @@ impl<'g, A: ComposingAlgebra> Weighing<'g, A> {
     ) -> Factors<A>
         requires places { ArePlaces graph.now.vertices (arc_value order).value.items places.items }
         requires outline { IsOutline graph.now places.items (heads_in rows.leaving) }
+        requires risers { AreBlank (A.walks algebra).no_walk rows.leaving }
+        requires fallers { AreBlank (A.walks algebra).no_walk rows.entering }
         ensures algebra { result.algebra ≡ algebra }
         ensures roads { result.roads ≡ graph.now }
         ensures order { result.factor.order ≡ (arc_value order).value.items }

@@ -1,4 +1,5 @@
 use Rattle.std.proofs.Common.{◌≡◌, ◌∙◌, List, ℕ, sym, subst}
+use Rattle.path_factors.specs.Edges.{AreBlank}
 use Rattle.path_factors.specs.Heads.{AreHeads, IsOutline, heads_in}
 use Rattle.path_factors.specs.Reweighing.{HasEdges}
 use Rattle.path_factors.specs.State.{FactorState}
@@ -15,5 +16,13 @@ weigh-requires-clause-outline g c κs within =
       are = subst (λ k. AreHeads k (heads_in s.rows.leaving)) n c.self.invariant.heads;
       joined = subst (λ (f : FactorState g.row.A.Denot g.row.A-Walk.Denot). HasEdges G f.factor) (sym c.self.view_is) fits.arcs;
     } in
-    subst (λ (h : List (List ℕ)). IsOutline G c.in_ok-places.places.items h) (sym c.in_ok-rows.ensures)
+    subst (λ (h : List (List ℕ)). IsOutline G c.in_ok-places.places.items h) (sym c.in_ok-rows.ensures.heads)
     (subst (λ (p : List ℕ). IsOutline G p (heads_in s.rows.leaving)) (sym places) outline)
+
+pub weigh-requires-clause-risers : goal.weigh-requires-clause-risers
+weigh-requires-clause-risers g c κs within =
+    subst (λ (w : g.row.A-Walk.Denot). AreBlank w c.in_ok-rows.rows.leaving) c.no_walk.ensures c.in_ok-rows.ensures.risers
+
+pub weigh-requires-clause-fallers : goal.weigh-requires-clause-fallers
+weigh-requires-clause-fallers g c κs within =
+    subst (λ (w : g.row.A-Walk.Denot). AreBlank w c.in_ok-rows.rows.entering) c.no_walk.ensures c.in_ok-rows.ensures.fallers

@@ -17,8 +17,8 @@ invariant_of-blank g c =
     subst (λ (l : List ℕ). ArePacked l c.in_ok-places.places.items) (sym starts)
     (subst (λ (l : List ℕ). ArePacked s.starts.items l) (sym places) packed)
 
-pub returns : goal.returns
-returns g c =
+pub returns-clause-heads : goal.returns-clause-heads
+returns-clause-heads g c =
     let s = c.self.inside in
     let starts : c.in_ok-starts.starts.items ≡ s.starts.items = c.in_ok-starts.ensures.items_if_clones_equal (λ x y is. is) ∙ c.deref.ensures.value in
     let places : c.in_ok-places.places.items ≡ s.places.items = c.in_ok-places.ensures.items_if_clones_equal (λ x y is. is) ∙ c.deref-2.ensures.value in

@@ -55,14 +55,19 @@ listed_by_search xs x (Err i) up is =
 
 -- where two lists that rise have the same number, later ones that they share come later in both
 pub seek_more : (xs ys : List ℕ) → IsStrictlyIncreasing xs → IsStrictlyIncreasing ys → (q j : ℕ) → q < length xs → get_or xs q 0 ≡ get_or ys j 0 →
-    (p m : ℕ) → j + 1 ≤ p → p < length ys → m < length xs → get_or xs m 0 ≡ get_or ys p 0 → q ≤ m
-seek_more xs ys up also q j inside same p m after lt low is = elim (cases_lt m q) [
-  | inr not_before ↦ not_before
-  | inl less ↦
-      let one = rises_between xs up m q less inside in
-      let two = rises_between ys also j p (omega (arith, after)) lt in
-      absurd (omega (arith, one, two, same, is))
-]
+    (p m : ℕ) → j + 1 ≤ p → p < length ys → m < length xs → get_or xs m 0 ≡ get_or ys p 0 → q + 1 ≤ m
+seek_more xs ys up also q j inside same p m after lt low is =
+    let two = rises_between ys also j p (omega (arith, after)) lt in
+    elim (cases_lt q m) [
+      | inl past ↦ omega (arith, past)
+      | inr not_past ↦ elim (cases_lt m q) [
+        | inl less ↦ let one = rises_between xs up m q less inside in absurd (omega (arith, one, two, same, is))
+        | inr not_before ↦
+            let at_q : m ≡ q = omega (arith, not_past, not_before) in
+            let one = ap (λ (k : ℕ). get_or xs k 0) at_q in
+            absurd (omega (arith, one, two, same, is))
+      ]
+    ]
 
 module _ {W : Type 0} where
   pub heads_row : (rows : List (List (Link W))) (i : ℕ) → row_of (heads_in rows) i ≡ map (λ (k : Link W). k.place) (row_of rows i)

@@ -183,6 +183,7 @@ impl<'g, A: ComposingAlgebra> Weighing<'g, A> {
             let second = self.edge(v, j);
             q = seek(self.rows.heads(first.place as usize), q, second.place);
             self.join(v, first, second, q);
+            q += 1;
         }
     }
 

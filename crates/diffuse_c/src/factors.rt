@@ -5,6 +5,7 @@ ghost use Rattle.path_algebra.specs.Choices.{IsAlgebra, OfAlgebra};
 ghost use Rattle.answer_lists.specs.Answers.{IsOneOf};
 ghost use Rattle.answer_lists.specs.Factoring.{IsTooHeavy};
 ghost use Rattle.diffuse_c.specs.Holding.{OfGraph};
+ghost use Rattle.diffuse_c.specs.Keeping.{KeepsHeld};
 
 use crate::handle::{DiffuseGraph, put, take};
 use crate::status::CLOSED;
@@ -20,9 +21,7 @@ pub extern "C" fn diffuse_graph_factor(
     handle: &mut DiffuseGraph,
     algebra: u32,
 ) -> i32
-    ensures kept { handle.new.held.roads ≡ handle.old.held.roads }
-    ensures stop { handle.new.held.stop ≡ handle.old.held.stop }
-    ensures numbers { handle.new.held.numbers ≡ handle.old.held.numbers }
+    ensures kept { KeepsHeld handle.old.held handle.new.held }
     ensures heavy { OfGraph handle.old.held.roads (λ g. result ≡ pos 8 → OfAlgebra algebra 0
         (λ V A. IsTooHeavy A g)) }
     ensures algebra { OfGraph handle.old.held.roads

@@ -1,10 +1,11 @@
 //! The calls that open and close handles, and report the size of a graph.
 
-ghost use Rattle.std.specs.Prelude.{◌≡◌, ◌≢◌, ◌↔◌, ◌∷◌, [], length, pos, MatchOption, Some, None, true};
-ghost use Rattle.road_graph.specs.GraphData.{IsGraph};
+ghost use Rattle.std.specs.Prelude.{◌≡◌, ◌↔◌, ◌∷◌, [], length, pos, MatchOption, Some, None, true};
 ghost use Rattle.answer_lists.specs.Answers.{IsOneOf};
 ghost use Rattle.diffuse_c.specs.Holding.{has_graph};
-ghost use Rattle.diffuse_c.specs.Lent.{IsBadlyJoined, IsTooLarge, lent};
+ghost use Rattle.diffuse_c.specs.Keeping.{KeepsHeld, KeepsUnlessOpened, OpensSecond};
+ghost use Rattle.diffuse_c.specs.Lent.{lent};
+ghost use Rattle.diffuse_c.specs.Refusals.{ReportsArcs, ReportsHandles};
 
 use crate::arcs::DiffuseArc;
 use crate::handle::{DiffuseGraph, put, take};
@@ -24,16 +25,10 @@ pub extern "C" fn diffuse_graph_open(
     handle: &mut DiffuseGraph,
 ) -> i32
     ensures graph { result ≡ pos 0 → handle.new.held.roads ≡ Some (lent vertices arcs.now) }
-    ensures kept { result ≢ pos 0 → handle.new.held.roads ≡ handle.old.held.roads }
-    ensures stop { handle.new.held.stop ≡ handle.old.held.stop }
-    ensures numbers { handle.new.held.numbers ≡ handle.old.held.numbers }
+    ensures kept { KeepsUnlessOpened handle.old.held handle.new.held result }
     ensures status { IsOneOf (0 ∷ 3 ∷ 5 ∷ 16 ∷ 17 ∷ []) result }
     ensures open { (result ≡ pos 5) ↔ (has_graph handle.old.held.roads ≡ true) }
-    ensures limit { (result ≡ pos 16) ↔ ((handle.old.held.roads ≡ None) × IsTooLarge vertices
-        arcs.now) }
-    ensures bad { (result ≡ pos 17) ↔ ((handle.old.held.roads ≡ None) × IsBadlyJoined vertices
-        arcs.now) }
-    ensures roads { IsOneOf (0 ∷ 3 ∷ []) result → IsGraph (lent vertices arcs.now) }
+    ensures arcs { ReportsArcs handle.old.held.roads vertices arcs.now (0 ∷ 3 ∷ []) result }
 {
     if handle.is_open {
         return OPEN;
@@ -55,19 +50,11 @@ pub extern "C" fn diffuse_graph_share(
     handle: &mut DiffuseGraph,
     second: &mut DiffuseGraph,
 ) -> i32
-    ensures kept { handle.new.held.roads ≡ handle.old.held.roads }
-    ensures stop { handle.new.held.stop ≡ handle.old.held.stop }
-    ensures numbers { handle.new.held.numbers ≡ handle.old.held.numbers }
+    ensures kept { KeepsHeld handle.old.held handle.new.held }
     ensures graph { result ≡ pos 0 → second.new.held.roads ≡ handle.old.held.roads }
-    ensures unchanged { result ≢ pos 0 → second.new.held.roads ≡ second.old.held.roads }
-    ensures unstopped { result ≡ pos 0 → second.new.held.stop ≡ None }
-    ensures second_numbers { result ≡ pos 0 → second.new.held.numbers ≡ handle.old.held.numbers }
-    ensures numbers_kept { result ≢ pos 0 → second.new.held.numbers ≡ second.old.held.numbers }
-    ensures stop_kept { result ≢ pos 0 → second.new.held.stop ≡ second.old.held.stop }
+    ensures second { OpensSecond second.old.held second.new.held handle.old.held.numbers result }
     ensures status { IsOneOf (0 ∷ 3 ∷ 4 ∷ 5 ∷ []) result }
-    ensures open { (result ≡ pos 5) ↔ (has_graph second.old.held.roads ≡ true) }
-    ensures closed { (result ≡ pos 4) ↔ ((second.old.held.roads ≡ None) ×
-        (handle.old.held.roads ≡ None)) }
+    ensures handles { ReportsHandles handle.old.held.roads second.old.held.roads result }
 {
     if second.is_open {
         return OPEN;
@@ -105,9 +92,7 @@ pub extern "C" fn diffuse_graph_close(alloc: Global, handle: &mut DiffuseGraph)
 /// How many vertices the graph of a handle has; 0 if it is closed.
 #[unsafe(no_mangle)]
 pub extern "C" fn diffuse_graph_vertices(alloc: Global, handle: &mut DiffuseGraph) -> u32
-    ensures kept { handle.new.held.roads ≡ handle.old.held.roads }
-    ensures stop { handle.new.held.stop ≡ handle.old.held.stop }
-    ensures numbers { handle.new.held.numbers ≡ handle.old.held.numbers }
+    ensures kept { KeepsHeld handle.old.held handle.new.held }
     ensures count { MatchOption handle.old.held.roads (result ≡ 0) (λ g. result ≡ g.vertices) }
 {
     let Some(owner) = take(alloc, handle) else {
@@ -121,9 +106,7 @@ pub extern "C" fn diffuse_graph_vertices(alloc: Global, handle: &mut DiffuseGrap
 /// How many arcs the graph of a handle has; 0 if it is closed.
 #[unsafe(no_mangle)]
 pub extern "C" fn diffuse_graph_arcs(alloc: Global, handle: &mut DiffuseGraph) -> usize
-    ensures kept { handle.new.held.roads ≡ handle.old.held.roads }
-    ensures stop { handle.new.held.stop ≡ handle.old.held.stop }
-    ensures numbers { handle.new.held.numbers ≡ handle.old.held.numbers }
+    ensures kept { KeepsHeld handle.old.held handle.new.held }
     ensures count { MatchOption handle.old.held.roads (result ≡ 0) (λ g. result ≡ length g.arcs) }
 {
     let Some(owner) = take(alloc, handle) else {

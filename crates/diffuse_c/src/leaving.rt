@@ -1,10 +1,12 @@
 //! The arcs that leave a vertex, written to a list of the caller.
 
-ghost use Rattle.std.specs.Prelude.{◌≡◌, ◌↔◌, ◌<◌, ◌≤◌, ◌∷◌, [], drop, length, map, pos, take, None};
+ghost use Rattle.std.specs.Prelude.{◌≡◌, ◌↔◌, ◌≤◌, ◌∷◌, [], drop, length, map, pos, take, None};
 ghost use Rattle.road_graph.specs.GraphData.{HasVertex};
 ghost use Rattle.answer_lists.specs.Answers.{IsFound, IsOneOf};
 ghost use Rattle.diffuse_c.specs.Holding.{OfGraph};
+ghost use Rattle.diffuse_c.specs.Keeping.{KeepsHeld};
 ghost use Rattle.diffuse_c.specs.Leaving.{AreArcsFrom, IsCountFrom, arc_out_of};
+ghost use Rattle.diffuse_c.specs.Rooms.{FillsRoom};
 
 use crate::arcs::DiffuseArc;
 use crate::handle::{DiffuseGraph, put, take};
@@ -34,10 +36,7 @@ fn answer(graph: &OutGraph, v: Vertex, arcs: &mut [DiffuseArc], count: &mut usiz
     requires { HasVertex graph.now v }
     ensures count { IsCountFrom graph.now v count.new }
     ensures arcs { result ≡ pos 0 → AreArcsFrom graph.now v (take count.new arcs.new) }
-    ensures short { result ≡ pos 2 → length arcs.old < count.new }
-    ensures long { result ≡ pos 0 → count.new ≤ length arcs.old }
-    ensures rest { result ≡ pos 0 → drop count.new arcs.new ≡ drop count.new arcs.old }
-    ensures room { (result ≡ pos 0 → ⊥) → arcs.new ≡ arcs.old }
+    ensures room { FillsRoom count.new arcs.old arcs.new result }
     ensures found { IsFound result }
 {
     let roads = graph.roads_from(v);
@@ -60,17 +59,12 @@ pub extern "C" fn diffuse_graph_arcs_from(
     arcs: &mut [DiffuseArc],
     count: &mut usize,
 ) -> i32
-    ensures kept { handle.new.held.roads ≡ handle.old.held.roads }
-    ensures stop { handle.new.held.stop ≡ handle.old.held.stop }
-    ensures numbers { handle.new.held.numbers ≡ handle.old.held.numbers }
+    ensures kept { KeepsHeld handle.old.held handle.new.held }
     ensures count { OfGraph handle.old.held.roads (λ g. IsFound result →
         IsCountFrom g vertex count.new) }
     ensures arcs { OfGraph handle.old.held.roads (λ g. result ≡ pos 0 →
         AreArcsFrom g vertex (take count.new arcs.new)) }
-    ensures short { result ≡ pos 2 → length arcs.old < count.new }
-    ensures long { result ≡ pos 0 → count.new ≤ length arcs.old }
-    ensures rest { result ≡ pos 0 → drop count.new arcs.new ≡ drop count.new arcs.old }
-    ensures room { (result ≡ pos 0 → ⊥) → arcs.new ≡ arcs.old }
+    ensures room { FillsRoom count.new arcs.old arcs.new result }
     ensures place { (IsFound result → ⊥) → count.new ≡ count.old }
     ensures vertex { OfGraph handle.old.held.roads
         (λ g. (result ≡ pos 17) ↔ (HasVertex g vertex → ⊥)) }

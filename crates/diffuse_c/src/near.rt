@@ -4,8 +4,10 @@ ghost use Rattle.std.specs.Prelude.{◌≡◌, ◌↔◌, ◌∷◌, [], pos, Al
 ghost use Rattle.road_graph.specs.GraphData.{HasVertex};
 ghost use Rattle.path_algebra.specs.Choices.{OfAlgebra};
 ghost use Rattle.answer_lists.specs.Answers.{IsFound, IsOneOf, ReportsRefusals};
-ghost use Rattle.answer_lists.specs.Near.{AreLongOrNone, AreNearLists, IsReachedCount, IsSameAfter};
+ghost use Rattle.answer_lists.specs.Near.{AreNearLists, IsReachedCount};
 ghost use Rattle.diffuse_c.specs.Holding.{OfGraph};
+ghost use Rattle.diffuse_c.specs.Keeping.{KeepsHeld};
+ghost use Rattle.diffuse_c.specs.Rooms.{FillsNear, near_places};
 
 use crate::handle::{DiffuseGraph, put, take};
 use crate::owners::Owner;
@@ -31,24 +33,15 @@ pub extern "C" fn diffuse_graph_near(
     parents: &mut [u32],
     count: &mut usize,
 ) -> i32
-    ensures kept { handle.new.held.roads ≡ handle.old.held.roads }
-    ensures stop { handle.new.held.stop ≡ handle.old.held.stop }
-    ensures numbers { handle.new.held.numbers ≡ handle.old.held.numbers }
+    ensures kept { KeepsHeld handle.old.held handle.new.held }
     ensures count { OfGraph handle.old.held.roads (λ g. IsFound result → OfAlgebra algebra limit
         (λ V A. IsReachedCount A g sources.now count.new)) }
     ensures near { OfGraph handle.old.held.roads (λ g. result ≡ pos 0 → OfAlgebra algebra limit
         (λ V A. AreNearLists A g sources.now count.new vertices.new codes.new hops.new
         parents.new)) }
-    ensures rest { result ≡ pos 0 → IsSameAfter count.new vertices.old vertices.new ×
-        IsSameAfter count.new codes.old codes.new × IsSameAfter count.new hops.old hops.new ×
-        IsSameAfter count.new parents.old parents.new }
-    ensures short { result ≡ pos 2 → AreLongOrNone count.new vertices.old codes.old hops.old
-        parents.old → ⊥ }
-    ensures long { result ≡ pos 0 → AreLongOrNone count.new vertices.old codes.old hops.old
-        parents.old }
-    ensures lists { (result ≡ pos 0 → ⊥) → (vertices.new ≡ vertices.old) × (codes.new ≡ codes.old) ×
-        (hops.new ≡ hops.old) × (parents.new ≡ parents.old) }
-    ensures place { (IsFound result → ⊥) → count.new ≡ count.old }
+    ensures places { FillsNear
+        (near_places vertices.old codes.old hops.old parents.old count.old)
+        (near_places vertices.new codes.new hops.new parents.new count.new) result }
     ensures refusals { OfGraph handle.old.held.roads
         (λ g. ReportsRefusals (All (HasVertex g) sources.now) algebra limit result) }
     ensures closed { (result ≡ pos 4) ↔ (handle.old.held.roads ≡ None) }

@@ -1,11 +1,13 @@
 //! The calls that answer questions: a route, a tree, and whether a tree is right.
 
-ghost use Rattle.std.specs.Prelude.{◌≡◌, ◌↔◌, ◌<◌, ◌≤◌, ◌+◌, ◌∷◌, [], drop, length, pos, All, IsSome, None};
+ghost use Rattle.std.specs.Prelude.{◌≡◌, ◌↔◌, ◌+◌, ◌∷◌, [], pos, All, IsSome, None};
 ghost use Rattle.road_graph.specs.GraphData.{HasVertex};
-ghost use Rattle.path_algebra.specs.Choices.{IsAlgebra, OfAlgebra};
-ghost use Rattle.answer_lists.specs.Answers.{HasBoth, HavePlaces, IsAnswered, IsFound, IsOneOf, ReportsListRefusals, ReportsRoute};
+ghost use Rattle.path_algebra.specs.Choices.{OfAlgebra};
+ghost use Rattle.answer_lists.specs.Answers.{HasBoth, HavePlaces, IsAnswered, IsFound, IsOneOf, ReportsListRefusals, ReportsRefusals, ReportsRoute};
 ghost use Rattle.answer_lists.specs.Tree.{AreTreeLists, AreWantedLists, HaveAllOrNone, IsFirstRefuted};
 ghost use Rattle.diffuse_c.specs.Holding.{OfGraph};
+ghost use Rattle.diffuse_c.specs.Keeping.{KeepsHeld};
+ghost use Rattle.diffuse_c.specs.Rooms.{FillsRoom};
 
 use crate::handle::{DiffuseGraph, put, take};
 use crate::owners::Owner;
@@ -33,20 +35,13 @@ pub extern "C" fn diffuse_graph_route(
     hops: &mut u32,
     room: &mut [u32],
 ) -> i32
-    ensures kept { handle.new.held.roads ≡ handle.old.held.roads }
-    ensures stop { handle.new.held.stop ≡ handle.old.held.stop }
-    ensures numbers { handle.new.held.numbers ≡ handle.old.held.numbers }
+    ensures kept { KeepsHeld handle.old.held handle.new.held }
     ensures tells { OfGraph handle.old.held.roads (λ g. IsAnswered result → OfAlgebra algebra limit
         (λ V A. ReportsRoute A g source target result code.new hops.new room.new)) }
-    ensures short { result ≡ pos 2 → length room.old < hops.new + 1 }
-    ensures long { result ≡ pos 0 → hops.new + 1 ≤ length room.old }
-    ensures room { (result ≡ pos 0 → ⊥) → room.new ≡ room.old }
-    ensures rest { result ≡ pos 0 → drop (hops.new + 1) room.new ≡ drop (hops.new + 1) room.old }
+    ensures room { FillsRoom (hops.new + 1) room.old room.new result }
     ensures places { (IsFound result → ⊥) → (code.new ≡ code.old) × (hops.new ≡ hops.old) }
-    ensures vertex { OfGraph handle.old.held.roads
-        (λ g. (result ≡ pos 17) ↔ (HasBoth g source target → ⊥)) }
-    ensures algebra { OfGraph handle.old.held.roads
-        (λ g. (result ≡ pos 43) ↔ (HasBoth g source target × (IsAlgebra algebra limit → ⊥))) }
+    ensures refusals { OfGraph handle.old.held.roads
+        (λ g. ReportsRefusals (HasBoth g source target) algebra limit result) }
     ensures closed { (result ≡ pos 4) ↔ (handle.old.held.roads ≡ None) }
     ensures stopped { result ≡ pos 45 → IsSome handle.old.held.stop }
     ensures status { IsOneOf (0 ∷ 1 ∷ 2 ∷ 3 ∷ 4 ∷ 17 ∷ 43 ∷ 45 ∷ []) result }
@@ -83,9 +78,7 @@ pub extern "C" fn diffuse_graph_tree(
     hops: &mut [u32],
     parents: &mut [u32],
 ) -> i32
-    ensures kept { handle.new.held.roads ≡ handle.old.held.roads }
-    ensures stop { handle.new.held.stop ≡ handle.old.held.stop }
-    ensures numbers { handle.new.held.numbers ≡ handle.old.held.numbers }
+    ensures kept { KeepsHeld handle.old.held handle.new.held }
     ensures tree { OfGraph handle.old.held.roads (λ g. result ≡ pos 0 → OfAlgebra algebra limit
         (λ V A. AreWantedLists A g sources.now codes.new hops.new parents.new)) }
     ensures lists { (result ≡ pos 0 → ⊥) → (codes.new ≡ codes.old) × (hops.new ≡ hops.old) ×
@@ -129,9 +122,7 @@ pub extern "C" fn diffuse_graph_check(
     vertex: &mut u32,
     reason: &mut u32,
 ) -> i32
-    ensures kept { handle.new.held.roads ≡ handle.old.held.roads }
-    ensures stop { handle.new.held.stop ≡ handle.old.held.stop }
-    ensures numbers { handle.new.held.numbers ≡ handle.old.held.numbers }
+    ensures kept { KeepsHeld handle.old.held handle.new.held }
     ensures right { OfGraph handle.old.held.roads (λ g. result ≡ pos 0 → OfAlgebra algebra limit
         (λ V A. AreTreeLists A g sources.now codes.now hops.now parents.now)) }
     ensures wrong { OfGraph handle.old.held.roads (λ g. result ≡ pos 6 → OfAlgebra algebra limit

@@ -5,6 +5,7 @@ ghost use Rattle.text_lines.specs.Rules.{text_read};
 ghost use Rattle.graph_text.specs.GraphFiles.{gr_rules};
 ghost use Rattle.answer_lists.specs.Answers.{IsOneOf};
 ghost use Rattle.diffuse_c.specs.Holding.{has_graph};
+ghost use Rattle.diffuse_c.specs.Keeping.{KeepsUnlessOpened};
 ghost use Rattle.diffuse_c.specs.Texts.{IsGraphOf, IsReadFaultOf, IsFaultReported, IsShortOfMemory, IsTooLongText, RunsOutWithin};
 
 use crate::handle::{DiffuseGraph, put};
@@ -105,9 +106,7 @@ pub extern "C" fn diffuse_graph_read(
     line: &mut u64,
 ) -> i32
     ensures graph { result ≡ pos 0 → IsGraphOf bytes.now handle.new.held.roads }
-    ensures kept { result ≢ pos 0 → handle.new.held.roads ≡ handle.old.held.roads }
-    ensures stop { handle.new.held.stop ≡ handle.old.held.stop }
-    ensures numbers { handle.new.held.numbers ≡ handle.old.held.numbers }
+    ensures kept { KeepsUnlessOpened handle.old.held handle.new.held result }
     ensures status { IsOneOf (0 ∷ 2 ∷ 3 ∷ 5 ∷ []) result ⊎ IsFaultReported bytes.now result
         line.new }
     ensures memory { result ≡ pos 3 → IsShortOfMemory bytes.now }

@@ -1,12 +1,13 @@
 //! The call that opens a handle with other arcs, over the factors of another one.
 
-ghost use Rattle.std.specs.Prelude.{◌≡◌, ◌≢◌, ◌↔◌, ◌∷◌, [], pos, Some, None, true, IfOk, IfErr};
-ghost use Rattle.road_graph.specs.GraphData.{IsGraph};
+ghost use Rattle.std.specs.Prelude.{◌≡◌, ◌∷◌, [], pos, Some, None, IfOk, IfErr};
 ghost use Rattle.path_factors.specs.Reweighing.{JoinsNoOthers};
 ghost use Rattle.answer_lists.specs.Answers.{IsOneOf};
 ghost use Rattle.answer_lists.specs.Reweighing.{IsHeavy};
-ghost use Rattle.diffuse_c.specs.Holding.{OfGraph, has_graph};
-ghost use Rattle.diffuse_c.specs.Lent.{Fits, IsBadlyJoined, IsTooLarge, lent};
+ghost use Rattle.diffuse_c.specs.Holding.{OfGraph};
+ghost use Rattle.diffuse_c.specs.Keeping.{KeepsHeld, OpensSecond};
+ghost use Rattle.diffuse_c.specs.Lent.{Fits, lent};
+ghost use Rattle.diffuse_c.specs.Refusals.{ReportsArcs, ReportsHandles};
 ghost use Rattle.diffuse_c.specs.Reweighing.{IsReweighFault};
 
 use crate::arcs::DiffuseArc;
@@ -50,30 +51,18 @@ pub extern "C" fn diffuse_graph_reweigh(
     arcs: &[DiffuseArc],
     second: &mut DiffuseGraph,
 ) -> i32
-    ensures kept { handle.new.held.roads ≡ handle.old.held.roads }
-    ensures stop { handle.new.held.stop ≡ handle.old.held.stop }
-    ensures numbers { handle.new.held.numbers ≡ handle.old.held.numbers }
+    ensures kept { KeepsHeld handle.old.held handle.new.held }
     ensures graph { OfGraph handle.old.held.roads (λ g. result ≡ pos 0 →
         second.new.held.roads ≡ Some (lent g.vertices arcs.now)) }
-    ensures unchanged { result ≢ pos 0 → second.new.held.roads ≡ second.old.held.roads }
-    ensures unstopped { result ≡ pos 0 → second.new.held.stop ≡ None }
-    ensures second_numbers { result ≡ pos 0 → second.new.held.numbers ≡ None }
-    ensures numbers_kept { result ≢ pos 0 → second.new.held.numbers ≡ second.old.held.numbers }
-    ensures stop_kept { result ≢ pos 0 → second.new.held.stop ≡ second.old.held.stop }
+    ensures second { OpensSecond second.old.held second.new.held None result }
     ensures status { IsOneOf (0 ∷ 3 ∷ 4 ∷ 5 ∷ 8 ∷ 16 ∷ 17 ∷ 44 ∷ []) result }
-    ensures open { (result ≡ pos 5) ↔ (has_graph second.old.held.roads ≡ true) }
-    ensures closed { (result ≡ pos 4) ↔ ((second.old.held.roads ≡ None) ×
-        (handle.old.held.roads ≡ None)) }
-    ensures limit { OfGraph handle.old.held.roads (λ g. (result ≡ pos 16) ↔
-        ((second.old.held.roads ≡ None) × IsTooLarge g.vertices arcs.now)) }
-    ensures bad { OfGraph handle.old.held.roads (λ g. (result ≡ pos 17) ↔
-        ((second.old.held.roads ≡ None) × IsBadlyJoined g.vertices arcs.now)) }
+    ensures handles { ReportsHandles handle.old.held.roads second.old.held.roads result }
+    ensures arcs { OfGraph handle.old.held.roads (λ g. ReportsArcs second.old.held.roads g.vertices
+        arcs.now (0 ∷ 3 ∷ 8 ∷ 44 ∷ []) result) }
     ensures heavy { OfGraph handle.old.held.roads (λ g. result ≡ pos 8 →
         IsHeavy (lent g.vertices arcs.now)) }
     ensures link { OfGraph handle.old.held.roads (λ g. result ≡ pos 44 →
         JoinsNoOthers (lent g.vertices arcs.now) g → ⊥) }
-    ensures roads { OfGraph handle.old.held.roads (λ g. IsOneOf (0 ∷ 3 ∷ 8 ∷ 44 ∷ []) result →
-        IsGraph (lent g.vertices arcs.now)) }
 {
     if second.is_open {
         return OPEN;

@@ -5,6 +5,7 @@ ghost use Rattle.path_algebra.specs.Choices.{OfAlgebra};
 ghost use Rattle.answer_lists.specs.Answers.{IsOneOf, ReportsListRefusals};
 ghost use Rattle.answer_lists.specs.Table.{AreEndsIn, AreTableCodes, HasPlaces};
 ghost use Rattle.diffuse_c.specs.Holding.{OfGraph};
+ghost use Rattle.diffuse_c.specs.Keeping.{KeepsHeld};
 
 use crate::handle::{DiffuseGraph, put, take};
 use crate::owners::Owner;
@@ -26,9 +27,7 @@ pub extern "C" fn diffuse_graph_table(
     targets: &[u32],
     codes: &mut [u64],
 ) -> i32
-    ensures kept { handle.new.held.roads ≡ handle.old.held.roads }
-    ensures stop { handle.new.held.stop ≡ handle.old.held.stop }
-    ensures numbers { handle.new.held.numbers ≡ handle.old.held.numbers }
+    ensures kept { KeepsHeld handle.old.held handle.new.held }
     ensures table { OfGraph handle.old.held.roads (λ g. result ≡ pos 0 → OfAlgebra algebra limit
         (λ V A. AreTableCodes A g sources.now targets.now codes.new)) }
     ensures places { (result ≡ pos 0 → ⊥) → codes.new ≡ codes.old }

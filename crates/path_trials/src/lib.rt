@@ -7,25 +7,17 @@
 #[cfg(test)]
 mod algebras;
 #[cfg(test)]
-mod askers;
-#[cfg(test)]
 mod cores;
 #[cfg(test)]
 mod ends;
 #[cfg(test)]
-mod factors;
-#[cfg(test)]
 mod graphs;
-#[cfg(test)]
-mod near;
 #[cfg(test)]
 mod orders;
 #[cfg(test)]
 mod plain_solver;
 #[cfg(test)]
 mod queues;
-#[cfg(test)]
-mod reweighed;
 #[cfg(test)]
 mod road_guard;
 #[cfg(test)]

@@ -1,74 +1,20 @@
 //! Labels worked out by hand, as far as a target and from several sources; for each algebra,
 //! `system_tests/worked` tries them.
 
-ghost use Rattle.std.specs.Prelude.{◌≡◌, length};
-
 use crate::graphs::{FIVE, graph_of};
-use path_algebra::{Labels, PathAlgebra, Shortest};
+use path_algebra::{Labels, Shortest};
 use path_plain::{best_values_exist, labels_serve_nearer_targets, solve_outgoing, solve_to};
-use road_graph::{Graph, Vertex};
-use std::alloc::Global;
+use road_graph::Vertex;
 use std::process::Abort;
 
-/// The codes of labels, vertex by vertex, or none if memory was refused.
-fn codes_of<A: PathAlgebra>(
-    alloc: Global,
-    algebra: A,
-    graph: &Graph,
-    labels: &Labels<A::Value>,
-) -> Option<Vec<Option<u64>>>
-    requires { length labels.now ≡ graph.now.vertices }
-{
-    let mut codes = Vec::new(alloc);
-    for v in 1..=graph.vertices() {
-        let code = match labels.of(Vertex(v)) {
-            Some(value) => Some(algebra.code(value)),
-            None => None,
-        };
-        codes.push(code).ok()?;
+/// Asserts the labels, vertex by vertex.
+fn assert_labels(rt: &impl Abort, labels: &Labels<u64>, wanted: &[Option<u64>]) {
+    let mut v = Vertex(0);
+    for label in wanted {
+        v = Vertex(v.0.saturating_add(1));
+        assert!(rt; v.0 as usize <= labels.vertices());
+        assert!(rt; labels.of(v) == *label);
     }
-    Some(codes)
-}
-
-/// The codes of the shortest sums from three sources, vertex by vertex, or none if a call was
-/// refused.
-fn shortest_from(alloc: Global, graph: &Graph, sources: [Vertex; 3]) -> Option<Vec<Option<u64>>> {
-    let [a, b, c] = sources;
-    if !graph.has(a) || !graph.has(b) || !graph.has(c) {
-        return None;
-    }
-    let labels = solve_outgoing(alloc, Shortest, graph.outgoing(), &[a, b, c]).ok()?;
-    codes_of(alloc, Shortest, graph, &labels)
-}
-
-/// The codes of the shortest sums from vertex 1 as far as a target, vertex by vertex, or none if a
-/// call was refused.
-fn shortest_to(alloc: Global, graph: &Graph, target: Vertex) -> Option<Vec<Option<u64>>> {
-    if !graph.has(Vertex(1)) || !graph.has(target) {
-        return None;
-    }
-    let labels = solve_to(alloc, Shortest, graph.outgoing(), &[Vertex(1)], target).ok()?;
-    codes_of(alloc, Shortest, graph, &labels)
-}
-
-/// Asserts the codes of the shortest sums in the five vertices from vertex 1 as far as a target,
-/// vertex by vertex.
-fn assert_codes_to(rt: &(impl Abort + AllocGlobal), target: Vertex, wanted: &[Option<u64>]) {
-    let graph = graph_of(rt, 5, &FIVE);
-    let found = shortest_to(rt.alloc(), &graph, target).expect(rt, "no labels");
-    assert!(rt; found.as_slice() == wanted);
-}
-
-/// Asserts the codes of the shortest sums in the five vertices from three sources, vertex by
-/// vertex.
-fn assert_codes_from(
-    rt: &(impl Abort + AllocGlobal),
-    sources: [Vertex; 3],
-    wanted: &[Option<u64>],
-) {
-    let graph = graph_of(rt, 5, &FIVE);
-    let found = shortest_from(rt.alloc(), &graph, sources).expect(rt, "no labels");
-    assert!(rt; found.as_slice() == wanted);
 }
 
 // The search to 3 stops before 2 is settled, by which 4 has 8; the one to 5, which no walk reaches,
@@ -77,22 +23,27 @@ fn assert_codes_from(
 fn five_vertices_as_far_as_a_target(rt: HostRuntime) {
     labels_serve_nearer_targets(Shortest);
     best_values_exist(Shortest);
-    assert_codes_to(&rt, Vertex(1), &[Some(0), Some(4), Some(1), None, None]);
-    assert_codes_to(&rt, Vertex(3), &[Some(0), Some(3), Some(1), Some(9), None]);
-    assert_codes_to(&rt, Vertex(2), &[Some(0), Some(3), Some(1), Some(8), None]);
-    assert_codes_to(&rt, Vertex(5), &[Some(0), Some(3), Some(1), Some(8), None]);
+    let graph = graph_of(&rt, 5, &FIVE);
+    let graph = graph.outgoing();
+    for &(target, wanted) in &[
+        (1, [Some(0), Some(4), Some(1), None, None]),
+        (3, [Some(0), Some(3), Some(1), Some(9), None]),
+        (2, [Some(0), Some(3), Some(1), Some(8), None]),
+        (5, [Some(0), Some(3), Some(1), Some(8), None]),
+    ] {
+        let (source, target) = (Vertex(1), Vertex(target));
+        assert!(rt; graph.has(source) && graph.has(target));
+        let labels = solve_to(rt.alloc(), Shortest, graph, &[source], target);
+        assert_labels(&rt, &labels.expect(&rt, "memory"), &wanted);
+    }
 }
 
 #[test]
 fn several_sources(rt: HostRuntime) {
-    assert_codes_from(
-        &rt,
-        [Vertex(4), Vertex(5), Vertex(4)],
-        &[Some(3), Some(6), Some(4), Some(0), Some(0)],
-    );
-    assert_codes_from(
-        &rt,
-        [Vertex(5), Vertex(5), Vertex(2)],
-        &[Some(3), Some(0), Some(4), Some(5), Some(0)],
-    );
+    let graph = graph_of(&rt, 5, &FIVE);
+    let graph = graph.outgoing();
+    let sources = [Vertex(5), Vertex(2), Vertex(5)];
+    assert!(rt; graph.has(Vertex(2)) && graph.has(Vertex(5)));
+    let labels = solve_outgoing(rt.alloc(), Shortest, graph, &sources).expect(&rt, "memory");
+    assert_labels(&rt, &labels, &[Some(3), Some(0), Some(4), Some(5), Some(0)]);
 }

@@ -24,13 +24,11 @@ fn assert_order<A: PathAlgebra<Value = u64>, K: Rank>(
     wanted: &[(u64, u64)],
 ) {
     let mut queue: RankedQueue<A, K> = queue_of(rt, entries);
-    for next in wanted {
-        let first = queue.first().expect(rt, "an entry");
-        assert_eq!(rt; (first.value, first.rank.number()), *next);
+    for &(value, rank) in wanted {
         let popped = queue.pop().expect(rt, "an entry");
-        assert_eq!(rt; (popped.value, popped.rank.number()), *next);
+        assert!(rt; popped.value == value && popped.rank.number() == rank);
     }
-    assert_eq!(rt; queue.pop().is_none(), true);
+    assert!(rt; queue.pop().is_none());
 }
 
 #[test]
@@ -61,9 +59,8 @@ fn cleared(rt: HostRuntime) {
     let entries: [(u64, usize); 2] = [(5, 2), (3, 9)];
     let mut queue: RankedQueue<Shortest, usize> = queue_of(&rt, &entries);
     queue.clear();
-    assert_eq!(rt; queue.first().is_none(), true);
+    assert!(rt; queue.first().is_none());
     queue.push(8, 1).expect(&rt, "memory");
-    let first = queue.pop().expect(&rt, "an entry");
-    assert_eq!(rt; (first.value, first.rank), (8, 1));
-    assert_eq!(rt; queue.pop().is_none(), true);
+    let first = queue.first().expect(&rt, "an entry");
+    assert!(rt; first.value == 8 && first.rank == 1);
 }

@@ -1,33 +1,48 @@
-//! Growths that are refused while factors answer.
-use crate::graphs::five_vertices;
-use crate::roads::{Known, Roads, assert_known};
+//! Growths that are refused while factors answer: trees and routes from a factored graph, against
+//! what was worked out by hand.
+use crate::graphs::{PARALLEL, made};
+use crate::roads::{Roads, assert_pair, assert_tree};
 use path_algebra::Shortest;
 
 /// Whatever growth is refused, what is asked again and all that is asked after it is right.
 #[test]
 fn refused_growths(rt: HostRuntime) {
-    let graph = match five_vertices(rt.alloc()) {
+    let graph = match made(rt.alloc(), 5, &PARALLEL) {
         Some(graph) => graph,
-        None => five_vertices(rt.alloc()).expect(&rt, "memory"),
+        None => made(rt.alloc(), 5, &PARALLEL).expect(&rt, "memory"),
     };
-    let from_one = [
-        Some((0, 0, (0, 0))),
-        Some((3, 2, (3, 0))),
-        Some((1, 1, (1, 0))),
+    let mut roads = match Roads::new(&rt, Shortest, &graph) {
+        Ok(roads) => roads,
+        Err(_) => Roads::new(&rt, Shortest, &graph).expect(&rt, "factors"),
+    };
+    let five = [
+        Some((3, 1, 5)),
+        Some((6, 3, 3)),
+        Some((4, 2, 1)),
         None,
-        None,
+        Some((0, 0, 0)),
     ];
-    let from_five = [
-        Some((3, 1, (5, 0))),
-        Some((6, 3, (3, 0))),
-        Some((4, 2, (1, 0))),
-        None,
-        Some((0, 0, (0, 0))),
-    ];
-    let known: [Known; 3] = [
-        ([1, 1, 1], &from_one),
-        ([5, 5, 5], &from_five),
-        ([1, 1, 1], &from_one),
-    ];
-    assert_known(&rt, Shortest, &graph, &known);
+    assert_tree(
+        &rt,
+        &roads,
+        1,
+        &[
+            Some((0, 0, 0)),
+            Some((3, 2, 3)),
+            Some((1, 1, 1)),
+            None,
+            None,
+        ],
+    );
+    assert_tree(&rt, &roads, 5, &five);
+    for &(source, target, code, route) in &[
+        (1, 2, 3, [1, 3, 2].as_slice()),
+        (1, 3, 1, [1, 3].as_slice()),
+        (1, 4, 0, [].as_slice()),
+        (5, 2, 6, [5, 1, 3, 2].as_slice()),
+        (5, 5, 0, [5].as_slice()),
+        (1, 2, 3, [1, 3, 2].as_slice()),
+    ] {
+        assert_pair(&rt, &mut roads, (source, target), code, route);
+    }
 }

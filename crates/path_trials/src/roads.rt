@@ -1,7 +1,9 @@
-//! Trees, values and routes from a factored graph, against what was worked out by hand.
+//! A factored graph with what asks it for trees and routes, which are asked for again if memory was
+//! refused.
 
 ghost use Rattle.std.specs.Prelude.{◌≤◌};
 
+use crate::trees::assert_vertices;
 use factor_routes::{RoadFactors, RouteAsker, Unfactored};
 use path_algebra::{Labels, PathAlgebra};
 use road_graph::{Graph, InGraph, Memory, Vertex};
@@ -9,12 +11,8 @@ use route_tree::{Found, Tree};
 use std::marker::Model;
 use std::process::Abort;
 
-/// The code of a vertex's value, its hops, and the two vertices from which its last arc may come,
-/// or 0.
-pub(crate) type Reached = (u64, u32, (u32, u32));
-
-/// Three sources, which may be the same, and what is to be found of vertices 1, 2 and so on.
-pub(crate) type Known<'k> = ([u32; 3], &'k [Option<Reached>]);
+/// The code of a vertex's value, its hops, and its parent or 0.
+pub(crate) type Reached = (u64, u32, u32);
 
 /// A factored graph, and what asks it.
 #[derive(Drop)]
@@ -66,162 +64,87 @@ impl<A: PathAlgebra> Roads<A> {
         })
     }
 
-    /// Asserts that there is such a vertex.
-    fn assert_has(&self, rt: &impl Abort, v: u32)
-        ensures low { 1 ≤ v }
-        ensures high { v ≤ self.now }
+    /// The vertex of a number, which there is.
+    fn vertex(&self, rt: &impl Abort, v: u32) -> Vertex
+        ensures low { 1 ≤ result }
+        ensures high { result ≤ self.now }
     {
         assert!(rt; 1 <= v && v <= self.rows.vertices());
+        Vertex(v)
     }
 
-    /// The labels and the tree from three sources, which may be the same.
+    /// The labels and the tree from a source.
     fn tree(
         &self,
         rt: &(impl Abort + AllocGlobal),
-        sources: [u32; 3],
+        source: u32,
     ) -> Result<(Labels<A::Value>, Tree), Memory> {
-        let [a, b, c] = sources;
-        self.assert_has(rt, a);
-        self.assert_has(rt, b);
-        self.assert_has(rt, c);
-        let sources = [Vertex(a), Vertex(b), Vertex(c)];
+        let sources = [self.vertex(rt, source)];
         self.factors
             .solve_with_tree(rt.alloc(), self.algebra, &self.rows, &sources)
     }
 
     /// What is found of a pair.
-    pub(crate) fn ask(
+    fn ask(
         &mut self,
         rt: &(impl Abort + AllocGlobal),
         source: u32,
         target: u32,
     ) -> Result<Option<Found>, Memory> {
-        self.assert_has(rt, source);
-        self.assert_has(rt, target);
-        let (source, target) = (Vertex(source), Vertex(target));
+        let pair = (self.vertex(rt, source), self.vertex(rt, target));
         let (alloc, algebra) = (rt.alloc(), self.algebra);
-        let asker = &mut self.asker;
         self.factors
-            .find(alloc, algebra, &self.rows, asker, (source, target))
+            .find(alloc, algebra, &self.rows, &mut self.asker, pair)
     }
 }
 
-/// The lesser of two vertices, the only one, or 0.
-fn lesser((u, v): (u32, u32)) -> u32 {
-    if v == 0 { u } else { u.min(v) }
-}
-
-/// Asserts what is found of a vertex: the code of its value, its hops, and its parent.
-fn assert_vertex<A: PathAlgebra>(
+/// What the labels and the tree tell of a vertex.
+fn reached<A: PathAlgebra>(
     rt: &impl Abort,
     algebra: A,
     (labels, tree): (&Labels<A::Value>, &Tree),
-    v: u32,
-    wanted: Option<Reached>,
-) {
-    assert!(rt; 1 <= v);
-    assert!(rt; v as usize <= labels.vertices() && v as usize <= tree.vertices());
-    let v = Vertex(v);
-    let Some((code, hops, tails)) = wanted else {
-        assert!(rt; labels.of(v).is_none() && tree.hops(v).is_none());
-        assert!(rt; tree.parent(v).is_none());
-        return;
-    };
-    let value = labels.of(v).expect(rt, "a value");
-    assert!(rt; algebra.code(value) == code);
-    assert!(rt; tree.hops(v) == Some(hops));
-    let parent = match tree.parent(v) {
-        Some(u) => u.0,
-        None => 0,
-    };
-    assert!(rt; parent == lesser(tails));
+    v: Vertex,
+) -> Option<Reached> {
+    assert!(rt; 1 <= v.0 && v.0 as usize <= labels.vertices() && v.0 as usize <= tree.vertices());
+    let code = labels.of(v).map(|value| algebra.code(value))?;
+    let parent = tree.parent(v).map_or(0, |u| u.0);
+    Some((code, tree.hops(v)?, parent))
 }
 
-/// From where the last arc of the route to a vertex is to come, or 0.
-fn tail_of(rt: &impl Abort, wanted: &[Option<Reached>], v: Vertex) -> u32 {
-    assert!(rt; 1 <= v.0 && v.0 as usize <= wanted.len());
-    match wanted[v.0 as usize - 1] {
-        Some((_, _, tails)) => lesser(tails),
-        None => 0,
-    }
-}
-
-/// Asserts that a route goes from its source to its target, and that each arc is the wanted one.
-fn assert_route(
-    rt: &impl Abort,
-    found: &Found,
-    wanted: &[Option<Reached>],
+/// Asserts what is told of each vertex from a source.
+pub(crate) fn assert_tree<A: PathAlgebra>(
+    rt: &(impl Abort + AllocGlobal),
+    roads: &Roads<A>,
     source: u32,
-    target: u32,
+    wanted: &[Option<Reached>],
 ) {
-    let vertices = found.route.as_slice();
-    assert!(rt; vertices.len() as u64 == u64::from(found.hops) + 1);
-    assert!(rt; 1 <= vertices.len());
-    assert!(rt; vertices[0] == Vertex(source));
-    assert!(rt; vertices[vertices.len() - 1] == Vertex(target));
-    for k in 1..vertices.len() {
-        assert!(rt; vertices[k - 1] == Vertex(tail_of(rt, wanted, vertices[k])));
+    let (labels, tree) = match roads.tree(rt, source) {
+        Ok(found) => found,
+        Err(_) => roads.tree(rt, source).expect(rt, "memory"),
+    };
+    let mut v = Vertex(0);
+    for row in wanted {
+        v = Vertex(v.0.saturating_add(1));
+        assert!(rt; reached(rt, roads.algebra, (&labels, &tree), v) == *row);
     }
 }
 
-/// Asserts the answer to a pair, which is asked again if memory was refused.
-fn assert_pair<A: PathAlgebra>(
+/// Asserts the code and the route of a pair, or that it has none.
+pub(crate) fn assert_pair<A: PathAlgebra>(
     rt: &(impl Abort + AllocGlobal),
     roads: &mut Roads<A>,
-    wanted: &[Option<Reached>],
-    source: u32,
-    target: u32,
+    (source, target): (u32, u32),
+    code: u64,
+    route: &[u32],
 ) {
     let found = match roads.ask(rt, source, target) {
         Ok(found) => found,
         Err(_) => roads.ask(rt, source, target).expect(rt, "memory"),
     };
-    assert!(rt; 1 <= target && target as usize <= wanted.len());
-    match (found, wanted[target as usize - 1]) {
-        (Some(found), Some((code, hops, _))) => {
-            assert!(rt; found.code == code && found.hops == hops);
-            assert_route(rt, &found, wanted, source, target);
-        }
-        (found, wanted) => assert!(rt; found.is_none() && wanted.is_none()),
-    }
-}
-
-/// Asserts the labels and the tree from some sources, which are asked for again if memory was
-/// refused.
-fn assert_tree<A: PathAlgebra>(
-    rt: &(impl Abort + AllocGlobal),
-    roads: &Roads<A>,
-    (sources, wanted): Known,
-) {
-    let (labels, tree) = match roads.tree(rt, sources) {
-        Ok(found) => found,
-        Err(_) => roads.tree(rt, sources).expect(rt, "memory"),
+    let Some(found) = found else {
+        assert!(rt; route.is_empty());
+        return;
     };
-    assert!(rt; labels.vertices() == wanted.len() && wanted.len() < 100);
-    for (i, row) in wanted.iter().enumerate() {
-        assert!(rt; i < 100);
-        assert_vertex(rt, roads.algebra, (&labels, &tree), i as u32 + 1, *row);
-    }
-}
-
-/// Asserts all that is known of a graph: each tree and, from a source alone, each pair.
-pub(crate) fn assert_known<A: PathAlgebra>(
-    rt: &(impl Abort + AllocGlobal),
-    algebra: A,
-    graph: &Graph,
-    known: &[Known],
-) {
-    let mut roads = match Roads::new(rt, algebra, graph) {
-        Ok(roads) => roads,
-        Err(_) => Roads::new(rt, algebra, graph).expect(rt, "factors"),
-    };
-    for &(sources, wanted) in known {
-        assert_tree(rt, &roads, (sources, wanted));
-        let [a, b, c] = sources;
-        if a == b && b == c {
-            for target in 1..=graph.vertices() {
-                assert_pair(rt, &mut roads, wanted, a, target);
-            }
-        }
-    }
+    assert!(rt; found.code == code && u64::from(found.hops) + 1 == route.len() as u64);
+    assert_vertices(rt, &found.route, route);
 }

@@ -14,15 +14,11 @@ use std::process::Abort;
 /// Asserts that each vertex has these hops and this parent, where 0 stands for none.
 fn assert_tree(rt: &(impl Abort + AllocGlobal), found: &Tree, wanted: &[(Option<u32>, u32)]) {
     assert!(rt; found.vertices() == wanted.len());
-    assert!(rt; wanted.len() < 100);
-    for i in 0..wanted.len() {
-        let v = Vertex(i as u32 + 1);
-        assert!(rt; found.hops(v) == wanted[i].0);
-        let parent = match found.parent(v) {
-            Some(u) => u.0,
-            None => 0,
-        };
-        assert!(rt; parent == wanted[i].1);
+    let mut v = Vertex(0);
+    for &(hops, parent) in wanted {
+        v = Vertex(v.0.saturating_add(1));
+        assert!(rt; v.0 as usize <= found.vertices());
+        assert!(rt; found.hops(v) == hops && found.parent(v).map_or(0, |u| u.0) == parent);
     }
 }
 
@@ -42,8 +38,8 @@ fn tree_from<A: PathAlgebra>(
 /// Asserts that a list has these vertices.
 pub(crate) fn assert_vertices(rt: &impl Abort, found: &[Vertex], wanted: &[u32]) {
     assert!(rt; found.len() == wanted.len());
-    for i in 0..wanted.len() {
-        assert!(rt; found[i] == Vertex(wanted[i]));
+    for (v, &number) in found.iter().zip(wanted) {
+        assert!(rt; v.0 == number);
     }
 }
 

@@ -49,6 +49,3 @@ pub extern "C" fn diffuse_version() -> u32
 {
     10_100
 }
-
-#[cfg(test)]
-mod tests;

@@ -7,7 +7,9 @@ FROM_THREE = "p aux sp ss 3\ns 1\ns 4\ns 5\n"
 SHORTEST = "p ans ss 1 shortest\ns 1\nd 1 0 0 0\nd 2 3 2 3\nd 3 1 1 1\nd 4 8 3 2\nu 5\n"
 WIDEST = "p ans ss 1 widest\ns 1\nd 1 4294967296 0 0\nd 2 4 1 1\nd 3 1 1 1\nd 4 4 2 2\nu 5\n"
 HOPS = "p ans ss 1 hops\ns 1\nd 1 0 0 0\nd 2 1 1 1\nd 3 1 1 1\nd 4 2 2 2\nu 5\n"
+REACH = "p ans ss 1 reach\ns 1\nd 1 0 0 0\nd 2 0 1 1\nd 3 0 1 1\nd 4 0 2 2\nu 5\n"
 WITHIN = "p ans ss 1 within\ns 1\nd 1 0 0 0\nu 2\nu 3\nu 4\nu 5\n"
+WITHIN_FIVE = "p ans ss 1 within\ns 1\nd 1 0 0 0\nd 2 3 2 3\nd 3 1 1 1\nu 4\nu 5\n"
 
 # Files by their names; `-` must never be opened by this name.
 FILES = {
@@ -48,6 +50,7 @@ def fault(text):
 COMMANDS = [
     ("solve g q", SHORTEST, "", 0),
     ("solve --algebra widest g q", WIDEST, "", 0),
+    ("solve --algebra=reach g q", REACH, "", 0),
     ("solve g q --algebra within --limit 0", WITHIN, "", 0),
     ("solve q g", "", fault("12 graph line 1"), 3),
     ("solve g g", "", fault("12 questions line 1"), 3),
@@ -63,11 +66,13 @@ COMMANDS = [
     ("solve g q --workers 64 --shards 64 --width 64 --budget 1", SHORTEST, "", 0),
     ("solve g q --turns 0", "p ans ss 1 shortest\n", fault("40"), 6),
     ("solve g q --turns 0 --plain", SHORTEST, "", 0),
+    ("solve g none.ss --turns 0", "p ans ss 0 shortest\n", "", 0),
     ("check g q right", "valid\n", "", 0),
     ("check g q wide", "valid\n", "", 0),
     ("check g q within --limit 0", "valid\n", "", 0),
     ("check g q within --limit 1", "invalid 1 3 6\n", "", 1),
     ("check g q wrong", "invalid 1 4 2\n", "", 1),
+    ("check g q ./-", "", fault("31 answers line 1"), 3),
     ("check g q own", "", fault("31 answers"), 3),
     ("check g q own --limit 5", "", fault("31 answers"), 3),
     ("check g q right --limit 5", "", fault("43"), 2),
@@ -106,6 +111,7 @@ COMMANDS = [
     ("solve g q --accounts -", "", NO_FILE, 2),
     ("solve g - --accounts -", "", NO_FILE, 2),
     ("bundle --accounts -", "", NO_FILE, 2),
+    ("solve --accounts=g g q --progress", "", FILE_TAKEN, 2),
     ("solve g q --accounts a --plain", "", UNCOUNTED, 2),
     ("bundle --plain --accounts a", "", UNCOUNTED, 2),
     ("solve g q --factors --order upward", SHORTEST, "", 0),
@@ -136,7 +142,7 @@ COMMANDS = [
     ("order q", "", fault("12 graph line 1"), 3),
     ("order dense", "", fault("44"), 3),
     ("faults 13", THIRTEEN, "", 0),
-    ("faults 42 13", FORTY_TWO + THIRTEEN, "", 0),
+    ("faults 42 13 42", FORTY_TWO + THIRTEEN + FORTY_TWO, "", 0),
     ("faults 13 14 4", "", NO_SUCH_FAULT, 2),
     ("faults 0", "", NO_SUCH_FAULT, 2),
     ("faults 18446744073709551615", "", NO_SUCH_FAULT, 2),
@@ -148,6 +154,7 @@ GIVEN = [
     ("serve g", FROM_ONE * 2, SHORTEST * 2, "", 0),
     ("serve --plain g", "s 1\n" + FROM_ONE + "p aux sp p2p 2\nq 1 4\n", "f 10 1\n" + SHORTEST + "f 19 6\n", "", 0),
     ("serve g --algebra hops", FROM_ONE, HOPS, "", 0),
+    ("serve g --algebra within --limit 3 --plain", FROM_ONE, WITHIN_FIVE, "", 0),
     ("serve g --turns 0", FROM_ONE, "p ans ss 1 shortest\nf 40 0\n", "", 0),
     ("serve ./-", FROM_ONE, "", fault("12 graph line 1"), 3),
     ("serve none", FROM_ONE, "", fault("1 graph"), 3),
@@ -174,6 +181,8 @@ GIVEN = [
     ("check g q -", SHORTEST, "valid\n", "", 0),
     ("bundle", FIVE + FROM_ONE, SHORTEST, "", 0),
     ("bundle --algebra hops", FIVE + FROM_ONE, HOPS, "", 0),
+    ("bundle --algebra within --limit 05", FIVE + FROM_ONE, WITHIN_FIVE, "", 0),
+    ("bundle --algebra within --limit=9223372036854775808", FIVE + FROM_ONE, SHORTEST.replace("shortest", "within"), "", 0),
     ("bundle --limit 5", FIVE + FROM_ONE, "", fault("43"), 2),
     ("bundle --turns 0", FIVE + FROM_ONE, "p ans ss 1 shortest\n", fault("40"), 6),
     *(("bundle", text, "", fault(f"{place}"), 3) for text, place in (
@@ -212,10 +221,23 @@ ACCOUNTS = [
     ("solve g q --workers 1 --shards 1 --budget 1", "p tally 1 shortest\nt 1 1 9 9 9 9\n"),
 ]
 
-# Help and wrong usage, with the status: narrow lines to one output alone.
+# Help and wrong usage, with the status, which go to one output alone. The options are wrong for each command that answers.
+WRONG_OPTIONS = [
+    *(f"--{name} {number}" for name, least, most in (("workers", 1, 64), ("shards", 1, 64), ("width", 1, 64), ("budget", 1, 65536))
+      for number in (least - 1, most + 1)),
+    "--turns 1000000000001", "--turns x", "--ahead 4294967296", "--limit 9223372036854775809", "--limit -1", "--limit", "--plain yes",
+    "--deal workers", "--deal", "--algebra fast", "--algebra own", "--order",
+]
+WRONG = [
+    "", "solve g", "solve g q more", "solve g q --accounts", "solve - -", "solve g q --plain --accounts a", "bundle g", "serve", "serve -", "serve g q",
+    "serve g --progress", "serve g --accounts a", "check g q", "check g q a more", "check g q a --algebra hops", "order", "order g q", "order g --factors",
+    "order g --order o", "faults 4", "faults x", "faults -1", "faults 13 --plain", "help faults 13",
+    *(f"{command} {options}" for command in ("solve g q", "bundle", "serve g") for options in WRONG_OPTIONS),
+]
 HELP = [
-    ("--help", 0), ("-h", 0), ("help check", 0), ("solve --help", 0), ("solve -h", 0), ("bundle --help", 0), ("serve --help", 0), ("serve -h", 0),
-    ("help serve", 0), ("check --help", 0), ("order --help", 0), ("order", 2), ("order g q", 2), ("order g --factors", 2), ("faults --help", 0), ("faults", 0), ("faults 4", 2), ("solve - -", 2), ("serve -", 2),
-    ("solve g q --plain --accounts a", 2), ("", 2), ("solve g", 2), ("bundle --algebra own", 2),
+    *((line, 0) for line in (
+        "--help", "-h", "help check", "help solve", "solve --help", "solve -h", "bundle --help", "serve --help", "serve -h", "help serve", "check --help",
+        "order --help", "faults --help", "faults")),
+    *((line, 2) for line in WRONG),
 ]
 FAULTS = [1, 2, 3, *range(10, 21), *range(30, 37), *range(40, 45)]

@@ -65,6 +65,21 @@ def chain(n, weight):
     return graph_of(n, *((v, v + 1, weight) for v in range(1, n)))
 
 
+def two_chains(walk):
+    """Two chains over eight vertices: a dear one in the order of their numbers, and a cheap one along a walk."""
+    return graph_of(8, *(arc for k in range(7) for arc in ((k + 1, k + 2, 10), (walk[k], walk[k + 1], 1))))
+
+
+# Walks that change the block of two or four with each arc; the last goes against the order in which the shards have their turns.
+ZIPS = [((1, 5, 2, 6, 3, 7, 4, 8), 2), ((1, 3, 5, 7, 2, 4, 6, 8), 4), ((1, 7, 5, 3, 2, 8, 6, 4), 4)]
+
+
+def along(walk):
+    """Each vertex of a walk of arcs of weight 1 is as far and as many arcs from the first as its place, and its parent comes before it."""
+    known = {v: f"d {v} {k} {k} {walk[k - 1] if k else 0}" for k, v in enumerate(walk)}
+    return "|".join(["s 1", *(known[v] for v in sorted(known))])
+
+
 CASES = [
     ("shortest", FIVE, "s 1", FROM_ONE),
     ("widest", FIVE, "s 1", "s 1|d 1 4294967296 0 0|d 2 4 1 1|d 3 1 1 1|d 4 4 2 2|u 5"),
@@ -83,6 +98,7 @@ CASES = [
     ("shortest", graph_of(3, (1, 2, MOST), (2, 3, MOST)), "s 1", "s 1|d 1 0 0 0|d 2 4294967295 1 1|d 3 8589934590 2 2"),
     ("reliable", CHANCES, "s 1", "s 1|d 1 1000000000000 0 0|d 2 900001000000 1 1|d 3 450001400001 2 2|d 4 315001430002 3 3|d 5 315001430002 4 4"),
     ring(5000), ("shortest", chain(320, 3), "s 1", "s 1|d 1 0 0 0|" + "|".join(f"d {v} {3 * v - 3} {v - 1} {v - 1}" for v in range(2, 321))),
+    *(("shortest", two_chains(walk), "s 1", along(walk)) for walk, _ in ZIPS),
 
     # Several sources, the same ones again, and one that is given twice.
     ("shortest", FIVE, "m 4 5|m 5 2", f"m 4 5|{NEAREST}|m 5 2|d 1 3 1 5|d 2 0 0 0|d 3 4 2 1|d 4 5 1 2|d 5 0 0 0"),
@@ -218,13 +234,16 @@ def locks(count):
 
 
 # How many messages a question takes with one worker, and as many signals. First come, first served, vertex 2 of the five has 4 and then 3, and vertex 4
-# has 9 and then 8, so two arcs are told twice; locks take 2^(k + 2) - 3 messages. Best first one message goes along each arc out of a reached vertex.
+# has 9 and then 8, so two arcs are told twice; locks take 2^(k + 2) - 3 messages. Best first one message goes along each arc out of a reached vertex, and
+# so it does over several shards if none may run ahead, or if all values are the same.
 ONE_SHARD = "--shards 1"
 MESSAGES = [
     ("shortest", ONE_SHARD, FIVE, 1, 9), ("within --limit 0", "--shards 3", FIVE, 1, 1), ("within --limit 0", "--shards 3 --best-first", FIVE, 1, 1),
     *((algebra, f"{ONE_SHARD} --best-first --budget {budget}", FIVE, source, count) for budget in (1, 2, 1000) for algebra, source, count in (
         ("shortest", 1, 7), ("widest", 1, 7), ("reach", 1, 7), ("hops", 1, 7), ("reliable", 1, 7), ("within --limit 5", 1, 4), ("shortest", 4, 2),
         ("shortest", 5, 8))),
+    *(("reach", f"--shards 3 {order} --budget {budget}", FIVE, 1, 7) for order in ("", "--best-first") for budget in (1, 2, 1000)),
+    *(("shortest", f"--shards {shards} --best-first --ahead 0 --budget {budget}", two_chains(walk), 1, 15) for walk, shards in ZIPS for budget in (1, 3, 1000)),
     *((algebra, shards, locks(k), 1, count) for k, arrival, best in ((1, 5, 5), (2, 13, 9), (6, 253, 25), (10, 4093, 41))
       for algebra, shards, count in (("shortest", ONE_SHARD, arrival), ("shortest", f"{ONE_SHARD} --best-first", best))),
 ]

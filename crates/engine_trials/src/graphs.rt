@@ -83,18 +83,6 @@ pub fn better_through_five(rt: &(impl Abort + AllocGlobal)) -> Graph {
     graph_of(rt, 6, &[(1, 3, 10), (1, 5, 1), (5, 3, 1), (3, 4, 1)])
 }
 
-/// Eight vertices in two chains: a dear one in the order of their numbers, and a cheap one along a
-/// walk.
-pub fn two_chains(rt: &(impl Abort + AllocGlobal), walk: [u32; 8]) -> Graph {
-    let mut arcs = Vec::new(rt.alloc());
-    for k in 0..7 {
-        arcs.push((k as u32 + 1, k as u32 + 2, 10))
-            .expect(rt, "memory");
-        arcs.push((walk[k], walk[k + 1], 1)).expect(rt, "memory");
-    }
-    graph_of(rt, 8, &arcs)
-}
-
 /// Vertices 1 to n in blocks. If memory is refused, the plan is made once more.
 pub fn blocks_of(rt: &(impl Abort + AllocGlobal), n: u32, shards: u8) -> Plan {
     assert!(rt; n <= 1_000_000);

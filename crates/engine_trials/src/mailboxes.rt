@@ -3,9 +3,7 @@ ghost use Rattle.std.specs.Prelude.{◌≡◌, ◌≢◌, ◌<◌, IsTrue, map};
 ghost use Rattle.shard_part.specs.Weights.{All};
 ghost use Rattle.post_floor.specs.Data.{IsAt, seat_of};
 
-mod chain;
 mod claims;
-mod threads;
 
 use crate::graphs::{Ground, two_vertices};
 use crate::parts::parts_of;

@@ -3,7 +3,7 @@ ghost use Rattle.std.specs.List.{All};
 ghost use Rattle.station.specs.Station.{BelongsTo};
 
 use super::{Schedule, finished, gathered, opened_for, turned, turned_once};
-use crate::graphs::{Ground, better_through_five, detour, ground_of, two_chains};
+use crate::graphs::{Ground, better_through_five, detour, ground_of};
 use crate::parts::assert_counts;
 use path_algebra::{PathAlgebra, Shortest};
 use post_floor::Floor;
@@ -146,30 +146,4 @@ fn waits_for_what_is_in_a_mailbox(rt: HostRuntime) {
     // answers 11, and signals to the first.
     assert_through_five(&rt, 3, 9, &[first, report_of(1, 1, 0, true)], 6);
     assert_through_five(&rt, 3, 10, &[first, report_of(3, 1, 1, false)], 6);
-}
-
-/// Asserts that a walk along eight vertices sends one message along each of the fourteen arcs, and
-/// one to its first vertex, if no shard may run ahead.
-fn assert_once_an_arc(rt: &(impl Abort + AllocGlobal), walk: [u32; 8], shards: u8) {
-    for budget in [1, 3, 1000] {
-        let ground = ground_of(rt, two_chains(rt, walk), shards);
-        let schedule = held_back_by(Some(0), budget);
-        let gathered = answered_after(rt, Shortest, &ground, schedule, &[]);
-        for k in 0..8 {
-            assert!(rt; gathered.labels.vertices() == 8);
-            assert!(rt; 1 <= walk[k] && walk[k] <= 8);
-            assert!(rt; gathered.labels.of(Vertex(walk[k])) == Some(k as u64));
-        }
-        assert_counts(rt, gathered.tally, [15; 4]);
-    }
-}
-
-#[test]
-fn one_message_an_arc_in_a_zip(rt: HostRuntime) {
-    // The cheap chain changes the block with each arc, and a dear arc leads from each vertex to the
-    // next in its block.
-    assert_once_an_arc(&rt, [1, 5, 2, 6, 3, 7, 4, 8], 2);
-    assert_once_an_arc(&rt, [1, 3, 5, 7, 2, 4, 6, 8], 4);
-    // Against the order in which the stations have their turns.
-    assert_once_an_arc(&rt, [1, 7, 5, 3, 2, 8, 6, 4], 4);
 }

@@ -1,6 +1,0 @@
-use Rattle.shard_part.specs.Weights.{All}
-use Rattle.post_floor.specs.Data.{IsAt}
-use Rattle.engine_trials.proofs.mailboxes.chain.run.Given as goal
-
-abbrev pub invariant-loop : goal.invariant-loop
-invariant-loop g l = All (λ x. IsAt g.A.PathAlgebra.meaning l.floor x.0 x.1) l.places.items

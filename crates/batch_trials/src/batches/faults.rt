@@ -1,5 +1,5 @@
 //! What stops a batch, and what it leaves.
-use super::{FIVE, FROM_ONE, SHORTEST, assert_ended};
+use super::{FIVE, FROM_ONE, SHORTEST};
 use crate::texts::joined;
 use batch_run::{
     File, OpenGate, Run, RunFault, Settings, Unwatched, fault_of_run, run_bundle, run_pair,
@@ -118,24 +118,6 @@ fn settings_out_of_range(rt: HostRuntime) {
     }
 }
 
-/// Asserts that one input is answered as `FROM_ONE` over `FIVE` is.
-fn assert_accepted(
-    rt: &(impl Abort + AllocGlobal + Threads + Wait + Sync),
-    input: &mut Pieces<'_>,
-) {
-    let mut out = Plain::new(Vec::new(rt.alloc()));
-    let answered = outcome(rt, rt.alloc(), &Settings::default(), input, &mut out);
-    assert_ended(rt, (answered, out.into_inner()), Ok(()), SHORTEST);
-}
-
-#[test]
-fn pieces_of_any_size(rt: HostRuntime) {
-    let text = joined(&rt, &[FIVE, FROM_ONE]);
-    for piece in [1, 2, 3, 65_535, 65_536] {
-        assert_accepted(&rt, &mut Pieces::new(text.as_bytes(), piece, false));
-    }
-}
-
 /// Asserts that one input which fails after these bytes is refused for it.
 fn assert_unread(rt: &(impl Abort + AllocGlobal + Threads + Wait + Sync), prefix: &[u8]) {
     assert_refused(
@@ -147,23 +129,6 @@ fn assert_unread(rt: &(impl Abort + AllocGlobal + Threads + Wait + Sync), prefix
     );
 }
 
-/// Asserts that two inputs of which the second fails, and perhaps the first, are refused for one of
-/// them.
-fn assert_pair_unread(
-    rt: &(impl Abort + AllocGlobal + Threads + Wait + Sync),
-    graph_fails: bool,
-    file: File,
-) {
-    assert_pair_refused(
-        rt,
-        &Settings::default(),
-        &mut Pieces::new(FIVE.as_bytes(), 7, graph_fails),
-        &mut Pieces::new(FROM_ONE.as_bytes(), 7, true),
-        &mut Sheet::new(rt.alloc(), 100, true),
-        fault(1, file, 0),
-    );
-}
-
 #[test]
 fn a_reader_that_fails(rt: HostRuntime) {
     let text = joined(&rt, &[FIVE, FROM_ONE]);
@@ -171,8 +136,6 @@ fn a_reader_that_fails(rt: HostRuntime) {
     for end in 0..=bytes.len() {
         assert_unread(&rt, &bytes[..end]);
     }
-    assert_pair_unread(&rt, true, File::Graph);
-    assert_pair_unread(&rt, false, File::Questions);
 }
 
 /// Asserts that a writer with room for this prefix of the answers takes just that, and how the

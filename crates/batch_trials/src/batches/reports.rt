@@ -20,7 +20,7 @@ const THREE: &str = "p aux sp ss 3\ns 1\ns 4\ns 5\n";
 
 /// Keeps all reports, and notes if memory for one was refused.
 #[derive(Drop)]
-pub(super) struct Notes {
+struct Notes {
     reports: Vec<Progress>,
     full: bool,
 }
@@ -49,11 +49,6 @@ impl Notes {
             reports: Vec::new(alloc),
             full: false,
         }
-    }
-
-    /// The report at a place.
-    pub(super) fn at(&self, i: usize) -> Option<Progress> {
-        self.reports.get(i).copied()
     }
 }
 
@@ -96,7 +91,7 @@ pub(super) fn answered(questions: u32) -> Progress {
 }
 
 /// How a pair of inputs ends at a gate, and what it reports.
-pub(super) fn watch_pair<A: PathAlgebra, R: Threads + Wait + Sync, T: Gate>(
+fn watch_pair<A: PathAlgebra, R: Threads + Wait + Sync, T: Gate>(
     rt: &R,
     alloc: Global,
     algebra: A,
@@ -141,7 +136,7 @@ fn watch_bundle<A: PathAlgebra, R: Threads + Wait + Sync>(
 }
 
 /// Asserts what was reported.
-pub(super) fn assert_notes(rt: &impl Abort, notes: &Notes, wanted: &[Progress]) {
+fn assert_notes(rt: &impl Abort, notes: &Notes, wanted: &[Progress]) {
     assert!(rt; !notes.full);
     assert_eq!(rt; notes.reports.as_slice(), wanted);
 }

@@ -2,12 +2,9 @@
 //! (`system_tests/worked`).
 use super::gates::{Closed, ClosedAt, ClosedTo, FalseOnce};
 use super::workers::{SLOW, assert_ends};
-use super::{FIVE, FROM_ONE, SHORTEST, SHORTEST_THRICE, THRICE, assert_ended, run_at};
+use super::{FROM_ONE, SHORTEST, SHORTEST_THRICE, THRICE};
 use batch_run::{File, RunFault, Settings};
-use path_algebra::Shortest;
 use std::process::Abort;
-use std::sync::Wait;
-use std::thread::Threads;
 
 /// What is written before the first answer to `FROM_ONE`.
 const HEADER: &str = "p ans ss 1 shortest\n";
@@ -22,14 +19,6 @@ fn stopped(number: u8) -> Result<(), RunFault> {
         file: File::NoFile,
         line: 0,
     })
-}
-
-#[test]
-fn no_turn_for_no_question(rt: HostRuntime) {
-    let settings = Settings { turns: 0, ..SLOW };
-    let text = "p sp 1 0\np aux sp ss 0\n";
-    let ended = run_at(&rt, rt.alloc(), Shortest, text, &settings, &Closed);
-    assert_ended(&rt, ended, Ok(()), "p ans ss 0 shortest\n");
 }
 
 #[test]

@@ -3,71 +3,54 @@ ghost use Rattle.std.specs.Prelude.{◌≡◌, ◌≢◌, ◌<◌, IsTrue, map};
 ghost use Rattle.shard_part.specs.Weights.{All};
 ghost use Rattle.post_floor.specs.Data.{IsAt, seat_of};
 
-mod claims;
-
 use crate::graphs::{Ground, two_vertices};
 use crate::parts::parts_of;
-use claims::{claim, swap};
 use path_algebra::{PathAlgebra, Shortest};
 use post_floor::{Floor, Seat};
 use road_graph::Vertex;
 use shard_part::{Part, QueueOrder, Shard};
-use std::collections::VecDeque;
 use std::process::Abort;
 
 /// A seat at a floor, and the part that it is for.
 type Place<'g, A> = (Seat<A>, Part<'g, A>);
 
-/// The seats with their parts, in order.
-fn paired<'g, A: PathAlgebra>(
-    rt: &(impl Abort + AllocGlobal),
+/// The last of some seats, with the last of their parts.
+fn last_place<'g, A: PathAlgebra>(
+    rt: &impl Abort,
     floor: &Floor<A>,
-    mut seats: Vec<Seat<A>>,
-    mut parts: Vec<Part<'g, A>>,
-) -> VecDeque<Place<'g, A>>
-    requires seats { seats.items ≡ map (seat_of floor.now.id floor.now.setup.plan.shards)
-        parts.items }
+    seats: &mut Vec<Seat<A>>,
+    parts: &mut Vec<Part<'g, A>>,
+) -> Place<'g, A>
+    requires seats { seats.old.items ≡ map (seat_of floor.now.id floor.now.setup.plan.shards)
+        parts.old.items }
     requires at { All (λ p. IsAt A.meaning floor.now
-        (seat_of floor.now.id floor.now.setup.plan.shards p) p) parts.items }
-    ensures { All (λ x. IsAt A.meaning floor.now x.0 x.1) result.items }
+        (seat_of floor.now.id floor.now.setup.plan.shards p) p) parts.old.items }
+    ensures seats { seats.new.items ≡ map (seat_of floor.now.id floor.now.setup.plan.shards)
+        parts.new.items }
+    ensures at { All (λ p. IsAt A.meaning floor.now
+        (seat_of floor.now.id floor.now.setup.plan.shards p) p) parts.new.items }
+    ensures place { IsAt A.meaning floor.now result.0 result.1 }
 {
-    let mut places = VecDeque::new(rt.alloc());
-    while let Some(part) = parts.pop() {
-        let seat = seats.pop().expect(rt, "a seat");
-        places.push_front((seat, part)).expect(rt, "memory");
-    }
-    places
+    let seat = seats.pop().expect(rt, "a seat");
+    let part = parts.pop().expect(rt, "a part");
+    (seat, part)
 }
 
-/// A floor, and a seat and a part for each shard, in order.
-fn places<'g, A: PathAlgebra>(
+/// A floor of two shards, and the place of each.
+fn opened<'g, A: PathAlgebra>(
     rt: &(impl Abort + AllocGlobal),
     algebra: A,
     ground: &'g Ground,
-) -> (Floor<A>, VecDeque<Place<'g, A>>)
-    ensures { All (λ x. IsAt A.meaning result.0 x.0 x.1) result.1.items }
+) -> (Floor<A>, Place<'g, A>, Place<'g, A>)
+    ensures first { IsAt A.meaning result.0 result.1.0 result.1.1 }
+    ensures second { IsAt A.meaning result.0 result.2.0 result.2.1 }
 {
-    let parts = parts_of(rt, algebra, ground, QueueOrder::Arrival);
+    let mut parts = parts_of(rt, algebra, ground, QueueOrder::Arrival);
     let opened = Floor::open(rt.alloc(), &ground.plan, Vertex(1), &parts);
-    let (floor, seats) = opened.expect(rt, "memory");
-    let places = paired(rt, &floor, seats, parts);
-    (floor, places)
-}
-
-/// The two places of a list.
-fn both_of<'g, A: PathAlgebra>(
-    rt: &impl Abort,
-    floor: &Floor<A>,
-    mut places: VecDeque<Place<'g, A>>,
-) -> (Place<'g, A>, Place<'g, A>)
-    requires { All (λ x. IsAt A.meaning floor.now x.0 x.1) places.items }
-    ensures { IsAt A.meaning floor.now result.0.0 result.0.1 × IsAt A.meaning floor.now result.1.0
-        result.1.1 }
-{
-    assert!(rt; places.len() == 2);
-    let first = places.pop_front().expect(rt, "a place");
-    let second = places.pop_front().expect(rt, "a place");
-    (first, second)
+    let (floor, mut seats) = opened.expect(rt, "memory");
+    let second = last_place(rt, &floor, &mut seats, &mut parts);
+    let first = last_place(rt, &floor, &mut seats, &mut parts);
+    (floor, first, second)
 }
 
 /// Handles what waits.
@@ -136,6 +119,44 @@ fn announce<A: PathAlgebra>(floor: &Floor<A>, seat: &mut Seat<A>, part: &Part<'_
     }
     floor.announce(seat, part);
     true
+}
+
+/// Claims the next mailbox to a shard and the next one from it, and ends the claims in the order in
+/// which they were made.
+fn swap<A: PathAlgebra>(
+    floor: &Floor<A>,
+    seat: &mut Seat<A>,
+    part: &mut Part<'_, A>,
+    other: Shard,
+) -> bool
+    requires { IsAt A.meaning floor.now seat.old part.old }
+    ensures { IsAt A.meaning floor.now seat.new part.new }
+{
+    if !is_other(seat, part, other) {
+        return false;
+    }
+    if !floor.try_fill(seat, part, other) {
+        return false;
+    }
+    if !floor.try_read(seat, part, other) {
+        return false;
+    }
+    floor.publish(seat, part, other);
+    floor.clear(seat, part, other);
+    true
+}
+
+/// Claims the next mailbox to a shard, and leaves it open.
+fn claim<A: PathAlgebra>(
+    floor: &Floor<A>,
+    seat: &mut Seat<A>,
+    part: &Part<'_, A>,
+    other: Shard,
+) -> bool
+    requires { IsAt A.meaning floor.now seat.old part.now }
+    ensures { IsAt A.meaning floor.now seat.new part.now }
+{
+    is_other(seat, part, other) && floor.try_fill(seat, part, other)
 }
 
 /// What a place does at a floor of two shards, with the result that is wanted.
@@ -207,21 +228,6 @@ fn assert_steps<A: PathAlgebra<Value = u64>>(
     }
 }
 
-/// The first place of a list takes steps, and moves to the end.
-fn assert_turn<A: PathAlgebra<Value = u64>>(
-    rt: &impl Abort,
-    floor: &Floor<A>,
-    places: &mut VecDeque<Place<'_, A>>,
-    steps: &[Step],
-)
-    requires { All (λ x. IsAt A.meaning floor.now x.0 x.1) places.old.items }
-    ensures { All (λ x. IsAt A.meaning floor.now x.0 x.1) places.new.items }
-{
-    let (mut seat, mut part) = places.pop_front().expect(rt, "a place");
-    assert_steps(rt, floor, &mut seat, &mut part, steps);
-    places.push_back((seat, part)).expect(rt, "memory");
-}
-
 /// Asserts that a floor is closed by both of its seats, and not by one alone.
 fn assert_closes<A: PathAlgebra>(
     rt: &(impl Abort + AllocGlobal),
@@ -245,20 +251,22 @@ fn assert_closes<A: PathAlgebra>(
     assert!(rt; floor.close(seats).is_ok());
 }
 
-/// Lets two places take steps in turn, and asserts the result of each, and that both close the
-/// floor.
+/// Lets two places take steps in turn, the first first, and asserts the result of each, and that both
+/// close the floor. Each takes as many turns as the other.
 fn assert_turns<A: PathAlgebra<Value = u64>>(
     rt: &(impl Abort + AllocGlobal),
     algebra: A,
     ground: &Ground,
     turns: &[&[Step]],
 ) {
-    let (floor, mut places) = places(rt, algebra, ground);
+    let (floor, mut next, mut other) = opened(rt, algebra, ground);
     for steps in turns {
-        assert_turn(rt, &floor, &mut places, steps);
+        let (mut seat, mut part) = next;
+        assert_steps(rt, &floor, &mut seat, &mut part, steps);
+        next = other;
+        other = (seat, part);
     }
-    let (first, second) = both_of(rt, &floor, places);
-    assert_closes(rt, floor, first, second);
+    assert_closes(rt, floor, next, other);
 }
 
 #[test]
@@ -290,6 +298,22 @@ fn announce_and_look(rt: HostRuntime) {
         ],
         &[Step::Fetch(true), Step::Work(2), Step::Announce],
         &[Step::Look(true)],
+    ];
+    assert_turns(&rt, Shortest, &two_vertices(&rt), &turns);
+}
+
+#[test]
+fn two_claims_at_once(rt: HostRuntime) {
+    let turns: [&[Step]; 4] = [
+        &[Step::Work(1)],
+        &[Step::Send(true)],
+        &[Step::Swap(true)],
+        &[
+            Step::Fetch(true),
+            Step::Work(1),
+            Step::Show(2, Some(7)),
+            Step::Claim(true),
+        ],
     ];
     assert_turns(&rt, Shortest, &two_vertices(&rt), &turns);
 }

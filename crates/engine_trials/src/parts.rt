@@ -35,41 +35,6 @@ pub fn parts_of<'g, A: PathAlgebra>(
     parts
 }
 
-/// Asserts the label of a vertex of a part.
-fn assert_label<A: PathAlgebra<Value = u64>>(
-    rt: &impl Abort,
-    part: &Part<'_, A>,
-    v: u32,
-    wanted: Option<u64>,
-) {
-    assert!(rt; part.holds(Vertex(v)));
-    assert!(rt; part.label(Vertex(v)) == wanted);
-}
-
-/// Asserts the arc that engages a vertex of a part, and how many arcs out of the vertex are busy.
-fn assert_engaged<A: PathAlgebra>(
-    rt: &impl Abort,
-    part: &Part<'_, A>,
-    v: u32,
-    engager: Option<ArcNo>,
-    deficit: u32,
-) {
-    assert!(rt; part.holds(Vertex(v)));
-    assert!(rt; part.engager(Vertex(v)) == engager);
-    assert!(rt; part.deficit(Vertex(v)) == deficit);
-}
-
-/// Asserts how many items wait for another shard.
-fn assert_outgoing<A: PathAlgebra>(rt: &impl Abort, part: &Part<'_, A>, to: u8, wanted: usize) {
-    assert!(rt; part.is_other(Shard(to)));
-    assert!(rt; part.outgoing(Shard(to)) == wanted);
-}
-
-/// Asserts whether a part knows that the diffusion has ended.
-fn assert_ended<A: PathAlgebra>(rt: &impl Abort, part: &Part<'_, A>, wanted: bool) {
-    assert!(rt; part.ended() == wanted);
-}
-
 /// Asserts the four counts of a tally that is not full.
 pub fn assert_counts(rt: &impl Abort, tally: Tally, wanted: [u64; 4]) {
     let [sent, delivered, signalled, accepted] = wanted;
@@ -81,16 +46,6 @@ pub fn assert_counts(rt: &impl Abort, tally: Tally, wanted: [u64; 4]) {
         full: false,
     };
     assert!(rt; tally == wanted);
-}
-
-/// Asserts how many items a part handles within a budget.
-fn assert_handled<A: PathAlgebra>(
-    rt: &impl Abort,
-    part: &mut Part<'_, A>,
-    budget: u32,
-    wanted: u32,
-) {
-    assert!(rt; part.handle(budget) == wanted);
 }
 
 /// What a part has sent to another shard.
@@ -113,17 +68,6 @@ fn put_in<A: PathAlgebra>(rt: &impl Abort, part: &mut Part<'_, A>, mut batch: Ba
     part.receive(&mut batch);
     assert!(rt; batch.len() == 0);
     assert!(rt; batch.capacity() == capacity);
-}
-
-/// What a part has sent to another shard comes to the part of that shard.
-fn pass<A: PathAlgebra>(
-    rt: &(impl Abort + AllocGlobal),
-    from: &mut Part<'_, A>,
-    to: u8,
-    into: &mut Part<'_, A>,
-) {
-    let batch = taken_out(rt, from, to);
-    put_in(rt, into, batch);
 }
 
 /// Asserts the shard of each vertex, from vertex 1 on.
@@ -189,86 +133,54 @@ fn tallies_are_joined(rt: HostRuntime) {
     assert_counts(&rt, one, [5, 3, 2, 1]);
 }
 
-/// Asserts that this many items wait at a part, which has room for one more and knows of no end.
-fn assert_waiting<A: PathAlgebra>(rt: &impl Abort, part: &Part<'_, A>, queued: usize) {
-    assert!(rt; part.queued() == queued);
-    assert!(rt; part.room() == 1);
-    assert!(rt; !part.ended());
-}
-
-/// Asserts whether each of some vertices is one of a part's shard.
-fn assert_holds<A: PathAlgebra>(rt: &impl Abort, part: &Part<'_, A>, wanted: &[(u32, bool)]) {
-    for (v, held) in wanted {
-        assert!(rt; part.holds(Vertex(*v)) == *held);
-    }
-}
-
-/// Asserts that a batch is one item, with no room for another.
-fn assert_single<V: Copy>(rt: &impl Abort, batch: &Batch<V>) {
-    assert!(rt; batch.len() == 1);
-    assert!(rt; batch.capacity() == 1);
-    assert!(rt; batch.get(0).is_some());
-    assert!(rt; batch.get(1).is_none());
-}
-
-/// Asserts whether a part can take a batch.
-fn assert_fits<A: PathAlgebra>(
+/// What a part shows of a vertex: its label, the arc that engages it, and how many arcs out of it are
+/// busy.
+fn shown<A: PathAlgebra>(
     rt: &impl Abort,
     part: &Part<'_, A>,
-    batch: &Batch<A::Value>,
-    wanted: bool,
-) {
-    assert!(rt; part.fits(batch) == wanted);
+    v: u32,
+) -> (Option<A::Value>, Option<ArcNo>, u32) {
+    let v = Vertex(v);
+    assert!(rt; part.holds(v));
+    (part.label(v), part.engager(v), part.deficit(v))
 }
 
-/// The source takes the environment's message, and sends one to vertex 2.
-fn message_goes_over<A: PathAlgebra<Value = u64>>(
+/// Asserts that a part has sent one item to another shard, which comes to the part of that shard.
+fn pass<A: PathAlgebra>(
     rt: &(impl Abort + AllocGlobal),
-    first: &mut Part<'_, A>,
-    second: &mut Part<'_, A>,
+    from: &mut Part<'_, A>,
+    to: u8,
+    into: &mut Part<'_, A>,
 ) {
-    assert_handled(rt, first, 1, 1);
-    assert_label(rt, first, 1, Some(0));
-    assert_engaged(rt, first, 1, Some(ArcNo(0)), 1);
-    assert_outgoing(rt, first, 1, 1);
-    let batch = taken_out(rt, first, 1);
-    assert_outgoing(rt, first, 1, 0);
-    assert_single(rt, &batch);
-    assert_fits(rt, first, &batch, false);
-    assert_fits(rt, second, &batch, true);
-    put_in(rt, second, batch);
+    let batch = taken_out(rt, from, to);
+    assert!(rt; (batch.len(), batch.capacity()) == (1, 1));
+    assert!(rt; batch.get(0).is_some() && batch.get(1).is_none());
+    assert!(rt; !from.fits(&batch));
+    put_in(rt, into, batch);
 }
 
-/// Vertex 2 takes its message, and sends the signal back, with which the diffusion ends.
-fn signal_comes_back<A: PathAlgebra<Value = u64>>(
-    rt: &(impl Abort + AllocGlobal),
-    first: &mut Part<'_, A>,
-    second: &mut Part<'_, A>,
-) {
-    assert_handled(rt, second, 1, 1);
-    assert_label(rt, second, 2, Some(7));
-    assert_engaged(rt, second, 2, None, 0);
-    assert_outgoing(rt, second, 0, 1);
-    let batch = taken_out(rt, second, 0);
-    assert_fits(rt, second, &batch, false);
-    put_in(rt, first, batch);
-    assert_handled(rt, first, 5, 2);
-}
-
-/// Asserts what two parts do by hand, step by step.
+/// Asserts what two parts do by hand, step by step: a message goes over, and a signal comes back.
 fn assert_by_hand<A: PathAlgebra<Value = u64>>(
     rt: &(impl Abort + AllocGlobal),
     parts: &mut [Part<'_, A>],
 ) {
     let (first, rest) = parts.split_first_mut().expect(rt, "two parts");
     let second = rest.first_mut().expect(rt, "two parts");
-    assert_waiting(rt, first, 1);
-    assert_waiting(rt, second, 0);
-    assert_holds(rt, first, &[(1, true), (2, false), (3, false)]);
-    message_goes_over(rt, first, second);
-    signal_comes_back(rt, first, second);
-    assert_ended(rt, first, true);
-    assert_ended(rt, second, false);
+    assert!(rt; (first.queued(), first.room(), first.ended()) == (1, 1, false));
+    assert!(rt; (second.queued(), second.room(), second.ended()) == (0, 1, false));
+    assert!(rt; first.holds(Vertex(1)) && !first.holds(Vertex(2)) && !first.holds(Vertex(3)));
+    assert_counts(rt, first.tally(), [1, 0, 0, 0]);
+    assert_counts(rt, second.tally(), [0, 0, 0, 0]);
+    assert!(rt; first.handle(1) == 1);
+    assert!(rt; shown(rt, first, 1) == (Some(0), Some(ArcNo(0)), 1));
+    pass(rt, first, 1, second);
+    assert!(rt; second.handle(1) == 1);
+    assert!(rt; shown(rt, second, 2) == (Some(7), None, 0));
+    pass(rt, second, 0, first);
+    assert!(rt; first.handle(5) == 2);
+    assert!(rt; first.ended() && !second.ended());
+    assert_counts(rt, first.tally(), [2, 1, 1, 2]);
+    assert_counts(rt, second.tally(), [0, 1, 1, 0]);
 }
 
 #[test]
@@ -276,30 +188,6 @@ fn two_parts_by_hand(rt: HostRuntime) {
     let ground = two_vertices(&rt);
     for order in ORDERS {
         assert_by_hand(&rt, &mut parts_of(&rt, Shortest, &ground, order));
-    }
-}
-
-/// Asserts the counts of two parts before a message goes over and a signal comes back, and after
-/// it.
-fn assert_tallies<A: PathAlgebra>(rt: &(impl Abort + AllocGlobal), parts: &mut [Part<'_, A>]) {
-    let (first, rest) = parts.split_first_mut().expect(rt, "two parts");
-    let second = rest.first_mut().expect(rt, "two parts");
-    assert_counts(rt, first.tally(), [1, 0, 0, 0]);
-    assert_counts(rt, second.tally(), [0, 0, 0, 0]);
-    assert_handled(rt, first, 9, 1);
-    pass(rt, first, 1, second);
-    assert_handled(rt, second, 9, 1);
-    pass(rt, second, 0, first);
-    assert_handled(rt, first, 9, 2);
-    assert_counts(rt, first.tally(), [2, 1, 1, 2]);
-    assert_counts(rt, second.tally(), [0, 1, 1, 0]);
-}
-
-#[test]
-fn tallies_of_two_parts(rt: HostRuntime) {
-    let ground = two_vertices(&rt);
-    for order in ORDERS {
-        assert_tallies(&rt, &mut parts_of(&rt, Shortest, &ground, order));
     }
 }
 

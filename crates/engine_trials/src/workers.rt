@@ -1,18 +1,21 @@
 //! Workers that stop at a limit of turns or at their gate, and go on.
-ghost use Rattle.std.specs.Prelude.{◌≤◌, ◌↔◌, IsTrue, ◌∷◌, []};
+ghost use Rattle.std.specs.Prelude.{◌≤◌, ◌<◌, ◌↔◌, IsTrue, ◌∷◌, []};
 ghost use Rattle.std.specs.List.{All};
 ghost use Rattle.station.specs.Station.{BelongsTo};
 ghost use Rattle.worker_fleet.specs.Turns.{IsOnItsFloor};
 
 use crate::graphs::{SHORTEST, blocks_of, five};
-use crate::stations::{opened, peeked};
+use crate::stations::opened;
 use path_algebra::{PathAlgebra, Shortest};
 use post_floor::Floor;
 use road_graph::Vertex;
-use shard_part::{Plan, QueueOrder};
+use shard_part::QueueOrder;
 use station::Station;
 use std::process::Abort;
-use worker_fleet::{CallOff, Gate, OpenGate, Outcome, drive};
+use std::slice;
+use std::sync::Wait;
+use std::thread::Threads;
+use worker_fleet::{CallOff, Dealing, Gate, GroupSettings, OpenGate, Outcome, drive, run_group};
 
 /// A gate that lets each worker make this many turns.
 struct TurnsAtMost(u64);
@@ -62,29 +65,16 @@ fn driven<'g, A: PathAlgebra>(
     panic!(rt; "not ended")
 }
 
-/// The label of a vertex, at the station that holds it.
-fn label_of<A: PathAlgebra>(
+/// Asserts the labels that a station shows of its vertices.
+fn assert_shown<A: PathAlgebra<Value = u64>>(
     rt: &impl Abort,
-    stations: &[(usize, Station<'_, A>)],
-    v: u32,
-) -> Option<A::Value> {
-    for (_, station) in stations {
-        if station.holds(Vertex(v)) {
-            return peeked(rt, station, v);
-        }
-    }
-    panic!(rt; "no station holds it")
-}
-
-/// Asserts the labels of the five vertices.
-fn assert_labels<A: PathAlgebra<Value = u64>>(
-    rt: &impl Abort,
-    stations: &[(usize, Station<'_, A>)],
-    wanted: [Option<u64>; 5],
+    station: &Station<'_, A>,
+    wanted: &[Option<u64>; 5],
 ) {
     for v in 0..5 {
-        let label = label_of(rt, stations, v as u32 + 1);
-        assert!(rt; label == wanted[v]);
+        if station.holds(Vertex(v as u32 + 1)) {
+            assert!(rt; station.peek(Vertex(v as u32 + 1)) == wanted[v]);
+        }
     }
 }
 
@@ -92,64 +82,104 @@ fn assert_labels<A: PathAlgebra<Value = u64>>(
 fn assert_driven<A: PathAlgebra<Value = u64>>(
     rt: &(impl Abort + AllocGlobal),
     algebra: A,
-    plan: &Plan,
-    wanted: [Option<u64>; 5],
+    shards: u8,
+    wanted: &[Option<u64>; 5],
 ) {
-    let graph = five(rt);
-    let (floor, stations) = opened(rt, algebra, &graph, plan, 1, QueueOrder::Arrival);
-    let stations = placed(rt, &floor, stations);
-    let ended = driven(rt, &[floor], stations);
-    assert_labels(rt, &ended, wanted);
-}
-
-/// Asserts that a gate that lets two turns pass stops a worker after two.
-fn assert_gated<A: PathAlgebra>(rt: &(impl Abort + AllocGlobal), algebra: A) {
-    let graph = five(rt);
-    let plan = blocks_of(rt, 5, 2);
+    let (graph, plan) = (five(rt), blocks_of(rt, 5, shards));
     let (floor, stations) = opened(rt, algebra, &graph, &plan, 1, QueueOrder::Arrival);
     let stations = placed(rt, &floor, stations);
-    let back = drive(&[floor], stations, 0, 1, 1000, &TurnsAtMost(2));
-    assert!(rt; back.outcome == Outcome::Gated);
-    assert!(rt; back.turns == 2);
-    assert!(rt; back.stations.len() == 2);
+    for (_, station) in &driven(rt, &[floor], stations) {
+        assert_shown(rt, station, wanted);
+    }
 }
 
-/// Asserts how a worker that may make three turns stops, and after how many, if it was called off
-/// before, or was not.
-fn assert_called_off<A: PathAlgebra>(
+/// What comes back of the stations of one floor, run to their end by workers on threads.
+fn run_by_workers<'g, A: PathAlgebra, R: Threads + Wait + Abort + AllocGlobal>(
+    rt: &R,
+    floor: &Floor<A>,
+    stations: Vec<Station<'g, A>>,
+    settings: GroupSettings,
+) -> Vec<Vec<Station<'g, A>>>
+    requires some { 0 < settings.workers }
+    requires own { All (BelongsTo floor.now) stations.items }
+{
+    let mut lists = Vec::new(rt.alloc());
+    lists.push(stations).expect(rt, "memory");
+    let floors = slice::from_ref(floor);
+    let ended = run_group(rt, rt.alloc(), floors, lists, settings, &OpenGate);
+    ended.expect(rt, "no end")
+}
+
+/// Asserts that workers on threads bring three stations to their end, and the labels of the five
+/// vertices from vertex 1.
+fn assert_by_workers<A: PathAlgebra<Value = u64>, R: Threads + Wait + Abort + AllocGlobal>(
+    rt: &R,
+    algebra: A,
+    settings: GroupSettings,
+    wanted: &[Option<u64>; 5],
+) {
+    let (graph, plan) = (five(rt), blocks_of(rt, 5, 3));
+    let (floor, stations) = opened(rt, algebra, &graph, &plan, 1, QueueOrder::Arrival);
+    assert!(rt; settings.workers > 0);
+    let mut ended = run_by_workers(rt, &floor, stations, settings);
+    let stations = ended.pop().expect(rt, "a list");
+    assert!(rt; stations.len() == 3);
+    for station in &stations {
+        assert!(rt; station.ended());
+        assert_shown(rt, station, wanted);
+    }
+}
+
+/// Asserts how a worker of two stations stops, and after how many turns, at a gate and a limit.
+fn assert_stops<A: PathAlgebra, G: Gate>(
     rt: &(impl Abort + AllocGlobal),
     algebra: A,
-    called_off: bool,
-    outcome: Outcome,
-    turns: u64,
+    gate: &G,
+    limit: u64,
+    wanted: (Outcome, u64),
 ) {
-    let graph = five(rt);
-    let plan = blocks_of(rt, 5, 2);
+    let (graph, plan) = (five(rt), blocks_of(rt, 5, 2));
     let (floor, stations) = opened(rt, algebra, &graph, &plan, 1, QueueOrder::Arrival);
     let stations = placed(rt, &floor, stations);
-    let gate = CallOff::new();
-    if called_off {
-        gate.call_off();
-    }
-    let back = drive(&[floor], stations, 0, 1, 3, &gate);
-    assert!(rt; back.outcome == outcome);
-    assert!(rt; back.turns == turns);
+    let back = drive(&[floor], stations, 0, 1, limit, gate);
+    assert!(rt; (back.outcome, back.turns) == wanted);
+    assert!(rt; back.stations.len() == 2);
 }
 
 #[test]
 fn makes_no_turn_once_it_is_called_off(rt: HostRuntime) {
-    assert_called_off(&rt, Shortest, false, Outcome::Stalled, 3);
-    assert_called_off(&rt, Shortest, true, Outcome::Gated, 0);
+    let gate = CallOff::new();
+    assert_stops(&rt, Shortest, &gate, 3, (Outcome::Stalled, 3));
+    gate.call_off();
+    assert_stops(&rt, Shortest, &gate, 3, (Outcome::Gated, 0));
 }
 
 #[test]
 fn stops_where_the_gate_closes(rt: HostRuntime) {
-    assert_gated(&rt, Shortest);
+    assert_stops(&rt, Shortest, &TurnsAtMost(2), 1000, (Outcome::Gated, 2));
 }
 
 #[test]
 fn drives_on_after_each_limit(rt: HostRuntime) {
     for shards in [1, 2, 3] {
-        assert_driven(&rt, Shortest, &blocks_of(&rt, 5, shards), SHORTEST);
+        assert_driven(&rt, Shortest, shards, &SHORTEST);
+    }
+}
+
+#[test]
+fn workers_on_threads(rt: HostRuntime) {
+    for (workers, dealing, budget) in [
+        (3, Dealing::Shards, 1),
+        (3, Dealing::Questions, 1024),
+        (2, Dealing::Shards, 1024),
+        (5, Dealing::Questions, 1),
+    ] {
+        let settings = GroupSettings {
+            workers,
+            dealing,
+            budget,
+            limit: 1_000_000_000,
+        };
+        assert_by_workers(&rt, Shortest, settings, &SHORTEST);
     }
 }

@@ -2,12 +2,11 @@
 ghost use Rattle.std.specs.List.{All};
 ghost use Rattle.station.specs.Station.{BelongsTo};
 
-use super::{Schedule, finished, gathered, opened_for, turned, turned_once};
+use super::{Schedule, assert_labels, finished, gathered, opened_for, turned, turned_once};
 use crate::graphs::{Ground, better_through_five, detour, ground_of};
 use crate::parts::assert_counts;
 use path_algebra::{PathAlgebra, Shortest};
 use post_floor::Floor;
-use road_graph::Vertex;
 use shard_part::QueueOrder;
 use station::{Gathered, Report, Station};
 use std::process::Abort;
@@ -69,15 +68,6 @@ fn answered_after<A: PathAlgebra>(
     gathered(rt, floor, done)
 }
 
-/// Asserts the label of each vertex, from vertex 1 on.
-fn assert_sums(rt: &impl Abort, gathered: &Gathered<u64>, wanted: &[Option<u64>]) {
-    assert!(rt; gathered.labels.vertices() as usize == wanted.len());
-    assert!(rt; wanted.len() < 100);
-    for i in 0..wanted.len() {
-        assert!(rt; gathered.labels.of(Vertex(i as u32 + 1)) == wanted[i]);
-    }
-}
-
 /// Asserts whether the dear arc is held back if a shard may run ahead by this weight, and what each
 /// counter comes to. The labels are the same.
 fn assert_ahead(rt: &(impl Abort + AllocGlobal), ahead: Option<u32>, held: bool, count: u64) {
@@ -87,11 +77,8 @@ fn assert_ahead(rt: &(impl Abort + AllocGlobal), ahead: Option<u32>, held: bool,
     let ground = ground_of(rt, detour(rt), 3);
     let reports = [first, second, third];
     let gathered = answered_after(rt, Shortest, &ground, held_back_by(ahead, 1), &reports);
-    assert_sums(
-        rt,
-        &gathered,
-        &[Some(0), Some(1), Some(3), Some(4), Some(5)],
-    );
+    let wanted = [Some(0), Some(1), Some(3), Some(4), Some(5)];
+    assert_labels(rt, Shortest, &gathered, &wanted);
     assert_counts(rt, gathered.tally, [count; 4]);
 }
 
@@ -121,7 +108,7 @@ fn assert_through_five(
     let ground = ground_of(rt, better_through_five(rt), shards);
     let schedule = held_back_by(Some(ahead), 5);
     let gathered = answered_after(rt, Shortest, &ground, schedule, wanted);
-    assert_sums(rt, &gathered, &THROUGH_FIVE);
+    assert_labels(rt, Shortest, &gathered, &THROUGH_FIVE);
     assert_counts(rt, gathered.tally, [count; 4]);
 }
 

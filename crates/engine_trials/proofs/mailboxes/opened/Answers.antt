@@ -2,13 +2,13 @@ use Rattle.std.proofs.Common.{◌≡◌, subst, sym, ◌∙◌, rules}
 use Rattle.shard_part.specs.Weights.{All}
 use Rattle.post_floor.specs.Data.{IsAt, seat_of}
 use Rattle.engine_trials.proofs.Places.{opened_at}
-use Rattle.engine_trials.proofs.mailboxes.places.Goals as goal
+use Rattle.engine_trials.proofs.mailboxes.opened.Goals as goal
 
 pub open-opened-requires-clause-fresh : goal.open-opened-requires-clause-fresh
 open-opened-requires-clause-fresh g c κs within = let f = c.parts_of-parts.ensures in (f.0, c.deref.ensures.value ∙ f.1, f.2, f.3)
 
-pub paired-places-requires-clause-at : goal.paired-places-requires-clause-at
-paired-places-requires-clause-at g c κs within =
+pub last_place-second-requires-clause-at : goal.last_place-second-requires-clause-at
+last_place-second-requires-clause-at g c κs within =
     let t = c.parts_of-parts.ensures in let f = c.expect-floor.result.0 in
     let same : All (λ p. p.setup ≡ c.expect-floor.result.0.setup) c.deref.result.now = search rules in
     subst (All (λ p. IsAt g.A.PathAlgebra.meaning f (seat_of f.id f.setup.plan.shards p) p)) (sym t.1)

@@ -1,5 +1,5 @@
 -- What was answered and reported stays so when it is passed on, and the first fault stays.
-use Rattle.std.proofs.Common.{◌≡◌, ◌≢◌, ℕ, ◌+◌, ◌<◌, ◌≤◌, [], ◌++◌, length, Bool, Option, Result, Ok, Err, inl, inr, ◌⊎◌, sym, ap, ◌∙◌, subst, append-nil, arith}
+use Rattle.std.proofs.Common.{◌≡◌, ◌≢◌, ℕ, ◌+◌, ◌<◌, ◌≤◌, [], ◌++◌, length, Bool, Result, Ok, Err, inl, inr, ◌⊎◌, sym, ap, ◌∙◌, subst, append-nil, arith}
 use Rattle.std.proofs.lemmas.List.{take_all}
 use Rattle.std.proofs.lemmas.Result.{IfErr-at_err, IfErr-weaker}
 use Rattle.std.specs.Io.KnownBytes.{Appends, Keeps}
@@ -15,7 +15,6 @@ use Rattle.answer_text.proofs.OneAnswer.{answers_count}
 use Rattle.batch_run.specs.declared.cause.Cause.{Cause}
 use Rattle.batch_run.specs.declared.cause.Cause.TheVariants.{Unsolved, Write}
 use Rattle.worker_fleet.specs.declared.group.GroupFault.TheVariants.{Memory}
-use Rattle.question_solvers.specs.declared.factor_solver.Factoring.{Factoring}
 use Rattle.batch_settings.specs.declared.settings.Settings.{Settings}
 use Rattle.batch_run.specs.declared.watcher.Progress.{Progress}
 use Rattle.batch_run.specs.Answered.{AnsweredAll, WroteAnswers, WroteFirst, WroteWhole, WroteAllOrFirst, begun_text}

@@ -1,40 +1,29 @@
 -- What a run promises of inputs that were read, from what answering them promises.
-use Rattle.std.proofs.Common.{◌≡◌, ◌≢◌, ◌<◌, ◌≤◌, ◌+◌, inl, inr, [], ℕ, Ok, Err, Bool, refl, arith}
+use Rattle.std.proofs.Common.{◌≢◌, inl, inr, [], ℕ, Ok, Err, Bool, refl, arith}
 use Rattle.road_graph.specs.GraphData.{GraphData}
 use Rattle.road_files.specs.Asked.{Asked}
 use Rattle.path_algebra.specs.Algebra.{Algebra}
 use Rattle.worker_fleet.specs.Stops.{Says}
 use Rattle.batch_run.specs.declared.cause.Cause.{Cause}
-use Rattle.batch_run.specs.declared.cause.Cause.TheVariants.{Unsolved, Write}
-use Rattle.worker_fleet.specs.declared.group.GroupFault.TheVariants.{Memory}
 use Rattle.batch_inputs.specs.declared.faults.File.{File}
 use Rattle.batch_settings.specs.declared.settings.Settings.{Settings}
-use Rattle.batch_run.specs.Answered.{WroteAnswers, WroteAnswersPrefix, WroteWhole}
+use Rattle.batch_run.specs.Answered.{PassedOnAll}
 use Rattle.batch_run.specs.Causes.{MayStop, fault_of, number_of}
 use Rattle.batch_settings.specs.Choice.{without_diffusions}
-use Rattle.batch_run.specs.Ran.{BegunUnfinished, BegunWhole, IsPassedOn}
+use Rattle.batch_run.specs.Ran.{BegunUnfinished, BegunWhole}
 use Rattle.text_lines.specs.Streams.{Output}
 use Rattle.batch_run.specs.Runs.{Ran}
 use Rattle.batch_run.specs.Stopping.{HasEnoughTurns}
 use Rattle.batch_run.proofs.CauseCases.{gated_by_number, no_memory_by_number, no_setting, numbered, other_by_number, stalled_by_number, write_by_number}
 
--- what a batch that stopped for a cause leaves in its output
-pub record Leaves {V W : Type 0} (A : Algebra V) (g : GraphData) (asked : Asked) (cause : Cause) (out out_after : Output W) : Type 0 where
-  pub text : WroteAnswersPrefix A g asked out out_after
-  pub failed : cause ≡ Write → out.failures < out_after.failures
-  pub whole : cause ≢ Write → WroteWhole A g asked out out_after
-  pub some : cause ≢ Write → cause ≢ Unsolved Memory → asked.questions ≢ []
-  pub once : cause ≢ Write → out_after.failures ≤ out.failures + 1
-  pub flushed : cause ≢ Write → IsPassedOn out_after.held out.failures out_after.failures
-
 module _ {V W : Type 0} (A : Algebra V) (how : Settings) (answers : ℕ → ℕ → Bool → Type 0) (IsRead : GraphData → Asked → Type 0) (inputs : File → Type 0) (out out_after : Output W)
     (g : GraphData) (asked : Asked) (read : IsRead g asked) where
   -- all was answered
-  pub ran_whole : WroteAnswers A g asked out out_after → out_after.held ≡ [] → out_after.failures ≡ out.failures → Ran A how answers IsRead inputs out out_after (Ok tt)
-  ran_whole wrote passed_on sound = record {
-    done = record { graph = g; asked = asked; read = read; wrote = wrote };
-    passed_on = passed_on;
-    sound = sound;
+  pub ran_whole : (Why : Cause → Type 0) → PassedOnAll A g asked Why out out_after (Ok tt) → Ran A how answers IsRead inputs out out_after (Ok tt)
+  ran_whole Why leaves = record {
+    done = record { graph = g; asked = asked; read = read; wrote = leaves.text };
+    passed_on = leaves.passed_on;
+    sound = leaves.sound;
     write = tt;
     kinds = tt;
     placed = tt;
@@ -51,8 +40,8 @@ module _ {V W : Type 0} (A : Algebra V) (how : Settings) (answers : ℕ → ℕ 
     stopped = tt;
   }
 
-  module _ (cause : Cause) (may : MayStop (without_diffusions how) (Says answers how.workers how.turns) cause) (leaves : Leaves A g asked cause out out_after)
-      (unstalled : HasEnoughTurns how IsRead → number_of cause ≢ 40) where
+  module _ (Why : Cause → Type 0) (cause : Cause) (may : MayStop (without_diffusions how) (Says answers how.workers how.turns) cause)
+      (leaves : PassedOnAll A g asked Why out out_after (Err cause)) (unstalled : HasEnoughTurns how IsRead → number_of cause ≢ 40) where
     begun_whole : number_of cause ≢ 42 → BegunWhole A IsRead out out_after
     begun_whole other = record { graph = g; asked = asked; read = read; wrote = leaves.whole (other_by_number cause other) }
 

@@ -14,8 +14,7 @@ use Rattle.answer_text.specs.AnswerText.{answers_text}
 use Rattle.batch_run.specs.declared.cause.Cause.{Cause}
 use Rattle.batch_run.specs.declared.cause.Cause.TheVariants.{Write}
 use Rattle.std.specs.Prelude.{◌≢◌, IfErr}
-use Rattle.batch_run.specs.Ran.{IsPassedOn}
-use Rattle.batch_run.specs.Answered.{AsksWithin, begun_text, WroteFirst, WroteAnswersPrefix, WroteAllOrFirst, WroteAllOrPrefix}
+use Rattle.batch_run.specs.Answered.{AsksWithin, IsPassedOn, begun_text, WroteFirst, WroteAnswersPrefix, WroteAllOrFirst, WroteAllOrPrefix}
 
 -- questions that a reader gives ask within the graph
 asks_by : (g : GraphData) (q : Questions) → AreQuestionsOf g.vertices q → All (AsksWithin g) (asked_of q).questions

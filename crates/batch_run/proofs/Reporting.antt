@@ -1,7 +1,8 @@
 -- What was reported so far, and one report more.
-use Rattle.std.proofs.Common.{◌≡◌, ℕ, zero, suc, ◌+◌, ◌<◌, ◌≤◌, Bool, true, List, [], ◌∷◌, ◌++◌, length, map, take, get_or, Option, None, Some, Result, Err, refl, sym, ap, ◌∙◌, subst, append_assoc, append-nil, arith}
+use Rattle.std.proofs.Common.{◌≡◌, ℕ, zero, suc, ◌+◌, ◌<◌, ◌≤◌, Bool, true, false, List, [], ◌∷◌, ◌++◌, length, map, take, get_or, Option, None, Some, Result, Err, refl, sym, ap, ◌∙◌, subst, append_assoc, append-nil, arith}
 use Rattle.std.specs.Prelude.{IfNone, IfSome}
 use Rattle.std.specs.List.{AllZip, flat_map}
+use Rattle.std.proofs.lemmas.Bool.{false≢true}
 use Rattle.std.proofs.lemmas.List.{take_all, take_more, map-append}
 use Rattle.std.proofs.lemmas.List.Concat.{flat_map-cons}
 use Rattle.road_graph.specs.GraphData.{GraphData}
@@ -62,6 +63,11 @@ module _ {V S : Type 0} (A : Algebra V) (how : Settings) (g : GraphData) (may_be
   -- nothing was reported
   pub none : (s : S) → Reported A how g may_become [] s s
   none s = record { reports = []; are_due = tt; told = refl }
+
+  -- nothing is due of a question that is solved without diffusions
+  pub none_due : (plain : Bool) → plain ≡ true → (k : ℕ) (q : Question) (s : S) → Reported A how g may_become (accounts_due plain k q) s s
+  none_due true e k q s = none s
+  none_due false e k q s = absurd (false≢true e)
 
   -- one report was made
   pub one : (d : Due) (r : Progress) (old new : S) → IsReportOf A how g d r → may_become old r new → Reported A how g may_become (d ∷ []) old new

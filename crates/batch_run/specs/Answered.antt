@@ -1,5 +1,5 @@
 -- What a batch leaves: the text of the right answers, whole or a prefix of it.
-use Rattle.std.specs.Prelude.{◌≡◌, ◌≢◌, ℕ, ◌+◌, ◌<◌, ◌⊎◌, List, [], ◌++◌, length, take, All, Result, Ok, Err, OnOk, IfErr}
+use Rattle.std.specs.Prelude.{◌≡◌, ◌≢◌, ℕ, ◌+◌, ◌<◌, ◌≤◌, ◌⊎◌, List, [], ◌++◌, length, take, All, Result, Ok, Err, OnOk, IfErr}
 use Rattle.std.specs.Io.KnownBytes.{Appends}
 use Rattle.road_graph.specs.GraphData.{GraphData, HasVertex}
 use Rattle.road_files.specs.Asked.{Question, FromSource, BetweenPair, FromSources, Asked}
@@ -93,6 +93,31 @@ pub record AnsweredAll {V X : Type 0} (A : Algebra V) (g : GraphData) (asked : A
   pub failed : IfErr outcome (λ cause. cause ≡ Write → new.failures ≡ old.failures + 1)
   -- if it is another, none did
   pub unfailed : IfErr outcome (λ cause. cause ≢ Write → new.failures ≡ old.failures)
+  -- and the header and the first answers are whole, fewer than were asked
+  pub whole : IfErr outcome (λ cause. cause ≢ Write → WroteWhole A g asked old new)
+  -- if it is not memory either, some question was asked
+  pub some : IfErr outcome (λ cause. cause ≢ Write → cause ≢ Unsolved Memory → asked.questions ≢ [])
+
+-- nothing is held back: all was passed on, or passing it on failed
+abbrev pub IsPassedOn : List ℕ → ℕ → ℕ → Type 0
+IsPassedOn held before after = (held ≡ []) ⊎ (before < after)
+
+-- all questions were answered and all was passed on, or one of these causes stopped it
+pub record PassedOnAll {V X : Type 0} (A : Algebra V) (g : GraphData) (asked : Asked) (MayStop : Cause → Type 0) (old new : Output X) (outcome : Result (Unit {0}) Cause) : Type 0 where
+  -- all of the text was written, or after a fault a prefix of it
+  pub text : WroteAllOrPrefix A g asked old new outcome
+  -- without a fault nothing is held back
+  pub passed_on : OnOk outcome (new.held ≡ [])
+  -- and no write failed
+  pub sound : OnOk outcome (new.failures ≡ old.failures)
+  -- the cause is one of these
+  pub kind : IfErr outcome MayStop
+  -- if it is a failed write, some write failed
+  pub failed : IfErr outcome (λ cause. cause ≡ Write → old.failures < new.failures)
+  -- if it is another, at most one did
+  pub once : IfErr outcome (λ cause. cause ≢ Write → new.failures ≤ old.failures + 1)
+  -- nothing is held back, or passing it on failed
+  pub flushed : IfErr outcome (λ cause. cause ≢ Write → IsPassedOn new.held old.failures new.failures)
   -- and the header and the first answers are whole, fewer than were asked
   pub whole : IfErr outcome (λ cause. cause ≢ Write → WroteWhole A g asked old new)
   -- if it is not memory either, some question was asked

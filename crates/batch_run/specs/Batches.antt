@@ -1,6 +1,6 @@
 -- What contracts say of a batch and its solver: that the question at a place is next, and what
 -- stops it, where `may_answer` says what its gate may answer.
-use Rattle.std.specs.Prelude.{ℕ, ◌+◌, Bool, false, Result, slice_index_or}
+use Rattle.std.specs.Prelude.{ℕ, ◌+◌, Bool, false, Result, OnOk, slice_index_or}
 use Rattle.road_graph.specs.GraphData.{GraphData}
 use Rattle.road_files.specs.Asked.{Question, asked_of}
 use Rattle.text_lines.specs.Streams.{Output}
@@ -18,12 +18,17 @@ use Rattle.batch_run.specs.Causes.{MayStop}
 use Rattle.batch_run.specs.Diffusions.{AreNext, sources_to_come}
 use Rattle.batch_run.specs.Factored.{MayTell}
 use Rattle.batch_run.specs.Reports.{ReportedAllOrPrefix, ReportedWhole, ReportedWritten, accounts_due}
-use Rattle.batch_run.specs.Solvers.{IsReady, graph_of, is_without_diffusions}
+use Rattle.batch_run.specs.Solvers.{IsReady, IsSameSolver, graph_of, is_without_diffusions}
 use Rattle.batch_run.specs.Stopping.{Stops}
 
 -- the solver is ready for the question at this place
 abbrev pub IsReadyAt : {S R T V : Type 0} {G : Ghosts S V} → (S → Algebra V) → Batch S R T V G → ℕ → Solver S V G → Type 0
 IsReadyAt meaning batch i s = IsReady meaning batch.algebra batch.run.now.settings.now (asked_of batch.questions.now) i s
+
+-- after the question at this place it is the same solver, and after a success ready for the next
+pub record IsAfter {S R T V Y E : Type 0} {G : Ghosts S V} (meaning : S → Algebra V) (batch : Batch S R T V G) (i : ℕ) (old new : Solver S V G) (outcome : Result Y E) : Type 0 where
+  pub same : IsSameSolver old new
+  pub ready : OnOk outcome (IsReadyAt meaning batch (i + 1) new)
 
 -- this fault stops its diffusions over this graph
 abbrev pub StopsBatch : {S R T V : Type 0} {G : Ghosts S V} → (S → Algebra V) → (T → ℕ → ℕ → Bool → Type 0) → Batch S R T V G → GraphData → GroupFault → Type 0

@@ -8,16 +8,23 @@ use Rattle.elimination_order.specs.declared.counts.Counts.{Counts}
 use Rattle.question_solvers.specs.Solvers.{IsSoughtBy, IsToldRightly}
 use Rattle.question_solvers.specs.declared.factor_solver.Factoring.{Factoring}
 use Rattle.question_solvers.specs.declared.factor_solver.Factoring.TheVariants.{Made}
+use Rattle.batch_settings.specs.declared.settings.Settings.{Settings}
 use Rattle.batch_run.specs.declared.solve.Solver.{Solver}
 use Rattle.batch_run.specs.declared.solve.Solver.TheVariants.{Plain, Factors, Workers}
+use Rattle.batch_settings.specs.Choice.{without_diffusions}
 use Rattle.batch_run.specs.Reports.{Preparation}
-use Rattle.batch_run.specs.Solvers.{graph_of}
+use Rattle.batch_run.specs.Solvers.{graph_of, is_without_diffusions}
 
 -- it solves by factors, if the graph can be factored
 abbrev pub is_by_factors : {S V : Type 0} {G : Ghosts S V} → Solver S V G → Bool
 is_by_factors (Plain s) = false
 is_by_factors (Factors s) = true
 is_by_factors (Workers s) = false
+
+-- it is of the kind that the settings choose
+pub record IsChosen {S V : Type 0} {G : Ghosts S V} (how : Settings) (s : Solver S V G) : Type 0 where
+  pub kind : is_without_diffusions s ≡ without_diffusions how
+  pub factors : is_by_factors s ≡ how.factors
 
 -- what comes of seeking an order for its graph: none is sought if it solves without factors
 abbrev pub IsSought : {S V : Type 0} {G : Ghosts S V} → Solver S V G → Option Counts → Type 0

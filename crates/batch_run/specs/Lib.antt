@@ -8,6 +8,7 @@ pub mod Stopping
 pub mod Causes
 pub mod Runs
 pub mod Reports
+pub mod Lending
 pub mod Solvers
 pub mod Factored
 pub mod Batches

@@ -43,7 +43,3 @@ abbrev pub IsRunFaultOf : (File → Type 0) → RunFault → Type 0
 IsRunFaultOf inputs f =
     (inputs f.file × IsNumberOf f.file f.number)
     ⊎ ((f.file ≡ NoFile) × (f.line ≡ 0) × ((f.number ≡ 3) ⊎ ((f.number ≡ 40) ⊎ ((f.number ≡ 41) ⊎ ((f.number ≡ 42) ⊎ (f.number ≡ 43))))))
-
--- nothing is held back: all was passed on, or passing it on failed
-abbrev pub IsPassedOn : List ℕ → ℕ → ℕ → Type 0
-IsPassedOn held before after = (held ≡ []) ⊎ (before < after)

@@ -10,11 +10,12 @@ use Rattle.batch_inputs.specs.declared.faults.File.{File}
 use Rattle.batch_inputs.specs.declared.faults.File.TheVariants.{NoFile}
 use Rattle.batch_inputs.specs.declared.faults.RunFault.{RunFault}
 use Rattle.batch_settings.specs.declared.settings.Settings.{Settings}
+use Rattle.batch_run.specs.Answered.{IsPassedOn}
 use Rattle.batch_settings.specs.Choice.{without_diffusions}
 use Rattle.batch_inputs.specs.Inputs.{HasReadPair, HasReadBundle}
 use Rattle.batch_inputs.specs.Spelled.{IsPairOf, IsBundleOf}
 use Rattle.batch_inputs.specs.InputFaults.{IsPairFile, IsBundleFile}
-use Rattle.batch_run.specs.Ran.{Done, Begun, BegunUnfinished, BegunWhole, IsPassedOn, IsRunFaultOf}
+use Rattle.batch_run.specs.Ran.{Done, Begun, BegunUnfinished, BegunWhole, IsRunFaultOf}
 
 -- the questions of a batch were answered over its graph, or this fault stopped it
 pub record Ran {V W : Type 0} (A : Algebra V) (how : Settings) (answers : ℕ → ℕ → Bool → Type 0) (IsRead : GraphData → Asked → Type 0) (inputs : File → Type 0) (out out_after : Output W) (outcome : Result (Unit {0}) RunFault) : Type 0 where

@@ -1,13 +1,12 @@
 -- Solvers between two questions.
-use Rattle.std.specs.Prelude.{◌≡◌, ℕ, Bool, true, false, Option, IfSome, IsSome}
+use Rattle.std.specs.Prelude.{◌≡◌, ◌+◌, ℕ, Bool, true, false, Result, IfSome, IsSome, OnOk}
 use Rattle.road_graph.specs.GraphData.{GraphData}
 use Rattle.road_files.specs.Asked.{Asked}
 use Rattle.path_algebra.specs.declared.algebra.PathAlgebra.{Ghosts}
 use Rattle.path_algebra.specs.Algebra.{Algebra}
 use Rattle.batch_settings.specs.declared.settings.Settings.{Settings}
 use Rattle.batch_run.specs.Diffusions.{AreNext, sources_to_come}
-use Rattle.question_solvers.specs.Solvers.{IsFactorReady, IsPlainReady, last_by_factors, last_of_plain}
-use Rattle.question_solvers.specs.declared.solved.Solved.{Solved}
+use Rattle.question_solvers.specs.Solvers.{IsFactorReady, IsPlainReady}
 use Rattle.batch_run.specs.declared.solve.Solver.{Solver}
 use Rattle.batch_run.specs.declared.solve.Solver.TheVariants.{Plain, Factors, Workers}
 use Rattle.batch_run.specs.declared.solve.workers.WorkerSolver.{WorkerSolver}
@@ -16,6 +15,12 @@ use Rattle.batch_run.specs.declared.solve.workers.WorkerSolver.{WorkerSolver}
 pub record IsWorkerReady {V : Type 0} (A : Algebra V) (how : Settings) (asked : Asked) (i : ℕ) (s : WorkerSolver V) : Type 0 where
   pub some : IsSome s.queue
   pub next : IfSome s.queue (AreNext A how s.graph (sources_to_come asked.questions i 0))
+
+-- after the question at this place they are over the same graph, and after a success ready for the
+-- next
+pub record IsWorkerAfter {V Y E : Type 0} (A : Algebra V) (how : Settings) (asked : Asked) (i : ℕ) (old new : WorkerSolver V) (outcome : Result Y E) : Type 0 where
+  pub graph : new.graph ≡ old.graph
+  pub ready : OnOk outcome (IsWorkerReady A how asked (i + 1) new)
 
 -- the graph over which it solves
 abbrev pub graph_of : {S V : Type 0} {G : Ghosts S V} → Solver S V G → GraphData
@@ -28,12 +33,6 @@ abbrev pub is_without_diffusions : {S V : Type 0} {G : Ghosts S V} → Solver S 
 is_without_diffusions (Plain s) = true
 is_without_diffusions (Factors s) = true
 is_without_diffusions (Workers s) = false
-
--- what it solved last
-abbrev pub last_of : {S V : Type 0} {G : Ghosts S V} → Solver S V G → Option (Solved V)
-last_of (Plain s) = last_of_plain s
-last_of (Factors s) = last_by_factors s.last s.plain
-last_of (Workers s) = s.last
 
 -- what it holds is right for this algebra, of this meaning, these settings and question list, and
 -- the question at this place is the next one

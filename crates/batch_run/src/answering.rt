@@ -2,7 +2,7 @@
 ghost use Rattle.std.specs.Prelude.{◌≡◌, ◌+◌, ◌<◌, length, slice_index_or, IfErr, IfNone, IfOk, IfSome, OnErr, OnOk};
 ghost use Rattle.road_files.specs.Asked.{AreQuestionsOf, Question, asked_of};
 ghost use Rattle.batch_run.specs.Answered.{AnsweredAll, WroteNext};
-ghost use Rattle.batch_run.specs.Batches.{IsReadyAt, MayStopBatch, ReportedBatch, ReportedOfBatch};
+ghost use Rattle.batch_run.specs.Batches.{IsAfter, IsReadyAt, MayStopBatch, ReportedBatch, ReportedOfBatch};
 ghost use Rattle.batch_run.specs.Factored.{IsSought, is_by_factors};
 ghost use Rattle.batch_run.specs.Reports.{Reported, ReportedPrefix, accounts_due, question_due};
 ghost use Rattle.batch_run.specs.Solvers.{IsSameSolver, graph_of, is_without_diffusions};
@@ -32,8 +32,7 @@ fn answer_next<A: PathAlgebra, W: RoadWrite, R: Threads + Wait + Sync, T: Gate, 
     requires place { i < length (asked_of batch.now.questions.now).questions }
     requires within { AreQuestionsOf (graph_of solver.old).vertices batch.now.questions.now }
     requires ready { IsReadyAt A.meaning batch.now i solver.old }
-    ensures same { IsSameSolver solver.old solver.new }
-    ensures ready { OnOk result (IsReadyAt A.meaning batch.now (i + 1) solver.new) }
+    ensures after { IsAfter A.meaning batch.now i solver.old solver.new result }
     ensures wrote { (default : Question) → WroteNext (A.meaning batch.now.algebra)
         (graph_of solver.old) (slice_index_or (asked_of batch.now.questions.now).questions i
         default) (W.seen out.old) (W.seen out.new) result }
@@ -49,8 +48,9 @@ fn answer_next<A: PathAlgebra, W: RoadWrite, R: Threads + Wait + Sync, T: Gate, 
         (slice_index_or (asked_of batch.now.questions.now).questions i default)) watcher.old
         watcher.new) }
 {
-    solve_next(batch, solver, i, watcher)?;
-    answer_at(batch, solver, i, out)?;
+    let n = solver.vertices();
+    let solved = solve_next(solver, batch, i, watcher)?;
+    answer_at(batch, n, i, solved, out)?;
     let questions = (i + 1) as u32;
     watcher.report(Progress::Answered { questions });
     Ok(())

@@ -2,11 +2,9 @@
 ghost use Rattle.std.specs.Prelude.{◌≡◌, ◌≢◌, ◌+◌, ◌≤◌, ◌<◌, ◌⊎◌, [], Ok, Err, OnOk, IfErr};
 ghost use Rattle.std.specs.Io.KnownBytes.{Keeps};
 ghost use Rattle.road_files.specs.Asked.{AreQuestionsOf, asked_of};
-ghost use Rattle.batch_run.specs.Answered.{WroteAllOrPrefix, WroteWhole};
+ghost use Rattle.batch_run.specs.Answered.{IsPassedOn, PassedOnAll};
 ghost use Rattle.batch_run.specs.Batches.{MayStopBatch, ReportedBatch, ReportedOfBatch};
-ghost use Rattle.batch_run.specs.Ran.{IsPassedOn};
 ghost use Rattle.batch_run.specs.Solvers.{graph_of};
-ghost use Rattle.worker_fleet.specs.declared.group.GroupFault.TheVariants.{Memory};
 
 use crate::answering::answer_all;
 use crate::batch::Batch;
@@ -57,23 +55,9 @@ pub(crate) fn answer_and_flush<
     watcher: &mut O,
 ) -> Result<(), Cause>
     requires within { AreQuestionsOf (graph_of solver.old).vertices batch.now.questions.now }
-    ensures text { WroteAllOrPrefix (A.meaning batch.now.algebra) (graph_of solver.old)
-        (asked_of batch.now.questions.now) (W.seen out.old) (W.seen out.new)
-        result }
-    ensures passed_on { OnOk result ((W.seen out.new).held ≡ []) }
-    ensures sound { OnOk result ((W.seen out.new).failures ≡ (W.seen out.old).failures) }
-    ensures kind { IfErr result (MayStopBatch A.meaning T.may_answer batch.now solver.old) }
-    ensures failed { IfErr result (λ cause. cause ≡ Cause.Write → (W.seen out.old).failures <
-        (W.seen out.new).failures) }
-    ensures whole { IfErr result (λ cause. cause ≢ Cause.Write → WroteWhole
-        (A.meaning batch.now.algebra) (graph_of solver.old) (asked_of batch.now.questions.now)
-        (W.seen out.old) (W.seen out.new)) }
-    ensures some { IfErr result (λ cause. cause ≢ Cause.Write → cause ≢ Cause.Unsolved Memory →
-        (asked_of batch.now.questions.now).questions ≢ []) }
-    ensures once { IfErr result (λ cause. cause ≢ Cause.Write → (W.seen out.new).failures ≤
-        (W.seen out.old).failures + 1) }
-    ensures flushed { IfErr result (λ cause. cause ≢ Cause.Write → IsPassedOn (W.seen out.new).held
-        (W.seen out.old).failures (W.seen out.new).failures) }
+    ensures passed_on { PassedOnAll (A.meaning batch.now.algebra) (graph_of solver.old) (asked_of
+        batch.now.questions.now) (MayStopBatch A.meaning T.may_answer batch.now solver.old) (W.seen
+        out.old) (W.seen out.new) result }
     ensures all { OnOk result (ReportedBatch A.meaning batch.now solver.old O.may_become watcher.old
         watcher.new) }
     ensures reported { ReportedOfBatch A.meaning batch.now solver.old O.may_become watcher.old

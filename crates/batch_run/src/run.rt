@@ -5,9 +5,8 @@ ghost use Rattle.batch_run.specs.Reports.{Watched};
 ghost use Rattle.batch_run.specs.Runs.{Ran};
 ghost use Rattle.batch_run.specs.Stopping.{Stopped};
 ghost use Rattle.batch_inputs.specs.InputFaults.{IsNumberOf};
-ghost use Rattle.batch_run.specs.Factored.{is_by_factors};
-ghost use Rattle.batch_run.specs.Solvers.{graph_of, is_without_diffusions};
-ghost use Rattle.batch_settings.specs.Choice.{without_diffusions};
+ghost use Rattle.batch_run.specs.Factored.{IsChosen};
+ghost use Rattle.batch_run.specs.Solvers.{graph_of};
 ghost use Rattle.batch_run.specs.Unsuited.{IsRefusedUnsuited};
 
 use crate::batch::{Batch, Run};
@@ -31,8 +30,7 @@ pub fn read_batch<A: PathAlgebra, I: BatchInput, R, T>(
     run: &Run<'_, R, T>,
     input: &mut I,
 ) -> Result<(Solver<A>, Questions), RunFault>
-    ensures kind { IfOk result (λ r. is_without_diffusions r.0 ≡ without_diffusions run.now.settings.now) }
-    ensures factors { IfOk result (λ r. is_by_factors r.0 ≡ run.now.settings.now.factors) }
+    ensures chosen { IfOk result (λ r. IsChosen run.now.settings.now r.0) }
     ensures read { IfOk result (λ r. I.is_read input.old (graph_of r.0) (asked_of r.1)) }
     ensures within { IfOk result (λ r. AreQuestionsOf (graph_of r.0).vertices r.1) }
     ensures done { OnOk result (I.has_read input.old input.new (Ok tt)) }

@@ -1,12 +1,14 @@
 //! How the questions of a batch are solved.
-ghost use Rattle.std.specs.Prelude.{◌≡◌, ◌+◌, ◌<◌, true, length, slice_index_or, IfErr, OnOk, IfSome, IsSome, Some};
+ghost use Rattle.std.specs.Prelude.{◌≡◌, ◌+◌, ◌<◌, true, length, slice_index_or, IfErr, IfOk, OnOk};
+ghost use Rattle.std.specs.Borrow.{sem};
 ghost use Rattle.road_graph.specs.GraphData.{IsGraph};
 ghost use Rattle.road_files.specs.Asked.{AreQuestionsOf, Question, asked_of};
 ghost use Rattle.batch_run.specs.Batches.{IsReadyAt, StopsBatch};
+ghost use Rattle.batch_run.specs.Lending.{EndsBatch};
 ghost use Rattle.batch_run.specs.Reports.{ReportedAllOrPrefix, accounts_due};
 ghost use Rattle.question_solvers.specs.Solved.{IsSolvedFor};
 ghost use Rattle.batch_run.specs.Factored.{IsFactoringOf, is_by_factors};
-ghost use Rattle.batch_run.specs.Solvers.{IsSameSolver, graph_of, is_without_diffusions, last_of};
+ghost use Rattle.batch_run.specs.Solvers.{IsSameSolver, graph_of, is_without_diffusions};
 
 mod diffusion;
 mod group;
@@ -79,23 +81,6 @@ impl<A: PathAlgebra> Solver<A> {
             Solver::Factors(solver) => Some(solver.factoring()),
         }
     }
-
-    /// What it solved last.
-    pub(crate) fn last(&self) -> &Solved<A::Value>
-        requires { IsSome (last_of self.now) }
-        ensures { last_of self.now ≡ Some result.now }
-    {
-        match self {
-            Solver::Plain(solver) => solver.last(),
-            Solver::Factors(solver) => solver.last(),
-            Solver::Workers(solver) => {
-                let Some(solved) = &solver.last else {
-                    unreachable!()
-                };
-                solved
-            }
-        }
-    }
 }
 
 /// Makes a solver ready for the first question of a batch. The only error is want of memory.
@@ -115,20 +100,19 @@ pub(crate) fn start<A: PathAlgebra, R, T>(
 }
 
 /// Solves the question at a place, the next one. Each diffusion is reported.
-pub(crate) fn solve_next<A: PathAlgebra, R: Threads + Wait + Sync, T: Gate, O: Watcher>(
+pub(crate) fn solve_next<'s, A: PathAlgebra, R: Threads + Wait + Sync, T: Gate, O: Watcher>(
+    solver: &'s mut Solver<A>,
     batch: &Batch<'_, A, R, T>,
-    solver: &mut Solver<A>,
     i: usize,
     watcher: &mut O,
-) -> Result<(), GroupFault>
+) -> Result<&'s Solved<A::Value>, GroupFault>
     requires place { i < length (asked_of batch.now.questions.now).questions }
     requires within { AreQuestionsOf (graph_of solver.old).vertices batch.now.questions.now }
     requires ready { IsReadyAt A.meaning batch.now i solver.old }
-    ensures same { IsSameSolver solver.old solver.new }
-    ensures ready { OnOk result (IsReadyAt A.meaning batch.now (i + 1) solver.new) }
-    ensures some { OnOk result (IsSome (last_of solver.new)) }
-    ensures solved { OnOk result (IfSome (last_of solver.new) (IsSolvedFor
-        (A.meaning batch.now.algebra) (graph_of solver.old) (asked_of batch.now.questions.now) i)) }
+    ensures* after { sem 𝓛 (EndsBatch A.row A.Value.row A.PathAlgebra A.meaning batch.now i
+        solver.entry result) }
+    ensures solved { IfOk result (λ s. IsSolvedFor (A.meaning batch.now.algebra)
+        (graph_of solver.old) (asked_of batch.now.questions.now) i s.now) }
     ensures plain { is_without_diffusions solver.old ≡ true → IfErr result (λ f. f ≡ GroupFault.Memory) }
     ensures stops { IfErr result (StopsBatch A.meaning T.may_answer batch.now (graph_of
         solver.old)) }
@@ -138,14 +122,14 @@ pub(crate) fn solve_next<A: PathAlgebra, R: Threads + Wait + Sync, T: Gate, O: W
         watcher.old watcher.new result }
 {
     match solver {
-        Solver::Plain(solver) => match solve_next_plainly(&batch.task(), solver, i) {
-            Ok(()) => Ok(()),
+        Solver::Plain(solver) => match solve_next_plainly(solver, &batch.task(), i) {
+            Ok(solved) => Ok(solved),
             Err(_) => Err(GroupFault::Memory),
         },
-        Solver::Factors(solver) => match solve_next_by_factors(&batch.task(), solver, i) {
-            Ok(()) => Ok(()),
+        Solver::Factors(solver) => match solve_next_by_factors(solver, &batch.task(), i) {
+            Ok(solved) => Ok(solved),
             Err(_) => Err(GroupFault::Memory),
         },
-        Solver::Workers(solver) => solve_next_by_workers(batch, solver, i, watcher),
+        Solver::Workers(solver) => solve_next_by_workers(solver, batch, i, watcher),
     }
 }

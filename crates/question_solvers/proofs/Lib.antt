@@ -1,6 +1,5 @@
 pub mod QuestionKinds
 mod Searches
-pub mod LastSolved
 pub mod FactorCosts
 mod Pools
 mod Sending

@@ -1,16 +1,28 @@
 -- What is found for one question, for the same one at another place, and for several side by side.
-use Rattle.std.proofs.Common.{arith, ◌≡◌, ℕ, ◌<◌, List, [], ◌∷◌, length, get_or, map, All, HoldsAt, Vec, Global, drop, subst, sym}
-use Rattle.std.proofs.lemmas.List.Elements.{All-nil, All-cons, All-drop, All-head, All-same, All-tail}
+use Rattle.std.proofs.Common.{arith, ◌≡◌, ◌∙◌, ℕ, ◌+◌, ◌-◌, ◌<◌, List, [], ◌∷◌, ◌++◌, length, get_or, map, All, Vec, Global, Option, Some, None, ap, refl, subst, sym}
+use Rattle.std.proofs.lemmas.List.{get_or_push, length_push}
+use Rattle.std.proofs.lemmas.List.Elements.{All-nil, All-cons, All-head, All-push, All-same, All-tail}
+use Rattle.std.proofs.lemmas.Option.{get_or_from_slice_get, slice_get_read, slice_get_within}
 use Rattle.std.specs.List.{AllZip}
-use Rattle.std.specs.Prelude.{Result, Ok, Err, IfOk, IfSome, MatchResult, Contains, slice_get}
-use Rattle.road_files.proofs.QuestionLaws.{any_of}
-use Rattle.std.proofs.lemmas.Option.{slice_get-get_or}
+use Rattle.std.specs.Option.{IsSomeAnd}
+use Rattle.std.specs.Prelude.{Result, Ok, Err, IfOk, IfSome, OnOk, OnErr, MatchResult, Contains}
 use Rattle.road_graph.specs.GraphData.{GraphData}
 use Rattle.road_files.specs.Asked.{Question, Asked}
 use Rattle.path_algebra.specs.Algebra.{Algebra}
-use Rattle.question_solvers.specs.Solved.{AreFoundFrom, IsSearched, IsSearchedAt, IsSolution, IsSolvedFor}
+use Rattle.question_solvers.specs.Solved.{IsNext, IsSearched, IsSearchedAt, IsSolution, IsSolvedFor, next_of}
 use Rattle.question_solvers.specs.declared.solved.Solved.{Solved}
 use Rattle.question_solvers.specs.declared.searched.Searched.{Searched}
+
+-- what was pushed is next
+next_pushed : {V : Type 0} (old : List (Searched V)) (s : Searched V) → next_of (old ++ s ∷ []) ≡ Some s
+next_pushed old s =
+    let all = old ++ s ∷ [] in
+    let long : length all ≡ length old + 1 = length_push old s in
+    slice_get_read all (length all) (length all - 1) s refl (omega (arith, long)) (sym (get_or_push old s s (length all - 1) (omega (arith, long))))
+
+-- what holds of all that was found ahead holds of the next one
+pub of_next : {V : Type 0} (P : Searched V → Type 0) (ahead : List (Searched V)) (s : Searched V) → next_of ahead ≡ Some s → All P ahead → P s
+of_next P ahead s is all = subst P (get_or_from_slice_get ahead (length ahead - 1) s s is) (all (length ahead - 1) s (slice_get_within ahead (length ahead - 1) s is))
 
 module _ {V : Type 0} (A : Algebra V) (g : GraphData) (asked : Asked) where
   -- what is solved for one question is so for the same one at another place
@@ -31,43 +43,30 @@ module _ {V : Type 0} (A : Algebra V) (g : GraphData) (asked : Asked) where
   all_own (k ∷ ks) (s ∷ ss) inside h =
       All-cons (IsSearched A g asked) s ss (at_own k s (All-head (λ j. j < length asked.questions) k ks inside) h.0) (all_own ks ss (All-tail (λ j. j < length asked.questions) k ks inside) h.1)
 
-  -- the first of a group solves the question at its first place
-  first_solves : (i : ℕ) (rest : List ℕ) (ss : List (Searched V)) → AllZip (IsSearchedAt A g asked) (i ∷ rest) ss → (0 < length ss) × HoldsAt (λ s. IsSolvedFor A g asked i s.solved) ss 0
-  first_solves i rest [] h = absurd h
-  first_solves i rest (s ∷ ss) h = (omega arith, λ d. h.0.solved)
+  -- what is next solves the question at a place, if it was found for the same one
+  pub is_next : (i : ℕ) (ahead : List (Searched V)) (s : Searched V) → next_of ahead ≡ Some s → IsSolvedFor A g asked i s.solved → IsNext A g asked i ahead
+  is_next i ahead s is solved = subst (λ o. IsSomeAnd o (λ (t : Searched V). IsSolvedFor A g asked i t.solved)) (sym is) solved
 
-  pub found_from : (i : ℕ) (rest places : List ℕ) (ss : List (Searched V)) → places ≡ i ∷ rest → All (λ k. k < length asked.questions) places → AllZip (IsSearchedAt A g asked) places ss →
-      AreFoundFrom A g asked i ss
-  found_from i rest places ss e inside h =
-      let first = first_solves i rest ss (subst (λ l. AllZip (IsSearchedAt A g asked) l ss) e h) in
-      record { some = first.0; first = first.1; each = all_own places ss inside h }
+  -- and what the next one is solved to is a solution
+  pub next_solves : (i : ℕ) (o : Option (Searched V)) (solved : Solved V) → IsSomeAnd o (λ next. IsSolvedFor A g asked i next.solved) → IfSome o (λ next. next.solved ≡ solved) →
+      IsSolvedFor A g asked i solved
+  next_solves i None solved h is = absurd h
+  next_solves i (Some next) solved h is = subst (IsSolvedFor A g asked i) is h
 
-  pub found_if_ok : {E : Type 0} (i : ℕ) (rest places : List ℕ) (r : Result (Vec (Searched V) Global) E) → places ≡ i ∷ rest → All (λ k. k < length asked.questions) places →
-      IfOk r (λ v. AllZip (IsSearchedAt A g asked) places v.items) → IfOk r (λ v. AreFoundFrom A g asked i v.items)
-  found_if_ok i rest places (Ok v) e inside h = found_from i rest places v.items e inside h
-  found_if_ok i rest places (Err f) e inside h = tt
+-- what is found for the question at a place is added to the rest
+module _ {V : Type 0} (A : Algebra V) (g : GraphData) (asked : Asked) (i : ℕ) (s : Searched V) (old new : List (Searched V)) (found : IsSearchedAt A g asked i s) where
+  -- it is next
+  pub added_is_next : {E : Type 0} (r : Result (Unit {0}) E) → OnOk r (new ≡ old ++ s ∷ []) → OnOk r (IsNext A g asked i new)
+  added_is_next (Ok _) added = is_next A g asked i new s (ap next_of added ∙ next_pushed old s) found.solved
+  added_is_next (Err _) added = tt
 
-module _ {V : Type 0} (A : Algebra V) (g : GraphData) (asked : Asked) (i : ℕ) where
-  -- of those that were found, one for the same question answers it
-  pub like_answers : (k : ℕ) (seen ss : List (Searched V)) → seen ≡ ss → All (IsSearched A g asked) ss → k < length seen
-      → HoldsAt (λ s. (d : Question) → get_or asked.questions s.place d ≡ get_or asked.questions i d) seen k → HoldsAt (λ s. IsSolvedFor A g asked i s.solved) ss k
-  like_answers k seen ss e all low same x =
-      let s = get_or ss k x in
-      for_other A g asked i s.place s.solved (all k x (subst (λ l. k < length l) e low)).solved
-      (subst (λ l. HoldsAt (λ (t : Searched V). (d : Question) → get_or asked.questions t.place d ≡ get_or asked.questions i d) l k) e same x)
-
--- what is found is put in place of what was found first
-module _ {V : Type 0} (A : Algebra V) (g : GraphData) (asked : Asked) (i : ℕ) (s : Searched V) (old new : List (Searched V)) (low : i < length asked.questions) (found : IsSearchedAt A g asked i s) (put : new ≡ s ∷ drop 1 old) where
-  pub all_put : All (IsSearched A g asked) old → All (IsSearched A g asked) new
-  all_put all =
+  -- and each is found for its own question
+  pub added_all : {E : Type 0} (r : Result (Unit {0}) E) → i < length asked.questions → OnOk r (new ≡ old ++ s ∷ []) → OnErr r (new ≡ old) → All (IsSearched A g asked) old →
+      All (IsSearched A g asked) new
+  added_all (Ok _) low added kept all =
       let P = IsSearched A g asked in
-      All-same P new (s ∷ drop 1 old) put (All-cons P s (drop 1 old) (at_own A g asked i s low found) (All-drop P 1 old all))
-
-  pub put_answers : HoldsAt (λ t. IsSolvedFor A g asked i t.solved) new 0
-  put_answers = subst (λ (l : List (Searched V)). HoldsAt (λ t. IsSolvedFor A g asked i t.solved) l 0) (sym put) (λ d. found.solved)
-
-  pub put_inside : 0 < length new
-  put_inside = subst (λ (l : List (Searched V)). 0 < length l) (sym put) (omega arith)
+      All-same P new (old ++ s ∷ []) added (All-push P old s all (at_own A g asked i s low found))
+  added_all (Err _) low added kept all = All-same (IsSearched A g asked) new old kept all
 
 -- what each of a list came to, where none failed
 all_ok : {X S : Type 0} (E : Type 0) (Holds : X → S → Type 0) (places : List X) (ss : List S) → AllZip (λ k (r : Result S E). IfOk r (Holds k)) places (map Ok ss) → AllZip Holds places ss
@@ -81,13 +80,6 @@ pub gathered : {X S E : Type 0} (Holds : X → S → Type 0) (places : List X) (
     → MatchResult v (λ c. (ss : List S) × (rs ≡ map Ok ss) × (c.items ≡ ss)) (λ e. Contains rs (Err e)) → IfOk v (λ c. AllZip Holds places c.items)
 gathered Holds places rs (Ok c) each (ss, were, is) = rw is (all_ok _ Holds places ss (subst (λ l. AllZip (λ k r. IfOk r (Holds k)) places l) were each))
 gathered Holds places rs (Err e) each h = tt
-
--- the one at a place answers the question
-pub held_answers : {V : Type 0} (A : Algebra V) (g : GraphData) (asked : Asked) (i k : ℕ) (ss : List (Searched V)) → k < length ss → HoldsAt (λ s. IsSolvedFor A g asked i s.solved) ss k →
-    IfSome (slice_get ss k) (λ s. IsSolvedFor A g asked i s.solved)
-held_answers A g asked i k ss low h =
-    let d = any_of ss k low in
-    rw (slice_get-get_or ss k d low) (h d)
 
 -- what holds of each that is found for a list holds of all
 each_found : {X S : Type 0} (P : S → Type 0) (places : List X) (ss : List S) → AllZip (λ k s. P s) places ss → All P ss

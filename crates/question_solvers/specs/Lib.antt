@@ -1,3 +1,4 @@
+pub mod Lending
 pub mod Orders
 pub mod Questions
 pub mod Solved

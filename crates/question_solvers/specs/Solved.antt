@@ -1,5 +1,6 @@
 -- What questions are solved to: a pair to its answer, and sources to best labels and their tree.
-use Rattle.std.specs.Prelude.{◌≡◌, ◌≢◌, ℕ, ◌<◌, List, length, get_or, Option, All, HoldsAt}
+use Rattle.std.specs.Prelude.{◌≡◌, ◌≢◌, ℕ, ◌<◌, ◌-◌, List, length, get_or, slice_get, All, Option, Result, OnOk}
+use Rattle.std.specs.Option.{IsSomeAnd}
 use Rattle.road_graph.specs.GraphData.{GraphData}
 use Rattle.road_files.specs.Asked.{Asked, Question, sources_of}
 use Rattle.road_files.specs.declared.questions.Kind.{Kind}
@@ -38,9 +39,16 @@ pub record IsSearched {V : Type 0} (A : Algebra V) (g : GraphData) (asked : Aske
   pub place : s.place < length asked.questions
   pub solved : IsSolvedFor A g asked s.place s.solved
 
--- these were found from the question at a place on: the first solves it, and each the one at its
--- own place
-pub record AreFoundFrom {V : Type 0} (A : Algebra V) (g : GraphData) (asked : Asked) (i : ℕ) (found : List (Searched V)) : Type 0 where
-  pub some : 0 < length found
-  pub first : HoldsAt (λ s. IsSolvedFor A g asked i s.solved) found 0
-  pub each : All (IsSearched A g asked) found
+-- of these the next one is last
+abbrev pub next_of : {V : Type 0} → List (Searched V) → Option (Searched V)
+next_of ahead = slice_get ahead (length ahead - 1)
+
+-- and it solves the question at a place
+abbrev pub IsNext : {V : Type 0} → Algebra V → GraphData → Asked → ℕ → List (Searched V) → Type 0
+IsNext A g asked i ahead = IsSomeAnd (next_of ahead) (λ next. IsSolvedFor A g asked i next.solved)
+
+-- what waits once the question at a place was to be solved: each solves the question at its own
+-- place, and after a success the next one solves this one
+pub record SolvesNext {V E : Type 0} (A : Algebra V) (g : GraphData) (asked : Asked) (i : ℕ) (ahead : List (Searched V)) (outcome : Result (Unit {0}) E) : Type 0 where
+  pub each : All (IsSearched A g asked) ahead
+  pub next : OnOk outcome (IsNext A g asked i ahead)

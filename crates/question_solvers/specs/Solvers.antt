@@ -1,5 +1,5 @@
 -- Solvers between two questions.
-use Rattle.std.specs.Prelude.{◌≡◌, List, length, Option, Some, None, option_map, IfSome, IsNone, IsSome, slice_get}
+use Rattle.std.specs.Prelude.{◌≡◌, List, length, Option, None, IfSome, IsNone, IsSome}
 use Rattle.std.specs.Option.{IsSomeAnd}
 use Rattle.std.specs.List.{All}
 use Rattle.road_graph.specs.GraphData.{GraphData}
@@ -19,7 +19,6 @@ use Rattle.question_solvers.specs.declared.factor_solver.Factoring.TheVariants.{
 use Rattle.question_solvers.specs.declared.factor_solver.Refusal.TheVariants.{Dense, Heavy}
 use Rattle.question_solvers.specs.declared.pair_solver.PairSolver.{PairSolver}
 use Rattle.question_solvers.specs.declared.plain_solver.PlainSolver.{PlainSolver}
-use Rattle.question_solvers.specs.declared.solved.Solved.{Solved}
 
 -- each of a pool searches this graph by this algebra
 abbrev pub IsPoolOf : {S V : Type 0} → S → GraphData → List (PairSolver S V) → Type 0
@@ -32,13 +31,23 @@ pub record IsPlainReady {S V : Type 0} {G : Ghosts S V} (meaning : S → Algebra
   pub pool : IsPoolOf algebra s.graph s.pool.items
   pub rows : asked.kind ≡ Pairs → IsSome s.by_head
 
--- the factors' solver: the plain one in it is ready, what was asked ahead is right, and factors
--- have the rows of arcs by head and carry the algebra's values
+-- after a question it is over the same graph, by tail and by head, and ready for the next one
+pub record IsPlainAfter {S V : Type 0} {G : Ghosts S V} (meaning : S → Algebra V) (algebra : S) (asked : Asked) (old new : PlainSolver S V G) : Type 0 where
+  pub graph : new.graph ≡ old.graph
+  pub rows : new.by_head ≡ old.by_head
+  pub ready : IsPlainReady meaning algebra asked new
+
+-- the factors' solver: the plain one in it is ready, and factors have the rows of arcs by head and
+-- carry the algebra's values
 pub record IsFactorReady {S V : Type 0} {G : Ghosts S V} (meaning : S → Algebra V) (algebra : S) (asked : Asked) (s : FactorSolver S V G) : Type 0 where
   pub plain : IsPlainReady meaning algebra asked s.plain
-  pub ahead : All (IsSearched (meaning algebra) s.plain.graph asked) s.ahead.items
   pub rows : IfSome s.factored (λ f. IsSome s.plain.by_head)
   pub carried : IfSome s.factored (λ f. IsCarried (meaning algebra) (cost_of f.factors.algebra.cost))
+
+-- after a question it is over the same graph, and ready for the next one
+pub record IsFactorAfter {S V : Type 0} {G : Ghosts S V} (meaning : S → Algebra V) (algebra : S) (asked : Asked) (old new : FactorSolver S V G) : Type 0 where
+  pub graph : new.plain.graph ≡ old.plain.graph
+  pub ready : IsFactorReady meaning algebra asked new
 
 -- its factors are for costs that carry the values of this algebra; and if it has none, the graph
 -- was refused for such costs
@@ -66,12 +75,3 @@ IsToldRightly g (Refused Heavy) = Unit {0}
 pub record IsSoughtBy {S V : Type 0} {G : Ghosts S V} (s : FactorSolver S V G) (found : Option Counts) : Type 0 where
   pub known : IsSome s.order → found ≡ None
   pub within : IfSome found (AreWithinBounds s.plain.graph.vertices (length s.plain.graph.arcs))
-
--- what the plain solver solved last
-abbrev pub last_of_plain : {S V : Type 0} {G : Ghosts S V} → PlainSolver S V G → Option (Solved V)
-last_of_plain s = option_map (λ x. x.solved) (slice_get s.searched.items s.last)
-
--- what factors solved, and if they did not, the plain solver
-abbrev pub last_by_factors : {S V : Type 0} {G : Ghosts S V} → Option (Solved V) → PlainSolver S V G → Option (Solved V)
-last_by_factors (Some solved) plain = Some solved
-last_by_factors None plain = last_of_plain plain

@@ -1,5 +1,5 @@
 -- What contracts say of a task over a graph: its questions, and what was found for them.
-use Rattle.std.specs.Prelude.{ℕ, List, All}
+use Rattle.std.specs.Prelude.{ℕ, List, All, Result}
 use Rattle.path_algebra.specs.declared.algebra.PathAlgebra.{Ghosts}
 use Rattle.path_algebra.specs.Algebra.{Algebra}
 use Rattle.path_algebra.specs.Carried.{IsCarried}
@@ -8,11 +8,10 @@ use Rattle.path_plain.specs.Searcher.{SearcherState}
 use Rattle.road_files.specs.Asked.{asked_of}
 use Rattle.route_tree.specs.Searchers.{IsSearcherOf}
 use Rattle.question_solvers.specs.Questions.{HasPlace, ArePairs}
-use Rattle.question_solvers.specs.Solved.{AreFoundFrom, IsSearched, IsSearchedAt, IsSolvedFor}
+use Rattle.question_solvers.specs.Solved.{IsNext, IsSearched, IsSearchedAt, SolvesNext}
 use Rattle.question_solvers.specs.Solvers.{IsPoolOf}
 use Rattle.question_solvers.specs.declared.pair_solver.PairSolver.{PairSolver}
 use Rattle.question_solvers.specs.declared.searched.Searched.{Searched}
-use Rattle.question_solvers.specs.declared.solved.Solved.{Solved}
 use Rattle.question_solvers.specs.declared.task.TaskOver.{TaskOver}
 use Rattle.question_solvers.specs.declared.task.FactoredTask.{FactoredTask}
 
@@ -34,11 +33,7 @@ module _ {S R V : Type 0} {G : Ghosts S V} (over : TaskOver S R V G) where
   IsPoolIn = IsPoolOf over.task.now.algebra over.graph.now
 
 module _ {S R V : Type 0} {G : Ghosts S V} (meaning : S → Algebra V) (over : TaskOver S R V G) where
-  -- the question at a place is solved to this
-  abbrev pub IsSolvedIn : ℕ → Solved V → Type 0
-  IsSolvedIn = IsSolvedFor (meaning over.task.now.algebra) over.graph.now (asked_of over.task.now.questions.now)
-
-  -- this was found for it, and solves it
+  -- this was found for the question at a place, and solves it
   abbrev pub IsFoundIn : ℕ → Searched V → Type 0
   IsFoundIn = IsSearchedAt (meaning over.task.now.algebra) over.graph.now (asked_of over.task.now.questions.now)
 
@@ -46,9 +41,13 @@ module _ {S R V : Type 0} {G : Ghosts S V} (meaning : S → Algebra V) (over : T
   abbrev pub AreFoundIn : List (Searched V) → Type 0
   AreFoundIn = All (IsSearched (meaning over.task.now.algebra) over.graph.now (asked_of over.task.now.questions.now))
 
-  -- and the first the one at this place
-  abbrev pub AreFoundInFrom : ℕ → List (Searched V) → Type 0
-  AreFoundInFrom = AreFoundFrom (meaning over.task.now.algebra) over.graph.now (asked_of over.task.now.questions.now)
+  -- and the next one the one at this place
+  abbrev pub IsNextIn : ℕ → List (Searched V) → Type 0
+  IsNextIn = IsNext (meaning over.task.now.algebra) over.graph.now (asked_of over.task.now.questions.now)
+
+  -- so they do, if it was solved with this outcome
+  abbrev pub SolvesNextIn : {E : Type 0} → ℕ → List (Searched V) → Result (Unit {0}) E → Type 0
+  SolvesNextIn = SolvesNext (meaning over.task.now.algebra) over.graph.now (asked_of over.task.now.questions.now)
 
 -- its factors are for costs that carry the values of its algebra
 abbrev pub IsCarriedIn : {S R V : Type 0} {G : Ghosts S V} → (S → Algebra V) → FactoredTask S R V G → Type 0

@@ -1,32 +1,61 @@
-//! What was found ahead of its turn, with the next one last.
-ghost use Rattle.std.specs.Prelude.{All, IfOk, IfSome, OnOk};
+//! What was solved ahead of its turn, with the next one last.
+ghost use Rattle.std.specs.Prelude.{All, IfSome, IsSome, IsTrue, ◌≡◌};
 ghost use Rattle.road_graph.specs.GraphData.{GraphData};
 ghost use Rattle.path_algebra.specs.Algebra.{Algebra};
 ghost use Rattle.road_files.specs.Asked.{Asked};
-ghost use Rattle.question_solvers.specs.Solved.{IsSearched, IsSolvedFor};
+ghost use Rattle.question_solvers.specs.Solved.{IsSearched, next_of};
+ghost use Rattle.question_solvers.specs.Tasks.{AreFoundIn, IsFoundIn, IsNextIn, IsPlaceIn, SolvesNextIn};
 
-use crate::searched::{Searched, add};
+use crate::searched::{Searched, add, is_same};
 use crate::solved::Solved;
+use crate::task::TaskOver;
+use path_algebra::PathAlgebra;
 use road_graph::Memory;
-use std::alloc::Global;
 
-/// Takes the next one, and gives it if it was found for the question at a place.
-pub(crate) fn take_at<V: Copy>(ahead: &mut Vec<Searched<V>>, i: usize) -> Option<Solved<V>>
-    ensures rest { (A : Algebra V) (g : GraphData) (asked : Asked) →
-        All (IsSearched A g asked) ahead.old.items → All (IsSearched A g asked) ahead.new.items }
-    ensures solved { (A : Algebra V) (g : GraphData) (asked : Asked) →
-        All (IsSearched A g asked) ahead.old.items → IfSome result (IsSolvedFor A g asked i) }
+/// Goes on to the question at a place: what was solved for those before it is dropped, but for the
+/// same question. Whether the next one solves it then.
+pub(crate) fn advance<A: PathAlgebra, R>(
+    over: &TaskOver<'_, A, R>,
+    i: usize,
+    ahead: &mut Vec<Searched<A::Value>>,
+) -> bool
+    requires place { IsPlaceIn over.now i }
+    requires ahead { AreFoundIn A.meaning over.now ahead.old.items }
+    ensures ahead { AreFoundIn A.meaning over.now ahead.new.items }
+    ensures next { IsTrue result → IsNextIn A.meaning over.now i ahead.new.items }
 {
-    let next = ahead.pop()?;
-    if next.place == i {
-        Some(next.solved)
-    } else {
-        None
+    while let Some(next) = ahead.last() {
+        if is_same(over.task.questions, next.place, i) {
+            return true;
+        }
+        if next.place >= i {
+            return false;
+        }
+        ahead.truncate(ahead.len() - 1);
     }
+    false
 }
 
-/// Adds what a run found, its last one first.
-fn add_run<V: Copy>(ahead: &mut Vec<Searched<V>>, mut run: Vec<Searched<V>>) -> Result<(), Memory>
+/// Adds what the question at a place is solved to: it is the next one.
+pub(crate) fn add_next<A: PathAlgebra, R>(
+    over: &TaskOver<'_, A, R>,
+    i: usize,
+    next: Searched<A::Value>,
+    ahead: &mut Vec<Searched<A::Value>>,
+) -> Result<(), Memory>
+    requires place { IsPlaceIn over.now i }
+    requires next { IsFoundIn A.meaning over.now i next }
+    requires ahead { AreFoundIn A.meaning over.now ahead.old.items }
+    ensures { SolvesNextIn A.meaning over.now i ahead.new.items result }
+{
+    add(ahead, next)
+}
+
+/// Adds what a run found, its last one first. After an error some of it is added.
+pub(crate) fn add_run<V: Copy>(
+    ahead: &mut Vec<Searched<V>>,
+    mut run: Vec<Searched<V>>,
+) -> Result<(), Memory>
     ensures { (A : Algebra V) (g : GraphData) (asked : Asked) →
         All (IsSearched A g asked) ahead.old.items → All (IsSearched A g asked) run.items →
         All (IsSearched A g asked) ahead.new.items }
@@ -37,18 +66,26 @@ fn add_run<V: Copy>(ahead: &mut Vec<Searched<V>>, mut run: Vec<Searched<V>>) -> 
     Ok(())
 }
 
-/// What several runs found, the last one first.
-pub(crate) fn join<V: Copy>(
-    alloc: Global,
+/// Adds what several runs found, the last one first.
+pub(crate) fn add_runs<V: Copy>(
+    ahead: &mut Vec<Searched<V>>,
     mut runs: Vec<Vec<Searched<V>>>,
-) -> Result<Vec<Searched<V>>, Memory>
-    ensures { IfOk result (λ v. (A : Algebra V) (g : GraphData) (asked : Asked) →
+) -> Result<(), Memory>
+    ensures { (A : Algebra V) (g : GraphData) (asked : Asked) →
+        All (IsSearched A g asked) ahead.old.items →
         All (λ run. All (IsSearched A g asked) run.items) runs.items →
-        All (IsSearched A g asked) v.items) }
+        All (IsSearched A g asked) ahead.new.items }
 {
-    let mut ahead = Vec::new(alloc);
     while let Some(run) = runs.pop() {
-        add_run(&mut ahead, run)?;
+        add_run(ahead, run)?;
     }
-    Ok(ahead)
+    Ok(())
+}
+
+/// What the next one is solved to.
+pub(crate) fn solution_of<V: Copy>(ahead: &[Searched<V>]) -> &Solved<V>
+    requires { IsSome (next_of ahead.now) }
+    ensures { IfSome (next_of ahead.now) (λ next. next.solved ≡ result.now) }
+{
+    &ahead[ahead.len() - 1].solved
 }

@@ -1,13 +1,11 @@
 //! Pairs that are asked of the factors of a graph, several side by side.
 ghost use Rattle.std.specs.Prelude.{◌≡◌, ◌≤◌, length, All, IfOk};
-ghost use Rattle.question_solvers.specs.Tasks.{AreFoundIn, ArePairsIn, IsCarriedIn, IsFoundIn, IsPlaceIn, IsSolvedIn};
+ghost use Rattle.question_solvers.specs.Tasks.{AreFoundIn, ArePairsIn, IsCarriedIn, IsFoundIn, IsPlaceIn, SolvesNextIn};
 
-use crate::ahead::{join, take_at};
-use crate::pair_search::pair_at;
+use crate::ahead::{add_next, add_runs, advance};
+use crate::pair_search::{answer_of_pair, pair_at};
 use crate::searched::{Searched, add};
-use crate::solved::Solved;
 use crate::task::{FactoredTask, Task};
-use answer_text::Answer;
 use factor_routes::RouteAsker;
 use path_algebra::PathAlgebra;
 use rayon::prelude::*;
@@ -34,18 +32,11 @@ fn ask_at<A: PathAlgebra, R>(
     ensures same { asker.new.factors ≡ asker.old.factors }
     ensures solved { IfOk result (IsFoundIn A.meaning factored.now.over.now place) }
 {
-    let (task, rows) = (factored.over.task, factored.rows);
+    let (task, by_head) = (factored.over.task, factored.by_head);
     let (source, target) = pair_at(task.questions, place);
     let factors = factored.factors;
-    let found = factors.find(task.alloc, task.algebra, rows, asker, (source, target))?;
-    Ok(Searched {
-        place,
-        solved: Solved::Answer(Answer::Pair {
-            source,
-            target,
-            found,
-        }),
-    })
+    let found = factors.find(task.alloc, task.algebra, by_head, asker, (source, target))?;
+    Ok(answer_of_pair(place, (source, target), found))
 }
 
 /// What the pairs from a place on are solved to, as many as `each`, by an asker of their own.
@@ -116,65 +107,50 @@ fn starts_from<A: PathAlgebra, R>(
     Ok(starts)
 }
 
-/// Asks for the pair at a place and for those that follow it, in as many runs of `each` as the
-/// width. The next one is last.
-fn ask_group<A: PathAlgebra, R: Threads + Sync>(
-    factored: &FactoredTask<'_, A, R>,
-    i: usize,
-    each: usize,
-) -> Result<Vec<Searched<A::Value>>, Memory>
-    requires pairs { ArePairsIn factored.now.over.now }
-    requires carried { IsCarriedIn A.meaning factored.now }
-    ensures { IfOk result (λ v. AreFoundIn A.meaning factored.now.over.now v.items) }
-{
-    let task = factored.over.task;
-    let starts = starts_from(task, i, each)?;
-    let runs = ask_runs(factored, starts.as_slice(), each)?;
-    join(task.alloc, runs)
-}
-
-/// The same, if the width is more than one, the pairs are enough to be shared, and memory suffices;
-/// otherwise none.
+/// Asks for the pair at a place and for those that follow it, in as many runs as the width, if that
+/// is more than one and the pairs are enough to be shared. What is found is added ahead.
 fn ask_ahead<A: PathAlgebra, R: Threads + Sync>(
     factored: &FactoredTask<'_, A, R>,
     i: usize,
-) -> Vec<Searched<A::Value>>
+    ahead: &mut Vec<Searched<A::Value>>,
+) -> Result<(), Memory>
     requires place { IsPlaceIn factored.now.over.now i }
     requires pairs { ArePairsIn factored.now.over.now }
     requires carried { IsCarriedIn A.meaning factored.now }
-    ensures { AreFoundIn A.meaning factored.now.over.now result.items }
+    requires ahead { AreFoundIn A.meaning factored.now.over.now ahead.old.items }
+    ensures ahead { AreFoundIn A.meaning factored.now.over.now ahead.new.items }
 {
     let task = factored.over.task;
     let rest = task.questions.len() - i;
     let each = (rest / task.width).max(LEAST).min(MOST);
     if task.width == 1 || rest <= each {
-        return Vec::new(task.alloc);
+        return Ok(());
     }
-    match ask_group(factored, i, each) {
-        Ok(found) => found,
-        Err(Memory) => Vec::new(task.alloc),
-    }
+    let starts = starts_from(task, i, each)?;
+    let runs = ask_runs(factored, starts.as_slice(), each)?;
+    add_runs(ahead, runs)
 }
 
-/// Solves the pair at a place by asking now: ahead if that can be, else by the asker that is kept.
-pub(crate) fn solve_pair<A: PathAlgebra, R: Threads + Sync>(
+/// Solves the pair at a place by asking: ahead if that can be and memory suffices, else by the
+/// asker that is kept.
+pub(crate) fn ask_pair<A: PathAlgebra, R: Threads + Sync>(
     factored: &FactoredTask<'_, A, R>,
     asker: &mut RouteAsker,
-    ahead: &mut Vec<Searched<A::Value>>,
     i: usize,
-) -> Result<Solved<A::Value>, Memory>
+    ahead: &mut Vec<Searched<A::Value>>,
+) -> Result<(), Memory>
     requires place { IsPlaceIn factored.now.over.now i }
     requires pairs { ArePairsIn factored.now.over.now }
     requires carried { IsCarriedIn A.meaning factored.now }
     requires same { asker.old.factors ≡ factored.now.factors.now }
+    requires ahead { AreFoundIn A.meaning factored.now.over.now ahead.old.items }
     ensures same { asker.new.factors ≡ asker.old.factors }
-    ensures ahead { AreFoundIn A.meaning factored.now.over.now ahead.new.items }
-    ensures solved { IfOk result (IsSolvedIn A.meaning factored.now.over.now i) }
+    ensures solved { SolvesNextIn A.meaning factored.now.over.now i ahead.new.items result }
 {
-    *ahead = ask_ahead(factored, i);
-    if let Some(solved) = take_at(ahead, i) {
-        return Ok(solved);
+    let _ = ask_ahead(factored, i, ahead);
+    if advance(factored.over, i, ahead) {
+        return Ok(());
     }
-    let found = ask_at(factored, asker, i)?;
-    Ok(found.solved)
+    let next = ask_at(factored, asker, i)?;
+    add_next(factored.over, i, next, ahead)
 }

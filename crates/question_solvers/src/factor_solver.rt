@@ -1,5 +1,5 @@
 //! What the solver by factors keeps between two questions.
-ghost use Rattle.std.specs.Prelude.{◌≡◌, ◌≢◌, ◌↔◌, ℕ, length, IfErr, IfOk, IfSome, IsNone, IsSome, IsTrue, None, Ok, OnOk, Some};
+ghost use Rattle.std.specs.Prelude.{◌≡◌, ◌≢◌, ◌↔◌, ℕ, length, IfErr, IfOk, IfSome, IsNone, IsSome, IsTrue, None, Ok, OnOk};
 ghost use Rattle.std.specs.Option.{ForSome, IsSomeAnd};
 ghost use Rattle.path_algebra.specs.Counted.{cost_of, CountsFit};
 ghost use Rattle.elimination_order.specs.Bounds.{AreWithinBounds, IsTooDense};
@@ -9,8 +9,6 @@ ghost use Rattle.question_solvers.specs.Orders.{IsOrderOf};
 ghost use Rattle.question_solvers.specs.declared.factor_solver.Refusal.TheVariants.{Dense, Heavy};
 
 use crate::plain_solver::PlainSolver;
-use crate::searched::Searched;
-use crate::solved::Solved;
 use elimination_order::Counts;
 use factor_routes::{RoadFactors, RouteAsker, Unfactored};
 use path_algebra::{Cost, PathAlgebra};
@@ -85,10 +83,6 @@ pub struct FactorSolver<A: PathAlgebra> {
     pub(crate) factored: Option<Factored>,
     /// For which costs the graph is not factored, and why.
     pub(crate) refused: Option<(Cost, Refusal)>,
-    /// What was asked of the factors ahead of its turn, the next last.
-    pub(crate) ahead: Vec<Searched<A::Value>>,
-    /// What the factors solved last.
-    pub(crate) last: Option<Solved<A::Value>>,
     ghost each: { ForSome order (λ list. IsOrderOf plain.graph.vertices list.items) },
     ghost of_graph: { ForSome factored (λ f. f.factors.roads ≡ plain.graph) },
     ghost heavy: { ForSome refused (λ r. r.1 ≡ Heavy → (k : ℕ) → CountsFit plain.graph (cost_of r.0) k → ⊥) },
@@ -97,7 +91,7 @@ pub struct FactorSolver<A: PathAlgebra> {
 
 impl<A: PathAlgebra> FactorSolver<A> {
     ghost use Rattle.road_graph.specs.GraphData.{IsGraph};
-    ghost use Rattle.question_solvers.specs.Solvers.{IsFactoringBy, IsToldRightly, last_by_factors};
+    ghost use Rattle.question_solvers.specs.Solvers.{IsFactoringBy, IsToldRightly};
 
     /// The solver over a graph, which is not factored yet, and later by an order of its vertices if
     /// one is given.
@@ -111,8 +105,6 @@ impl<A: PathAlgebra> FactorSolver<A> {
             order,
             factored: None,
             refused: None,
-            ahead: Vec::new(alloc),
-            last: None,
         }
     }
 
@@ -122,17 +114,6 @@ impl<A: PathAlgebra> FactorSolver<A> {
         ensures graph { IsGraph self.now.plain.graph }
     {
         self.plain.vertices()
-    }
-
-    /// What it solved last.
-    pub fn last(&self) -> &Solved<A::Value>
-        requires { IsSome (last_by_factors self.now.last self.now.plain) }
-        ensures { last_by_factors self.now.last self.now.plain ≡ Some result.now }
-    {
-        match &self.last {
-            Some(solved) => solved,
-            None => self.plain.last(),
-        }
     }
 
     /// What became of factoring the graph.

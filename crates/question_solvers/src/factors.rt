@@ -1,87 +1,60 @@
 //! Solves questions by the factors of the graph.
 ghost use Rattle.std.specs.Prelude.{◌≡◌, IfOk, OnOk, IfSome, IsNone, IsSome};
+ghost use Rattle.std.specs.Borrow.{sem};
 ghost use Rattle.path_algebra.specs.Carried.{IsCarried};
 ghost use Rattle.path_algebra.specs.Counted.{cost_of};
 ghost use Rattle.road_files.specs.Asked.{AreQuestionsOf, asked_of};
 ghost use Rattle.question_solvers.specs.Questions.{HasPlace};
-ghost use Rattle.question_solvers.specs.Solved.{IsSolvedFor};
-ghost use Rattle.question_solvers.specs.Solvers.{IsFactorReady, IsFactoredFor, IsSoughtBy, last_by_factors};
-ghost use Rattle.question_solvers.specs.Tasks.{AreFoundIn, ArePairsIn, IsCarriedIn, IsPlaceIn, IsPoolIn, IsSolvedIn};
+ghost use Rattle.question_solvers.specs.Lending.{EndsFactors};
+ghost use Rattle.question_solvers.specs.Solved.{IsNext, IsSolvedFor};
+ghost use Rattle.question_solvers.specs.Solvers.{IsFactorAfter, IsFactorReady, IsFactoredFor, IsSoughtBy};
+ghost use Rattle.question_solvers.specs.Tasks.{AreFoundIn, ArePairsIn, IsCarriedIn, IsFoundIn, IsPlaceIn, IsPoolIn, SolvesNextIn};
 
-use crate::ahead::take_at;
-use crate::askers::solve_pair;
+use crate::ahead::{add_next, advance, solution_of};
+use crate::askers::ask_pair;
 use crate::factor_solver::{FactorSolver, Factored};
 use crate::pair_solver::PairSolver;
 use crate::pairs::search_near;
-use crate::plain::{make_rows, solve_next_plainly, start_plain};
+use crate::plain::{make_rows, solve_plainly, start_plain};
 use crate::searched::Searched;
 use crate::solved::Solved;
 use crate::task::{FactoredTask, PairTask, Task, TaskOver};
 use elimination_order::Counts;
 use factor_routes::RouteAsker;
 use path_algebra::PathAlgebra;
-use road_files::{Kind, Questions};
+use road_files::Kind;
 use road_graph::Memory;
 use std::alloc::Global;
 use std::thread::Threads;
 
-/// Solves the question at a place by asking the factors of its graph.
-fn ask_factors<A: PathAlgebra, R: Threads + Sync>(
+/// Solves the question at a place, from sources, by two sweeps over the factors of its graph.
+fn sweep<A: PathAlgebra, R>(
     factored: &FactoredTask<'_, A, R>,
-    asker: &mut RouteAsker,
-    ahead: &mut Vec<Searched<A::Value>>,
-    i: usize,
-) -> Result<Solved<A::Value>, Memory>
-    requires place { IsPlaceIn factored.now.over.now i }
+    place: usize,
+) -> Result<Searched<A::Value>, Memory>
+    requires unpaired { ArePairsIn factored.now.over.now → ⊥ }
+    requires place { IsPlaceIn factored.now.over.now place }
     requires carried { IsCarriedIn A.meaning factored.now }
-    requires same { asker.old.factors ≡ factored.now.factors.now }
-    requires ahead { AreFoundIn A.meaning factored.now.over.now ahead.old.items }
-    ensures same { asker.new.factors ≡ asker.old.factors }
-    ensures ahead { AreFoundIn A.meaning factored.now.over.now ahead.new.items }
-    ensures solved { IfOk result (IsSolvedIn A.meaning factored.now.over.now i) }
+    ensures { IfOk result (IsFoundIn A.meaning factored.now.over.now place) }
 {
-    let task = factored.over.task;
-    match task.questions {
-        Questions::Pairs(_) => solve_pair(factored, asker, ahead, i),
-        _ => {
-            let (factors, rows) = (factored.factors, factored.rows);
-            let sources = task.questions.sources(i);
-            let (labels, tree) = factors.solve_with_tree(task.alloc, task.algebra, rows, sources)?;
-            Ok(Solved::Tree { labels, tree })
-        }
-    }
+    let (task, factors) = (factored.over.task, factored.factors);
+    let (alloc, sources) = (task.alloc, task.questions.sources(place));
+    let (labels, tree) = factors.solve_with_tree(alloc, task.algebra, factored.by_head, sources)?;
+    Ok(Searched {
+        place,
+        solved: Solved::Tree { labels, tree },
+    })
 }
 
-/// Solves the pair at a place by a search that may give up: none if it does, or if memory does not
-/// suffice.
-fn solve_near<A: PathAlgebra, R>(
-    factored: &FactoredTask<'_, A, R>,
-    pool: &mut Vec<PairSolver<A>>,
-    i: usize,
-) -> Option<Solved<A::Value>>
-    requires place { IsPlaceIn factored.now.over.now i }
-    requires pairs { ArePairsIn factored.now.over.now }
-    requires pool { IsPoolIn factored.now.over.now pool.old.items }
-    ensures pool { IsPoolIn factored.now.over.now pool.new.items }
-    ensures solved { IfSome result (IsSolvedIn A.meaning factored.now.over.now i) }
-{
-    let (over, rows) = (factored.over, factored.rows);
-    let pairs = PairTask { over, rows };
-    match search_near(&pairs, i, pool) {
-        Ok(near) => near,
-        Err(Memory) => None,
-    }
-}
-
-/// Solves the question at a place on a factored graph: a pair by what was asked ahead, or by a
-/// search if that decides it soon; else by asking the factors.
+/// Solves the question at a place on a factored graph: by what was solved ahead; else a pair by a
+/// search, if that decides it soon, or by asking the factors.
 fn solve_by_factors<A: PathAlgebra, R: Threads + Sync>(
     factored: &FactoredTask<'_, A, R>,
     pool: &mut Vec<PairSolver<A>>,
     asker: &mut RouteAsker,
     ahead: &mut Vec<Searched<A::Value>>,
     i: usize,
-) -> Result<Solved<A::Value>, Memory>
+) -> Result<(), Memory>
     requires place { IsPlaceIn factored.now.over.now i }
     requires carried { IsCarriedIn A.meaning factored.now }
     requires pool { IsPoolIn factored.now.over.now pool.old.items }
@@ -89,18 +62,20 @@ fn solve_by_factors<A: PathAlgebra, R: Threads + Sync>(
     requires ahead { AreFoundIn A.meaning factored.now.over.now ahead.old.items }
     ensures pool { IsPoolIn factored.now.over.now pool.new.items }
     ensures same { asker.new.factors ≡ asker.old.factors }
-    ensures ahead { AreFoundIn A.meaning factored.now.over.now ahead.new.items }
-    ensures solved { IfOk result (IsSolvedIn A.meaning factored.now.over.now i) }
+    ensures solved { SolvesNextIn A.meaning factored.now.over.now i ahead.new.items result }
 {
-    if let Some(solved) = take_at(ahead, i) {
-        return Ok(solved);
+    let (over, by_head) = (factored.over, factored.by_head);
+    if advance(over, i, ahead) {
+        return Ok(());
     }
-    if factored.over.task.questions.kind() == Kind::Pairs {
-        if let Some(solved) = solve_near(factored, pool, i) {
-            return Ok(solved);
-        }
+    if over.task.questions.kind() != Kind::Pairs {
+        let next = sweep(factored, i)?;
+        return add_next(over, i, next, ahead);
     }
-    ask_factors(factored, asker, ahead, i)
+    if let Ok(Some(next)) = search_near(&PairTask { over, by_head }, i, pool) {
+        return add_next(over, i, next, ahead);
+    }
+    ask_pair(factored, asker, i, ahead)
 }
 
 /// Seeks an order by which to factor the graph for what arcs cost under an algebra, unless there is
@@ -157,15 +132,13 @@ pub fn start_factors<A: PathAlgebra, R>(
         (asked_of task.now.questions.now) solver.new) }
     ensures factored { OnOk result (IsFactoredFor (A.meaning task.now.algebra) solver.new) }
 {
-    solver.last = None;
     start_plain(task, &mut solver.plain)?;
-    factor(task.alloc, task.algebra, solver)?;
-    solver.ahead.clear();
-    Ok(())
+    factor(task.alloc, task.algebra, solver)
 }
 
-/// Solves the question at a place: by the factors, or plainly, if there are none.
-pub fn solve_next_by_factors<A: PathAlgebra, R: Threads + Sync>(
+/// Solves the question at a place: by the factors, or plainly, if there are none. Its solution is
+/// the next one then.
+fn solve_factored<A: PathAlgebra, R: Threads + Sync>(
     task: &Task<'_, A, R>,
     solver: &mut FactorSolver<A>,
     i: usize,
@@ -174,36 +147,48 @@ pub fn solve_next_by_factors<A: PathAlgebra, R: Threads + Sync>(
     requires within { AreQuestionsOf solver.old.plain.graph.vertices task.now.questions.now }
     requires ready { IsFactorReady A.meaning task.now.algebra (asked_of task.now.questions.now)
         solver.old }
-    ensures graph { solver.new.plain.graph ≡ solver.old.plain.graph }
-    ensures ready { OnOk result (IsFactorReady A.meaning task.now.algebra
-        (asked_of task.now.questions.now) solver.new) }
-    ensures some { OnOk result (IsSome (last_by_factors solver.new.last solver.new.plain)) }
-    ensures solved { OnOk result (IfSome (last_by_factors solver.new.last solver.new.plain)
-        (IsSolvedFor (A.meaning task.now.algebra) solver.old.plain.graph
-        (asked_of task.now.questions.now) i)) }
+    ensures after { IsFactorAfter A.meaning task.now.algebra (asked_of task.now.questions.now)
+        solver.old solver.new }
+    ensures next { OnOk result (IsNext (A.meaning task.now.algebra) solver.old.plain.graph
+        (asked_of task.now.questions.now) i solver.new.plain.searched.items) }
 {
-    solver.last = None;
     let Some(factored) = solver.factored.take() else {
-        return solve_next_plainly(task, &mut solver.plain, i);
+        return solve_plainly(task, &mut solver.plain, i);
     };
     let Factored { factors, mut asker } = factored;
-    let (plain, ahead) = (&mut solver.plain, &mut solver.ahead);
-    let Some(rows) = &plain.by_head else {
+    let plain = &mut solver.plain;
+    let Some(by_head) = &plain.by_head else {
         unreachable!()
     };
     let graph = &plain.graph;
     let over = TaskOver { task, graph };
     let over_factors = FactoredTask {
         over: &over,
-        rows,
+        by_head,
         factors: &factors,
     };
-    let pool = &mut plain.pool;
+    let (pool, ahead) = (&mut plain.pool, &mut plain.searched);
     let solved = solve_by_factors(&over_factors, pool, &mut asker, ahead, i);
     solver.factored = Some(Factored { factors, asker });
-    let Ok(solved) = solved else {
-        return Err(Memory);
-    };
-    solver.last = Some(solved);
-    Ok(())
+    solved
+}
+
+/// Solves the question at a place: by the factors, or plainly, if there are none.
+pub fn solve_next_by_factors<'s, A: PathAlgebra, R: Threads + Sync>(
+    solver: &'s mut FactorSolver<A>,
+    task: &Task<'_, A, R>,
+    i: usize,
+) -> Result<&'s Solved<A::Value>, Memory>
+    requires place { HasPlace task.now.questions.now i }
+    requires within { AreQuestionsOf solver.old.plain.graph.vertices task.now.questions.now }
+    requires ready { IsFactorReady A.meaning task.now.algebra (asked_of task.now.questions.now)
+        solver.old }
+    ensures* after { sem 𝓛 (EndsFactors A.row A.Value.row A.PathAlgebra A.meaning
+        task.now.algebra (asked_of task.now.questions.now) solver.entry) }
+    ensures solved { IfOk result (λ s. IsSolvedFor (A.meaning task.now.algebra)
+        solver.old.plain.graph (asked_of task.now.questions.now) i s.now) }
+{
+    solve_factored(task, solver, i)?;
+    let solved = solution_of(solver.plain.searched.as_slice());
+    Ok(solved)
 }

@@ -1,13 +1,13 @@
 //! Solves pairs, several side by side, by a pool of searchers.
 ghost use Rattle.std.specs.Prelude.{◌≡◌, ◌≤◌, ◌<◌, ℕ, length, slice_index_or, All, IfOk, IfSome};
 ghost use Rattle.std.specs.List.{AllZip};
-ghost use Rattle.question_solvers.specs.Tasks.{AreFoundInFrom, IsFoundIn, IsPlaceIn, IsPoolIn, IsSearcherIn, IsSolvedIn};
+ghost use Rattle.question_solvers.specs.Tasks.{AreFoundIn, IsFoundIn, IsPlaceIn, IsPoolIn, IsSearcherIn};
 
+use crate::ahead::add_run;
 use crate::pair_search::{pair_at, solve_at, solve_near_at};
 use crate::pair_solver::{PairSolver, find_from, gather, grow};
 use crate::searched::Searched;
-use crate::side_by_side::places_from;
-use crate::solved::Solved;
+use crate::side_by_side::{follows, places_from};
 use crate::task::PairTask;
 use path_algebra::PathAlgebra;
 use rayon::prelude::*;
@@ -92,24 +92,33 @@ fn search_each<A: PathAlgebra, R: Threads + Sync>(
     search_group(pairs, places, pool.as_mut_slice())
 }
 
-/// Solves the pair at a place, and side by side those that follow it with other sources, as many as
-/// the width in all; it alone, and by a pool of one, if memory does not suffice for all.
+/// Solves the pair at a place and those that follow it with other sources, as many as the width in
+/// all, side by side, unless that is one or the pair follows one of its own source. They are added
+/// ahead. If memory does not suffice, the pool is cut to one.
 pub(crate) fn search_pairs<A: PathAlgebra, R: Threads + Sync>(
     pairs: &PairTask<'_, A, R>,
     i: usize,
     pool: &mut Vec<PairSolver<A>>,
-) -> Result<Vec<Searched<A::Value>>, Memory>
+    ahead: &mut Vec<Searched<A::Value>>,
+) -> Result<(), Memory>
     requires place { IsPlaceIn pairs.now.over.now i }
     requires pool { IsPoolIn pairs.now.over.now pool.old.items }
-    ensures found { IfOk result (λ v. AreFoundInFrom A.meaning pairs.now.over.now i v.items) }
+    requires ahead { AreFoundIn A.meaning pairs.now.over.now ahead.old.items }
     ensures pool { IsPoolIn pairs.now.over.now pool.new.items }
+    ensures ahead { AreFoundIn A.meaning pairs.now.over.now ahead.new.items }
 {
-    let places = places_from(pairs.over.task, i)?;
-    if let Ok(group) = search_each(pairs, places.as_slice(), pool) {
-        return Ok(group);
+    let task = pairs.over.task;
+    if task.width == 1 || follows(task.questions, i) {
+        return Ok(());
     }
-    pool.truncate(1);
-    search_each(pairs, &places[..1], pool)
+    let places = places_from(task, i)?;
+    match search_each(pairs, places.as_slice(), pool) {
+        Ok(group) => add_run(ahead, group),
+        Err(Memory) => {
+            pool.truncate(1);
+            Err(Memory)
+        }
+    }
 }
 
 /// Which of a pool solves the pair at a place: one that goes on with its search, if there is one.
@@ -148,10 +157,10 @@ pub(crate) fn search_near<A: PathAlgebra, R>(
     pairs: &PairTask<'_, A, R>,
     i: usize,
     pool: &mut Vec<PairSolver<A>>,
-) -> Result<Option<Solved<A::Value>>, Memory>
+) -> Result<Option<Searched<A::Value>>, Memory>
     requires place { IsPlaceIn pairs.now.over.now i }
     requires pool { IsPoolIn pairs.now.over.now pool.old.items }
-    ensures solved { IfOk result (λ near. IfSome near (IsSolvedIn A.meaning pairs.now.over.now i)) }
+    ensures solved { IfOk result (λ near. IfSome near (IsFoundIn A.meaning pairs.now.over.now i)) }
     ensures pool { IsPoolIn pairs.now.over.now pool.new.items }
 {
     let k = find_for(pairs, i, pool)?;

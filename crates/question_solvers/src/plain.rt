@@ -1,104 +1,94 @@
 //! Solves questions by the plain solver.
-ghost use Rattle.std.specs.Prelude.{◌≡◌, ◌<◌, length, slice_get, HoldsAt, IfOk, OnOk, IfSome, IsSome};
+ghost use Rattle.std.specs.Prelude.{◌≡◌, IfOk, OnOk, IsSome};
+ghost use Rattle.std.specs.Borrow.{sem};
 ghost use Rattle.std.specs.Option.{ForSome};
 ghost use Rattle.road_files.specs.Asked.{AreQuestionsOf, asked_of};
 ghost use Rattle.question_solvers.specs.Questions.{HasPlace};
-ghost use Rattle.question_solvers.specs.Solved.{IsSolvedFor};
-ghost use Rattle.question_solvers.specs.Solvers.{IsPlainReady};
-ghost use Rattle.question_solvers.specs.Tasks.{AreFoundIn, ArePairsIn, IsPlaceIn, IsPoolIn, IsSolvedIn};
+ghost use Rattle.question_solvers.specs.Lending.{EndsPlain};
+ghost use Rattle.question_solvers.specs.Solved.{IsNext, IsSolvedFor};
+ghost use Rattle.question_solvers.specs.Solvers.{IsPlainAfter, IsPlainReady};
+ghost use Rattle.question_solvers.specs.Tasks.{AreFoundIn, ArePairsIn, IsPlaceIn, IsPoolIn, SolvesNextIn};
 
+use crate::ahead::{add_next, advance, solution_of};
 use crate::pair_solver::{PairSolver, set_algebra};
 use crate::pairs::{search_on, search_pairs};
 use crate::plain_solver::PlainSolver;
-use crate::searched::{Searched, find_same, put_first};
-use crate::side_by_side::{follows, search_trees};
+use crate::searched::Searched;
+use crate::side_by_side::{search, search_ahead};
+use crate::solved::Solved;
 use crate::task::{PairTask, Task, TaskOver};
 use path_algebra::PathAlgebra;
-use road_files::Kind;
+use road_files::{Kind, Questions};
 use road_graph::{InGraph, Memory};
 use std::alloc::Global;
 use std::thread::Threads;
 
-/// Which of those that were found solves the question at a place, from sources; if none does, it is
-/// solved by a search.
+/// Solves the question at a place, from sources, with those that follow it, or alone.
 fn solve_from_sources<A: PathAlgebra, R: Threads + Sync>(
     over: &TaskOver<'_, A, R>,
     i: usize,
-    searched: &mut Vec<Searched<A::Value>>,
-) -> Result<usize, Memory>
+    ahead: &mut Vec<Searched<A::Value>>,
+) -> Result<(), Memory>
     requires unpaired { ArePairsIn over.now → ⊥ }
     requires place { IsPlaceIn over.now i }
-    requires searched { AreFoundIn A.meaning over.now searched.old.items }
-    ensures inside { IfOk result (λ k. k < length searched.new.items) }
-    ensures answers { IfOk result (HoldsAt (λ s. IsSolvedIn A.meaning over.now i s.solved)
-        searched.new.items) }
-    ensures searched { AreFoundIn A.meaning over.now searched.new.items }
+    requires ahead { AreFoundIn A.meaning over.now ahead.old.items }
+    ensures { SolvesNextIn A.meaning over.now i ahead.new.items result }
 {
-    if let Some(k) = find_same(searched.as_slice(), over.task.questions, i) {
-        return Ok(k);
+    let _ = search_ahead(over, i, ahead);
+    if advance(over, i, ahead) {
+        return Ok(());
     }
-    searched.clear();
-    *searched = search_trees(over, i)?;
-    Ok(0)
+    let next = search(over, i)?;
+    add_next(over, i, next, ahead)
 }
 
-/// The same of a pair. If it is solved alone, or follows one of its source, one of the pool solves
-/// it.
+/// The same of a pair, which is solved alone by the one of the pool that can go on, if there is one.
 fn solve_pair<A: PathAlgebra, R: Threads + Sync>(
     pairs: &PairTask<'_, A, R>,
     i: usize,
     pool: &mut Vec<PairSolver<A>>,
-    searched: &mut Vec<Searched<A::Value>>,
-) -> Result<usize, Memory>
+    ahead: &mut Vec<Searched<A::Value>>,
+) -> Result<(), Memory>
     requires place { IsPlaceIn pairs.now.over.now i }
     requires pool { IsPoolIn pairs.now.over.now pool.old.items }
-    requires searched { AreFoundIn A.meaning pairs.now.over.now searched.old.items }
+    requires ahead { AreFoundIn A.meaning pairs.now.over.now ahead.old.items }
     ensures pool { IsPoolIn pairs.now.over.now pool.new.items }
-    ensures inside { IfOk result (λ k. k < length searched.new.items) }
-    ensures answers { IfOk result (HoldsAt (λ s. IsSolvedIn A.meaning pairs.now.over.now i
-        s.solved) searched.new.items) }
-    ensures searched { AreFoundIn A.meaning pairs.now.over.now searched.new.items }
+    ensures solved { SolvesNextIn A.meaning pairs.now.over.now i ahead.new.items result }
 {
-    let task = pairs.over.task;
-    if let Some(k) = find_same(searched.as_slice(), task.questions, i) {
-        return Ok(k);
+    let over = pairs.over;
+    let _ = search_pairs(pairs, i, pool, ahead);
+    if advance(over, i, ahead) {
+        return Ok(());
     }
-    if task.width == 1 || follows(task.questions, i) {
-        let next = search_on(pairs, i, pool)?;
-        put_first(searched, next)?;
-        return Ok(0);
-    }
-    searched.clear();
-    *searched = search_pairs(pairs, i, pool)?;
-    Ok(0)
+    let next = search_on(pairs, i, pool)?;
+    add_next(over, i, next, ahead)
 }
 
-/// Which of those that were found solves the question at a place; if none does, it is solved, and
-/// found with them.
-fn solve_plainly<A: PathAlgebra, R: Threads + Sync>(
+/// Solves the question at a place: by what was solved ahead, or else by a search.
+fn solve_over<A: PathAlgebra, R: Threads + Sync>(
     over: &TaskOver<'_, A, R>,
     by_head: &Option<InGraph>,
     i: usize,
     pool: &mut Vec<PairSolver<A>>,
-    searched: &mut Vec<Searched<A::Value>>,
-) -> Result<usize, Memory>
+    ahead: &mut Vec<Searched<A::Value>>,
+) -> Result<(), Memory>
     requires place { IsPlaceIn over.now i }
-    requires rows { ForSome by_head.now (λ rows. rows ≡ over.now.graph.now) }
+    requires by_head { ForSome by_head.now (λ by_head. by_head ≡ over.now.graph.now) }
     requires some { ArePairsIn over.now → IsSome by_head.now }
     requires pool { IsPoolIn over.now pool.old.items }
-    requires searched { AreFoundIn A.meaning over.now searched.old.items }
+    requires ahead { AreFoundIn A.meaning over.now ahead.old.items }
     ensures pool { IsPoolIn over.now pool.new.items }
-    ensures inside { IfOk result (λ k. k < length searched.new.items) }
-    ensures answers { IfOk result (HoldsAt (λ s. IsSolvedIn A.meaning over.now i s.solved)
-        searched.new.items) }
-    ensures searched { AreFoundIn A.meaning over.now searched.new.items }
+    ensures solved { SolvesNextIn A.meaning over.now i ahead.new.items result }
 {
-    if over.task.questions.kind() != Kind::Pairs {
-        return solve_from_sources(over, i, searched);
+    if advance(over, i, ahead) {
+        return Ok(());
     }
-    let Some(rows) = by_head else { unreachable!() };
-    let pairs = PairTask { over, rows };
-    solve_pair(&pairs, i, pool, searched)
+    match (over.task.questions, by_head) {
+        (Questions::Pairs(_), Some(by_head)) => {
+            solve_pair(&PairTask { over, by_head }, i, pool, ahead)
+        }
+        _ => solve_from_sources(over, i, ahead),
+    }
 }
 
 /// Makes the rows of arcs by head, unless they are there.
@@ -112,8 +102,8 @@ pub(crate) fn make_rows<A: PathAlgebra>(
     ensures rows { OnOk result (IsSome solver.new.by_head) }
 {
     if solver.by_head.is_none() {
-        let rows = InGraph::of(alloc, &solver.graph)?;
-        solver.by_head = Some(rows);
+        let by_head = InGraph::of(alloc, &solver.graph)?;
+        solver.by_head = Some(by_head);
     }
     Ok(())
 }
@@ -137,8 +127,8 @@ pub fn start_plain<A: PathAlgebra, R>(
     Ok(())
 }
 
-/// Solves the question at a place.
-pub fn solve_next_plainly<A: PathAlgebra, R: Threads + Sync>(
+/// Solves the question at a place: its solution is the next one then.
+pub(crate) fn solve_plainly<A: PathAlgebra, R: Threads + Sync>(
     task: &Task<'_, A, R>,
     solver: &mut PlainSolver<A>,
     i: usize,
@@ -147,19 +137,33 @@ pub fn solve_next_plainly<A: PathAlgebra, R: Threads + Sync>(
     requires within { AreQuestionsOf solver.old.graph.vertices task.now.questions.now }
     requires ready { IsPlainReady A.meaning task.now.algebra (asked_of task.now.questions.now)
         solver.old }
-    ensures graph { solver.new.graph ≡ solver.old.graph }
-    ensures rows { solver.new.by_head ≡ solver.old.by_head }
-    ensures ready { IsPlainReady A.meaning task.now.algebra (asked_of task.now.questions.now)
-        solver.new }
-    ensures some { OnOk result (IsSome (slice_get solver.new.searched.items solver.new.last)) }
-    ensures solved { OnOk result (IfSome (slice_get solver.new.searched.items solver.new.last)
-        (λ s. IsSolvedFor (A.meaning task.now.algebra) solver.old.graph
-        (asked_of task.now.questions.now) i s.solved)) }
+    ensures after { IsPlainAfter A.meaning task.now.algebra (asked_of task.now.questions.now)
+        solver.old solver.new }
+    ensures next { OnOk result (IsNext (A.meaning task.now.algebra) solver.old.graph
+        (asked_of task.now.questions.now) i solver.new.searched.items) }
 {
     let graph = &solver.graph;
     let over = TaskOver { task, graph };
-    let (pool, searched) = (&mut solver.pool, &mut solver.searched);
-    let k = solve_plainly(&over, &solver.by_head, i, pool, searched)?;
-    solver.last = k;
-    Ok(())
+    let (pool, ahead) = (&mut solver.pool, &mut solver.searched);
+    solve_over(&over, &solver.by_head, i, pool, ahead)
+}
+
+/// Solves the question at a place.
+pub fn solve_next_plainly<'s, A: PathAlgebra, R: Threads + Sync>(
+    solver: &'s mut PlainSolver<A>,
+    task: &Task<'_, A, R>,
+    i: usize,
+) -> Result<&'s Solved<A::Value>, Memory>
+    requires place { HasPlace task.now.questions.now i }
+    requires within { AreQuestionsOf solver.old.graph.vertices task.now.questions.now }
+    requires ready { IsPlainReady A.meaning task.now.algebra (asked_of task.now.questions.now)
+        solver.old }
+    ensures* after { sem 𝓛 (EndsPlain A.row A.Value.row A.PathAlgebra A.meaning task.now.algebra
+        (asked_of task.now.questions.now) solver.entry) }
+    ensures solved { IfOk result (λ s. IsSolvedFor (A.meaning task.now.algebra) solver.old.graph
+        (asked_of task.now.questions.now) i s.now) }
+{
+    solve_plainly(task, solver, i)?;
+    let solved = solution_of(solver.searched.as_slice());
+    Ok(solved)
 }

@@ -1,10 +1,9 @@
 //! What the plain solver keeps between two questions.
-ghost use Rattle.std.specs.Prelude.{◌≡◌, All, IsSome, Some};
+ghost use Rattle.std.specs.Prelude.{◌≡◌, All};
 ghost use Rattle.std.specs.Option.{ForSome};
 
 use crate::pair_solver::PairSolver;
 use crate::searched::Searched;
-use crate::solved::Solved;
 use path_algebra::PathAlgebra;
 use road_graph::{InGraph, OutGraph};
 use std::alloc::Global;
@@ -20,17 +19,14 @@ pub struct PlainSolver<A: PathAlgebra> {
     pub(crate) by_head: Option<InGraph>,
     /// What solves pairs, as many as are solved side by side, each made when it is needed.
     pub(crate) pool: Vec<PairSolver<A>>,
-    /// What was found side by side.
+    /// What was solved ahead of its turn, the next one last.
     pub(crate) searched: Vec<Searched<A::Value>>,
-    /// Which of these answers the question that was solved last.
-    pub(crate) last: usize,
-    ghost rows: { ForSome by_head (λ rows. rows ≡ graph) },
+    ghost rows: { ForSome by_head (λ by_head. by_head ≡ graph) },
     ghost own: { All (λ s. s.searcher.roads ≡ graph) pool.items },
 }
 
 impl<A: PathAlgebra> PlainSolver<A> {
     ghost use Rattle.road_graph.specs.GraphData.{IsGraph};
-    ghost use Rattle.question_solvers.specs.Solvers.{last_of_plain};
 
     /// The solver over a graph.
     pub fn new(alloc: Global, graph: OutGraph) -> Self
@@ -41,7 +37,6 @@ impl<A: PathAlgebra> PlainSolver<A> {
             by_head: None,
             pool: Vec::new(alloc),
             searched: Vec::new(alloc),
-            last: 0,
         }
     }
 
@@ -52,13 +47,5 @@ impl<A: PathAlgebra> PlainSolver<A> {
     {
         self.graph.holds();
         self.graph.vertices()
-    }
-
-    /// What it solved last.
-    pub fn last(&self) -> &Solved<A::Value>
-        requires { IsSome (last_of_plain self.now) }
-        ensures { last_of_plain self.now ≡ Some result.now }
-    {
-        &self.searched[self.last].solved
     }
 }

@@ -1,10 +1,11 @@
 //! Searches of the plain solver, several side by side.
-ghost use Rattle.std.specs.Prelude.{◌≡◌, ◌↔◌, ◌-◌, ◌≤◌, ◌∷◌, List, ℕ, length, slice_index_or, All, IfOk, IsTrue};
+ghost use Rattle.std.specs.Prelude.{◌≡◌, ◌↔◌, ◌-◌, ◌≤◌, length, slice_index_or, All, IfOk, IsTrue};
 ghost use Rattle.std.specs.List.{AllZip};
 ghost use Rattle.road_files.specs.Asked.{Question, asked_of, sources_of};
 ghost use Rattle.question_solvers.specs.Questions.{HasPlace};
-ghost use Rattle.question_solvers.specs.Tasks.{AreFoundInFrom, ArePairsIn, IsFoundIn, IsPlaceIn};
+ghost use Rattle.question_solvers.specs.Tasks.{AreFoundIn, ArePairsIn, IsFoundIn, IsPlaceIn};
 
+use crate::ahead::add_run;
 use crate::searched::Searched;
 use crate::solved::Solved;
 use crate::task::{Task, TaskOver};
@@ -17,7 +18,7 @@ use std::thread::Threads;
 use tree_search::solve_with_tree;
 
 /// Solves the question at a place, from sources, by a search for labels and tree.
-fn search<A: PathAlgebra, R>(
+pub(crate) fn search<A: PathAlgebra, R>(
     over: &TaskOver<'_, A, R>,
     place: usize,
 ) -> Result<Searched<A::Value>, Memory>
@@ -51,7 +52,6 @@ pub(crate) fn places_from<A: PathAlgebra, R>(
     first: usize,
 ) -> Result<Vec<usize>, AllocError>
     requires first { HasPlace task.now.questions.now first }
-    ensures first { IfOk result (λ v. (rest : List ℕ) × (v.items ≡ first ∷ rest)) }
     ensures inside { IfOk result (λ v. All (HasPlace task.now.questions.now) v.items) }
     ensures few { IfOk result (λ v. length v.items ≤ task.now.width) }
 {
@@ -91,19 +91,23 @@ fn search_each<A: PathAlgebra, R: Threads + Sync>(
     searched
 }
 
-/// Solves the question at a place, from sources, by a search, and side by side those that follow it
-/// with other sources, as many as the width in all; it alone, if memory does not suffice for all.
-pub(crate) fn search_trees<A: PathAlgebra, R: Threads + Sync>(
+/// Solves the question at a place, from sources, and those that follow it with other sources, as
+/// many as the width in all, by searches side by side, if that is more than one. They are added
+/// ahead.
+pub(crate) fn search_ahead<A: PathAlgebra, R: Threads + Sync>(
     over: &TaskOver<'_, A, R>,
     i: usize,
-) -> Result<Vec<Searched<A::Value>>, Memory>
+    ahead: &mut Vec<Searched<A::Value>>,
+) -> Result<(), Memory>
     requires unpaired { ArePairsIn over.now → ⊥ }
     requires place { IsPlaceIn over.now i }
-    ensures { IfOk result (λ v. AreFoundInFrom A.meaning over.now i v.items) }
+    requires ahead { AreFoundIn A.meaning over.now ahead.old.items }
+    ensures ahead { AreFoundIn A.meaning over.now ahead.new.items }
 {
-    let places = places_from(over.task, i)?;
-    if let Ok(group) = search_each(over, places.as_slice()) {
-        return Ok(group);
+    if over.task.width == 1 {
+        return Ok(());
     }
-    search_each(over, &places[..1])
+    let places = places_from(over.task, i)?;
+    let group = search_each(over, places.as_slice())?;
+    add_run(ahead, group)
 }

@@ -36,8 +36,8 @@ pub(crate) struct TaskOver<'b, A: PathAlgebra, R> {
 #[derive(Drop)]
 pub(crate) struct PairTask<'b, A: PathAlgebra, R> {
     pub(crate) over: &'b TaskOver<'b, A, R>,
-    pub(crate) rows: &'b InGraph,
-    ghost same: { rows.now ≡ over.now.graph.now },
+    pub(crate) by_head: &'b InGraph,
+    ghost same: { by_head.now ≡ over.now.graph.now },
     ghost pairs: { ArePairs over.now.task.now.questions.now },
 }
 
@@ -45,8 +45,8 @@ pub(crate) struct PairTask<'b, A: PathAlgebra, R> {
 #[derive(Drop)]
 pub(crate) struct FactoredTask<'b, A: PathAlgebra, R> {
     pub(crate) over: &'b TaskOver<'b, A, R>,
-    pub(crate) rows: &'b InGraph,
+    pub(crate) by_head: &'b InGraph,
     pub(crate) factors: &'b RoadFactors,
-    ghost same: { rows.now ≡ over.now.graph.now },
-    ghost own: { rows.now ≡ factors.now.roads },
+    ghost same: { by_head.now ≡ over.now.graph.now },
+    ghost own: { by_head.now ≡ factors.now.roads },
 }

@@ -1,8 +1,10 @@
 //! Solves questions by workers, one diffusion for each source.
-ghost use Rattle.std.specs.Prelude.{◌≡◌, ◌+◌, ◌<◌, [], ◌∷◌, length, slice_index_or, false, IfOk, IfErr, OnOk, IfSome, IsSome};
+ghost use Rattle.std.specs.Prelude.{◌≡◌, ◌+◌, ◌<◌, [], ◌∷◌, length, slice_index_or, false, IfOk, IfErr, OnOk};
+ghost use Rattle.std.specs.Borrow.{sem};
 ghost use Rattle.path_algebra.specs.Walks.{AreBest};
 ghost use Rattle.road_files.specs.Asked.{AreQuestionsOf, Question, asked_of, sources_of};
 ghost use Rattle.batch_run.specs.Batches.{AreNextAt, ReportedAccounts, StopsBatch, StopsOver};
+ghost use Rattle.batch_run.specs.Lending.{EndsWorkers};
 ghost use Rattle.batch_run.specs.Reports.{ReportedAllOrPrefix, accounts_due};
 ghost use Rattle.question_solvers.specs.Solved.{IsSolvedFor};
 ghost use Rattle.batch_run.specs.Solvers.{IsWorkerReady};
@@ -29,8 +31,8 @@ pub struct WorkerSolver<V: Copy> {
     pub(crate) graph: Graph,
     /// The diffusions of a batch, once it has begun.
     pub(crate) queue: Option<DiffusionQueue<V>>,
-    /// What was solved last.
-    pub(crate) last: Option<Solved<V>>,
+    /// What was solved, until another question comes.
+    pub(crate) solved: Option<Solved<V>>,
 }
 
 /// Solves the question at a place by best labels from its sources.
@@ -98,7 +100,7 @@ impl<V: Copy> WorkerSolver<V> {
         WorkerSolver {
             graph,
             queue: None,
-            last: None,
+            solved: None,
         }
     }
 }
@@ -122,30 +124,28 @@ pub(crate) fn start_workers<A: PathAlgebra, R, T>(
 }
 
 /// Solves the question at a place, the next one, by diffusions, which are reported.
-pub(crate) fn solve_next_by_workers<A: PathAlgebra, R: Threads + Wait, T: Gate, O: Watcher>(
+pub(crate) fn solve_next_by_workers<'s, A: PathAlgebra, R: Threads + Wait, T: Gate, O: Watcher>(
+    solver: &'s mut WorkerSolver<A::Value>,
     batch: &Batch<'_, A, R, T>,
-    solver: &mut WorkerSolver<A::Value>,
     i: usize,
     watcher: &mut O,
-) -> Result<(), GroupFault>
+) -> Result<&'s Solved<A::Value>, GroupFault>
     requires place { i < length (asked_of batch.now.questions.now).questions }
     requires within { AreQuestionsOf solver.old.graph.vertices batch.now.questions.now }
     requires ready { IsWorkerReady (A.meaning batch.now.algebra) batch.now.run.now.settings.now
         (asked_of batch.now.questions.now) i solver.old }
-    ensures graph { solver.new.graph ≡ solver.old.graph }
-    ensures ready { OnOk result (IsWorkerReady (A.meaning batch.now.algebra)
-        batch.now.run.now.settings.now (asked_of batch.now.questions.now) (i + 1) solver.new) }
-    ensures some { OnOk result (IsSome solver.new.last) }
-    ensures solved { OnOk result (IfSome solver.new.last (IsSolvedFor (A.meaning batch.now.algebra)
-        solver.old.graph (asked_of batch.now.questions.now) i)) }
+    ensures* after { sem 𝓛 (EndsWorkers A.row A.Value.row A.PathAlgebra A.meaning batch.now i
+        solver.entry result) }
+    ensures solved { IfOk result (λ s. IsSolvedFor (A.meaning batch.now.algebra) solver.old.graph
+        (asked_of batch.now.questions.now) i s.now) }
     ensures stops { IfErr result (StopsBatch A.meaning T.may_answer batch.now solver.old.graph) }
     ensures reported { (default : Question) → ReportedAllOrPrefix (A.meaning batch.now.algebra)
         batch.now.run.now.settings.now solver.old.graph O.may_become (accounts_due false (i + 1)
         (slice_index_or (asked_of batch.now.questions.now).questions i default)) watcher.old
         watcher.new result }
 {
-    solver.last = None;
-    let search = BatchOver {
+    solver.solved = None;
+    let over = BatchOver {
         run: batch.run,
         algebra: batch.algebra,
         graph: &solver.graph,
@@ -154,7 +154,6 @@ pub(crate) fn solve_next_by_workers<A: PathAlgebra, R: Threads + Wait, T: Gate, 
     let Some(queue) = &mut solver.queue else {
         unreachable!()
     };
-    let solved = solve_by_workers(&search, queue, i, watcher)?;
-    solver.last = Some(solved);
-    Ok(())
+    let solved = solve_by_workers(&over, queue, i, watcher)?;
+    Ok(solver.solved.insert(solved))
 }

@@ -90,8 +90,8 @@ loop-i-preserved g c =
     let first = answered (g.A.PathAlgebra.meaning c.args.batch.now.algebra) (graph_of c.args.solver.now) (asked_of c.args.batch.now.questions.now) c.loop-i.i _ _ _ (search rules) (FromSource 0) was.answered wrote in
     record {
       answered = first;
-      ready = next.ready;
-      same = record { graph = next.same.graph ∙ was.same.graph; kind = next.same.kind ∙ was.same.kind };
+      ready = next.after.ready;
+      same = record { graph = next.after.same.graph ∙ was.same.graph; kind = next.after.same.kind ∙ was.same.kind };
       first = until_next (g.A.PathAlgebra.meaning c.args.batch.now.algebra) c.args.batch.now.run.now.settings.now (graph_of c.args.solver.now) (asked_of c.args.batch.now.questions.now) (is_without_diffusions c.args.solver.now) (MayTell c.args.solver.now) g.O.Watcher.may_become _ _ c.loop-i.i _ _ was.first (FromSource 0) _ _ (answer_text wrote.0) (search rules)
           (rw (was.same.graph, was.same.kind) at (next.reported (FromSource 0))) wrote.2 first;
     }
@@ -100,7 +100,7 @@ pub returns-in_err-answer_next-clause-same : goal.returns-in_err-answer_next-cla
 returns-in_err-answer_next-clause-same g c =
     let was = c.loop-i.invariant in
     let next = c.in_err-answer_next.ensures in
-    record { graph = next.same.graph ∙ was.same.graph; kind = next.same.kind ∙ was.same.kind }
+    record { graph = next.after.same.graph ∙ was.same.graph; kind = next.after.same.kind ∙ was.same.kind }
 
 pub returns-in_err-answer_next-clause-answered : goal.returns-in_err-answer_next-clause-answered
 returns-in_err-answer_next-clause-answered g c =

@@ -1,3 +1,4 @@
+use Rattle.std.proofs.lemmas.Result.{on_ok_weaker}
 use Rattle.road_files.specs.Asked.{asked_of}
 use Rattle.batch_run.specs.Batches.{MayStopBatch}
 use Rattle.batch_run.specs.Factored.{MayTell}
@@ -7,47 +8,29 @@ use Rattle.batch_run.proofs.Flushing.{text_flushed, sound_flushed, kind_flushed,
 use Rattle.batch_run.proofs.Prefixes.{all_or_prefix, passed_on_since}
 use Rattle.batch_run.proofs.flush.answer_and_flush.Goals as goal
 
-pub returns-clause-text : goal.returns-clause-text
-returns-clause-text g c =
+pub returns-clause-passed_on : goal.returns-clause-passed_on
+returns-clause-passed_on g c =
     let A = g.A.PathAlgebra.meaning c.args.batch.now.algebra in
     let roads = graph_of c.args.solver.now in
-    all_or_prefix A roads c.args.batch.now.questions.now c.requires.within (c.answers_exist.ensures roads c.vertices.ensures.graph)
-    (c.first_answers_begin_all.ensures roads) _ _ c.flush_all.result
-    (text_flushed A roads (asked_of c.args.batch.now.questions.now) _ _ _ _ _ _ c.flush_all.ensures.bytes c.answer_all-answered.result c.flush_all.result
-    c.answer_all-answered.ensures.answered.text c.flush_all.ensures.passed_on c.flush_all.ensures.first)
-
-pub returns-clause-sound : goal.returns-clause-sound
-returns-clause-sound g c = sound_flushed _ _ _ _ c.answer_all-answered.result c.flush_all.result c.answer_all-answered.ensures.answered.sound c.flush_all.ensures.passed_on c.flush_all.ensures.sound
-
-pub returns-clause-kind : goal.returns-clause-kind
-returns-clause-kind g c = kind_flushed (g.A.PathAlgebra.meaning c.args.batch.now.algebra) (graph_of c.args.solver.now) (asked_of c.args.batch.now.questions.now)
-    (MayStopBatch g.A.PathAlgebra.meaning g.T.Gate.may_answer c.args.batch.now c.args.solver.now) _ _ (g.W.RoadWrite.seen c.flush_all.new.out) c.answer_all-answered.result
-    c.answer_all-answered.ensures.answered c.flush_all.result c.flush_all.ensures.first tt
-
-pub returns-clause-failed : goal.returns-clause-failed
-returns-clause-failed g c = failed_flushed (g.A.PathAlgebra.meaning c.args.batch.now.algebra) (graph_of c.args.solver.now) (asked_of c.args.batch.now.questions.now)
-    (MayStopBatch g.A.PathAlgebra.meaning g.T.Gate.may_answer c.args.batch.now c.args.solver.now) _ _ (g.W.RoadWrite.seen c.flush_all.new.out) c.answer_all-answered.result
-    c.answer_all-answered.ensures.answered c.flush_all.result c.flush_all.ensures.first c.flush_all.ensures.more
-
-pub returns-clause-whole : goal.returns-clause-whole
-returns-clause-whole g c = whole_flushed (g.A.PathAlgebra.meaning c.args.batch.now.algebra) (graph_of c.args.solver.now) (asked_of c.args.batch.now.questions.now)
-    (MayStopBatch g.A.PathAlgebra.meaning g.T.Gate.may_answer c.args.batch.now c.args.solver.now) _ _ (g.W.RoadWrite.seen c.flush_all.new.out) c.answer_all-answered.result
-    c.answer_all-answered.ensures.answered c.flush_all.result c.flush_all.ensures.first c.flush_all.ensures.bytes
-
-pub returns-clause-some : goal.returns-clause-some
-returns-clause-some g c = some_flushed (g.A.PathAlgebra.meaning c.args.batch.now.algebra) (graph_of c.args.solver.now) (asked_of c.args.batch.now.questions.now)
-    (MayStopBatch g.A.PathAlgebra.meaning g.T.Gate.may_answer c.args.batch.now c.args.solver.now) _ _ (g.W.RoadWrite.seen c.flush_all.new.out) c.answer_all-answered.result
-    c.answer_all-answered.ensures.answered c.flush_all.result c.flush_all.ensures.first
-
-pub returns-clause-once : goal.returns-clause-once
-returns-clause-once g c = once_flushed (g.A.PathAlgebra.meaning c.args.batch.now.algebra) (graph_of c.args.solver.now) (asked_of c.args.batch.now.questions.now)
-    (MayStopBatch g.A.PathAlgebra.meaning g.T.Gate.may_answer c.args.batch.now c.args.solver.now) _ _ (g.W.RoadWrite.seen c.flush_all.new.out) c.answer_all-answered.result
-    c.answer_all-answered.ensures.answered c.flush_all.result c.flush_all.ensures.first c.flush_all.ensures.once
-
-pub returns-clause-flushed : goal.returns-clause-flushed
-returns-clause-flushed g c =
-    passed_on_since c.flush_all.result _ _ _ _ (no_fewer_failures (g.A.PathAlgebra.meaning c.args.batch.now.algebra) (graph_of c.args.solver.now) (asked_of c.args.batch.now.questions.now)
-    (MayStopBatch g.A.PathAlgebra.meaning g.T.Gate.may_answer c.args.batch.now c.args.solver.now) _ _ c.answer_all-answered.result c.answer_all-answered.ensures.answered) c.flush_all.ensures.flushed
+    let asked = asked_of c.args.batch.now.questions.now in
+    let may = MayStopBatch g.A.PathAlgebra.meaning g.T.Gate.may_answer c.args.batch.now c.args.solver.now in
+    let answered = c.answer_all-answered.result in
+    let was = c.answer_all-answered.ensures.answered in
+    let passed = c.flush_all.ensures in
+    let r = c.flush_all.result in
+    let out = g.W.RoadWrite.seen c.flush_all.new.out in
+    record {
+      text = all_or_prefix A roads c.args.batch.now.questions.now c.requires.within (c.answers_exist.ensures roads c.vertices.ensures.graph) (c.first_answers_begin_all.ensures roads) _ _ r
+          (text_flushed A roads asked _ _ _ _ _ _ passed.bytes answered r was.text passed.passed_on passed.first);
+      passed_on = on_ok_weaker r (λ both. both.1) passed.passed_on;
+      sound = sound_flushed _ _ _ _ answered r was.sound passed.passed_on passed.sound;
+      kind = kind_flushed A roads asked may _ _ out answered was r passed.first tt;
+      failed = failed_flushed A roads asked may _ _ out answered was r passed.first passed.more;
+      once = once_flushed A roads asked may _ _ out answered was r passed.first passed.once;
+      flushed = passed_on_since r _ _ _ _ (no_fewer_failures A roads asked may _ _ answered was) passed.flushed;
+      whole = whole_flushed A roads asked may _ _ out answered was r passed.first passed.bytes;
+      some = some_flushed A roads asked may _ _ out answered was r passed.first;
+    }
 
 pub returns-clause-all : goal.returns-clause-all
 returns-clause-all g c = after_all _ _ c.answer_all-answered.result c.flush_all.result c.answer_all-answered.ensures.all c.flush_all.ensures.passed_on

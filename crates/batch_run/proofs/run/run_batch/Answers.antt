@@ -39,22 +39,22 @@ returns-in_err-answer_and_flush g c =
     let was = c.in_err-answer_and_flush.ensures in
     let cause = c.in_err-answer_and_flush.field-0.0 in
     let fault = err_from_is_err_and c.from_residual.result c.from_residual.ensures.1 in
-    let may = subst (λ (b : Bool). MayStop b (Stops g.A.PathAlgebra.meaning c.args.algebra roads how gate) cause) c.in-Ok.ensures.kind was.kind in
+    let may = subst (λ (b : Bool). MayStop b (Stops g.A.PathAlgebra.meaning c.args.algebra roads how gate) cause) c.in-Ok.ensures.chosen.kind was.passed_on.kind in
     let in_range = c.suit.ensures.in_range c.if-not-suit.false in
     let stopped = stopped_for g.A.PathAlgebra.meaning c.args.algebra roads how gate _ cause may is_read asked c.in-Ok.ensures.read in
     rw (fault.1, fault.2) (record {
       ran = ran_stopped A how gate is_read g.I.BatchInput.is_own (g.W.RoadWrite.seen c.args.out.now)
-          (g.W.RoadWrite.seen c.answer_and_flush.new.out) roads asked c.in-Ok.ensures.read cause
+          (g.W.RoadWrite.seen c.answer_and_flush.new.out) roads asked c.in-Ok.ensures.read _ cause
           (says_of_cause g.A.PathAlgebra.meaning c.args.algebra roads how gate _ cause may)
-          (record { text = was.text; failed = was.failed; whole = was.whole; some = was.some; once = was.once; flushed = was.flushed })
+          was.passed_on
           (λ enough. not_stalled g.A.PathAlgebra.meaning c.args.algebra how gate is_read in_range.budget.0 c.one_shard_never_stalls.ensures.groups enough (Err (fault_of cause)) stopped);
       suited = suited_by (g.A.PathAlgebra.arc_cost c.args.algebra) how c.suit.result c.if-not-suit.false c.suit.ensures.exactly (fault_of cause) (λ _. no_setting cause);
       read = g.met.I.BatchInput.later c.args.input.now c.read_batch.new.input (fault_of cause) refl (no_setting cause) c.in-Ok.ensures.done;
       stopped = stopped;
       watched = watched_first A how is_read g.O.Watcher.may_become _ _ _ _ roads asked c.in-Ok.ensures.read cause
-          (written_wider A how roads asked (without_diffusions how) (MayTell c.in-Ok.read.0) (IsTold roads how.factors) (told_by_kind c.in-Ok.read.0 how.factors c.in-Ok.ensures.factors) g.O.Watcher.may_become _ _ _ _
+          (written_wider A how roads asked (without_diffusions how) (MayTell c.in-Ok.read.0) (IsTold roads how.factors) (told_by_kind c.in-Ok.read.0 how.factors c.in-Ok.ensures.chosen.factors) g.O.Watcher.may_become _ _ _ _
           (subst (λ (b : Bool). ReportedWritten A how roads asked b (MayTell c.in-Ok.read.0) g.O.Watcher.may_become c.args.watcher.now c.answer_and_flush.new.watcher (g.W.RoadWrite.seen c.args.out.now)
-          (g.W.RoadWrite.seen c.answer_and_flush.new.out)) c.in-Ok.ensures.kind was.reported));
+          (g.W.RoadWrite.seen c.answer_and_flush.new.out)) c.in-Ok.ensures.chosen.kind was.reported));
     })
 
 pub returns : goal.returns
@@ -69,11 +69,11 @@ returns g c =
     record {
       ran = ran_whole A how gate is_read g.I.BatchInput.is_own (g.W.RoadWrite.seen c.args.out.now)
           (g.W.RoadWrite.seen c.answer_and_flush.new.out) roads asked c.in-Ok.ensures.read
-          was.text was.passed_on was.sound;
+          _ was.passed_on;
       suited = suited_whole (g.A.PathAlgebra.arc_cost c.args.algebra) how c.suit.result c.if-not-suit.false c.suit.ensures.exactly;
       read = c.in-Ok.ensures.done;
       stopped = record { stalled = tt; gated = tt };
       watched = watched_all A how is_read g.O.Watcher.may_become _ _ _ _ roads asked c.in-Ok.ensures.read
-          (whole_wider A how roads asked (without_diffusions how) (MayTell c.in-Ok.read.0) (IsTold roads how.factors) (told_by_kind c.in-Ok.read.0 how.factors c.in-Ok.ensures.factors) g.O.Watcher.may_become _ _ (g.W.RoadWrite.seen c.args.out.now) (g.W.RoadWrite.seen c.args.out.now)
-          (subst (λ (b : Bool). ReportedWhole A how roads b (MayTell c.in-Ok.read.0) asked.questions g.O.Watcher.may_become c.args.watcher.now c.answer_and_flush.new.watcher) c.in-Ok.ensures.kind was.all));
+          (whole_wider A how roads asked (without_diffusions how) (MayTell c.in-Ok.read.0) (IsTold roads how.factors) (told_by_kind c.in-Ok.read.0 how.factors c.in-Ok.ensures.chosen.factors) g.O.Watcher.may_become _ _ (g.W.RoadWrite.seen c.args.out.now) (g.W.RoadWrite.seen c.args.out.now)
+          (subst (λ (b : Bool). ReportedWhole A how roads b (MayTell c.in-Ok.read.0) asked.questions g.O.Watcher.may_become c.args.watcher.now c.answer_and_flush.new.watcher) c.in-Ok.ensures.chosen.kind was.all));
     }

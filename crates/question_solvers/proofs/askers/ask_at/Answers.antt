@@ -1,7 +1,6 @@
-use Rattle.std.proofs.Common.{◌∙◌, refl, sym, subst}
+use Rattle.std.proofs.Common.{◌∙◌, sym, subst}
 use Rattle.road_graph.specs.GraphData.{GraphData, HasVertex}
 use Rattle.route_tree.specs.Found.{IsPairFound}
-use Rattle.question_solvers.proofs.QuestionKinds.{found_answers}
 use Rattle.question_solvers.proofs.askers.ask_at.Goals as goal
 
 pub find-requires-clause-source : goal.find-requires-clause-source
@@ -23,4 +22,4 @@ returns-clause-solved g c =
     let factored = c.args.factored.now in
     let pair = c.pair_at-source.result in
     let right = subst (λ (x : GraphData). IsPairFound (g.A.PathAlgebra.meaning factored.over.now.task.now.algebra) x pair.0 pair.1 c.in_ok-found.found) (sym factored.own ∙ factored.same) c.in_ok-found.ensures.found in
-    record { place = refl; solved = λ d. found_answers _ _ _ _ c.in_ok-found.found _ (c.pair_at-source.ensures.asked d) right }
+    c.answer_of_pair.ensures _ _ _ c.pair_at-source.ensures.asked right

@@ -1,23 +1,12 @@
-use Rattle.std.proofs.Common.{◌≡◌, ℕ, length, subst, sym}
-use Rattle.std.specs.Option.{ForSome}
-use Rattle.path_algebra.specs.Counted.{cost_of, CountsFit}
-use Rattle.road_graph.specs.GraphData.{GraphData}
-use Rattle.elimination_order.specs.Bounds.{IsTooDense}
-use Rattle.elimination_order.specs.declared.counts.Counts.{Counts}
-use Rattle.question_solvers.specs.Orders.{IsOrderOf}
-use Rattle.question_solvers.specs.declared.factor_solver.Refusal.TheVariants.{Dense, Heavy}
+use Rattle.std.proofs.Common.{◌≡◌, refl, subst}
+use Rattle.std.specs.Prelude.{IfSome}
+use Rattle.question_solvers.specs.Solved.{next_of}
+use Rattle.question_solvers.proofs.Searches.{next_solves}
 use Rattle.question_solvers.proofs.factors.solve_next_by_factors.Goals as goal
 
-pub invariant_of-solver-clause-heavy : goal.invariant_of-solver-clause-heavy
-invariant_of-solver-clause-heavy g c =
-    subst (λ (graph : GraphData). ForSome c.args.solver.now.refused (λ r. r.1 ≡ Heavy → (k : ℕ) → CountsFit graph (cost_of r.0) k → ⊥))
-    (sym c.solve_next_plainly.ensures.graph) c.args.solver.now.heavy
-
-pub invariant_of-solver-clause-each : goal.invariant_of-solver-clause-each
-invariant_of-solver-clause-each g c =
-    subst (λ (graph : GraphData). ForSome c.args.solver.now.order (λ list. IsOrderOf graph.vertices list.items)) (sym c.solve_next_plainly.ensures.graph) c.args.solver.now.each
-
-pub invariant_of-solver-clause-dense : goal.invariant_of-solver-clause-dense
-invariant_of-solver-clause-dense g c =
-    subst (λ (graph : GraphData). ForSome c.args.solver.now.refused (λ r. (n : Counts) → r.1 ≡ Dense n → IsTooDense graph.vertices (length graph.arcs) n))
-    (sym c.solve_next_plainly.ensures.graph) c.args.solver.now.dense
+pub returns : goal.returns
+returns g c =
+    let lent = c.solution_of-solved.result.now in
+    let solved = next_solves _ _ _ c.args.i (next_of c.solve_factored.new.solver.plain.searched.items) lent c.in_ok-solve_factored.ensures.next
+    (subst (λ l. IfSome (next_of l) (λ next. next.solved ≡ lent)) c.as_slice.ensures.value c.solution_of-solved.ensures) in
+    ((refl, (λ _. tt), c.in_ok-solve_factored.ensures.after), record { after = tt; solved = solved })

@@ -1,6 +1,5 @@
-use Rattle.std.proofs.Common.{refl, subst}
+use Rattle.std.proofs.Common.{subst}
 use Rattle.route_tree.specs.Found.{IsPairFound}
-use Rattle.question_solvers.proofs.QuestionKinds.{found_answers}
 use Rattle.question_solvers.proofs.pair_search.solve_at.Goals as goal
 
 pub solve-requires-clause-source : goal.solve-requires-clause-source
@@ -15,4 +14,4 @@ pub returns-clause-solved : goal.returns-clause-solved
 returns-clause-solved g c =
     let pair = c.pair_at-source.result in
     let right = subst (λ a. IsPairFound (g.A.PathAlgebra.meaning a) c.args.pairs.now.over.now.graph.now pair.0 pair.1 c.in_ok-found.found) c.requires.searcher.by c.in_ok-found.ensures.found in
-    record { place = refl; solved = λ d. found_answers _ _ _ _ c.in_ok-found.found _ (c.pair_at-source.ensures.asked d) right }
+    c.answer_of_pair.ensures _ _ _ c.pair_at-source.ensures.asked right

@@ -1,7 +1,12 @@
-use Rattle.road_files.specs.Asked.{asked_of}
-use Rattle.question_solvers.proofs.Searches.{held_answers}
+use Rattle.std.proofs.Common.{◌≡◌, refl, subst}
+use Rattle.std.specs.Prelude.{IfSome}
+use Rattle.question_solvers.specs.Solved.{next_of}
+use Rattle.question_solvers.proofs.Searches.{next_solves}
 use Rattle.question_solvers.proofs.plain.solve_next_plainly.Goals as goal
 
-pub returns-clause-solved : goal.returns-clause-solved
-returns-clause-solved g c = held_answers (g.A.PathAlgebra.meaning c.args.task.now.algebra) c.args.solver.now.graph (asked_of c.args.task.now.questions.now) c.args.i c.in_ok-k.k _
-    c.in_ok-k.ensures.inside c.in_ok-k.ensures.answers
+pub returns : goal.returns
+returns g c =
+    let lent = c.solution_of-solved.result.now in
+    let solved = next_solves _ _ _ c.args.i (next_of c.solve_plainly.new.solver.searched.items) lent c.in_ok-solve_plainly.ensures.next
+    (subst (λ l. IfSome (next_of l) (λ next. next.solved ≡ lent)) c.as_slice.ensures.value c.solution_of-solved.ensures) in
+    ((refl, (λ _. tt), c.in_ok-solve_plainly.ensures.after), record { after = tt; solved = solved })

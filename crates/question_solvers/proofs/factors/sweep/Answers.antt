@@ -5,8 +5,7 @@ use Rattle.road_files.specs.Asked.{FromSource}
 use Rattle.road_files.proofs.QuestionLaws.{asked_within}
 use Rattle.path_algebra.specs.Walks.{AreBest}
 use Rattle.route_tree.specs.Tree.{IsTree}
-use Rattle.question_solvers.proofs.QuestionKinds.{no_pairs}
-use Rattle.question_solvers.proofs.factors.ask_factors.Goals as goal
+use Rattle.question_solvers.proofs.factors.sweep.Goals as goal
 
 pub solve_with_tree-requires-clause-sources : goal.solve_with_tree-requires-clause-sources
 solve_with_tree-requires-clause-sources g c κs within =
@@ -14,23 +13,22 @@ solve_with_tree-requires-clause-sources g c κs within =
     let over = factored.over.now in
     subst (λ (graph : GraphData). All (HasVertex graph) c.sources-sources.result.now) (sym factored.same ∙ factored.own)
     (subst (λ (vs : List ℕ). All (HasVertex over.graph.now) vs) (sym (c.sources-sources.ensures (FromSource 0)))
-    (asked_within over.graph.now.vertices over.task.now.questions.now c.args.i over.within c.requires.place (FromSource 0)).1)
+    (asked_within over.graph.now.vertices over.task.now.questions.now c.args.place over.within c.requires.place (FromSource 0)).1)
 
-pub returns-in_ok-labels-in_default : goal.returns-in_ok-labels-in_default
-returns-in_ok-labels-in_default g c =
+pub returns : goal.returns
+returns g c =
     let factored = c.args.factored.now in
     let A = g.A.PathAlgebra.meaning factored.over.now.task.now.algebra in
     let graph = factored.over.now.graph.now in
-    let found = c.in_ok-labels-in_default in
+    let found = c.in_ok-labels in
     let own = sym factored.own ∙ factored.same in
     record {
-      same = refl;
-      ahead = c.requires.ahead;
+      place = refl;
       solved = λ d. record {
         labels = subst (λ (vs : List ℕ). AreBest A graph vs found.labels) (c.sources-sources.ensures d)
             (subst (λ (x : GraphData). AreBest A x c.sources-sources.result.now found.labels) own found.ensures.labels);
         tree = subst (λ (vs : List ℕ). IsTree A graph vs found.tree) (c.sources-sources.ensures d)
             (subst (λ (x : GraphData). IsTree A x c.sources-sources.result.now found.tree) own found.ensures.tree);
-        unpaired = no_pairs factored.over.now.task.now.questions.now c.in_default.not-Pairs;
+        unpaired = c.requires.unpaired;
       };
     }

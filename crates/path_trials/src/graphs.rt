@@ -1,43 +1,9 @@
 //! Graphs by arcs, by tail and by head, with what was worked out by hand.
+use crate::samples::{PARALLEL, arc, made};
 use road_graph::{ArcNo, Graph, GraphFault, InGraph, OutGraph, OutRoad, RoadArc, Vertex};
-use std::alloc::Global;
 use std::process::Abort;
 
-/// Five vertices, with a self-loop at 4; no arc leads to 5.
-pub(crate) const FIVE: [(u32, u32, u32); 7] = [
-    (1, 2, 4),
-    (1, 3, 1),
-    (3, 2, 2),
-    (2, 4, 5),
-    (3, 4, 8),
-    (4, 4, 0),
-    (5, 1, 3),
-];
-
-/// Five vertices, with two arcs from 1 to 3, a loop at 4, and nothing that enters 5. No arc has its
-/// number's place in the rows.
-pub(crate) const PARALLEL: [(u32, u32, u32); 6] = [
-    (3, 2, 2),
-    (1, 2, 4),
-    (4, 4, 0),
-    (1, 3, 1),
-    (5, 1, 3),
-    (1, 3, 9),
-];
-
-/// The graph of these tails, heads and weights; none if it is refused.
-pub(crate) fn made(alloc: Global, n: u32, arcs: &[(u32, u32, u32)]) -> Option<Graph> {
-    let mut list = Vec::new(alloc);
-    for &(tail, head, weight) in arcs {
-        list.push(arc(tail, head, weight)).ok()?;
-    }
-    if n > 1_000_000 || list.len() > 1_000_000 {
-        return None;
-    }
-    Graph::new(alloc, n, list).ok()
-}
-
-/// The same, which is not refused.
+/// The graph of these tails, heads and weights, which is not refused.
 pub(crate) fn graph_of(rt: &(impl Abort + AllocGlobal), n: u32, arcs: &[(u32, u32, u32)]) -> Graph {
     made(rt.alloc(), n, arcs).expect(rt, "refused")
 }
@@ -51,14 +17,6 @@ pub(crate) fn push_both(
 ) {
     arcs.push((tail, head, there)).expect(rt, "memory");
     arcs.push((head, tail, back)).expect(rt, "memory");
-}
-
-fn arc(tail: u32, head: u32, weight: u32) -> RoadArc {
-    RoadArc {
-        tail: Vertex(tail),
-        head: Vertex(head),
-        weight,
-    }
 }
 
 /// The first arc with an end that is no vertex is reported, and the arcs come back.

@@ -13,14 +13,13 @@ mod ends;
 #[cfg(test)]
 mod graphs;
 #[cfg(test)]
-mod orders;
+mod near;
 #[cfg(test)]
 mod plain_solver;
 #[cfg(test)]
 mod queues;
-#[cfg(test)]
-mod road_guard;
-#[cfg(test)]
-mod roads;
+mod samples;
 #[cfg(test)]
 mod trees;
+
+pub use samples::{FIVE, PARALLEL, is_found, made};

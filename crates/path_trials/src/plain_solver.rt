@@ -1,7 +1,8 @@
 //! Labels worked out by hand, as far as a target and from several sources; for each algebra,
 //! `system_tests/worked` tries them.
 
-use crate::graphs::{FIVE, graph_of};
+use crate::graphs::graph_of;
+use crate::samples::FIVE;
 use path_algebra::{Labels, Shortest};
 use path_plain::{best_values_exist, labels_serve_nearer_targets, solve_outgoing, solve_to};
 use road_graph::Vertex;

@@ -1,7 +1,8 @@
 //! A small graph, with the hops and parents that were worked out by hand; `system_tests/worked` has
 //! more.
 
-use crate::graphs::{FIVE, graph_of};
+use crate::graphs::graph_of;
+use crate::samples::{FIVE, are_vertices};
 use path_algebra::{PathAlgebra, Shortest};
 use path_plain::solve_one;
 use road_graph::{Graph, Vertex};
@@ -35,20 +36,12 @@ fn tree_from<A: PathAlgebra>(
     tree(rt.alloc(), algebra, graph, &[source], &labels).expect(rt, "memory")
 }
 
-/// Asserts that a list has these vertices.
-pub(crate) fn assert_vertices(rt: &impl Abort, found: &[Vertex], wanted: &[u32]) {
-    assert!(rt; found.len() == wanted.len());
-    for (v, &number) in found.iter().zip(wanted) {
-        assert!(rt; v.0 == number);
-    }
-}
-
 /// Asserts that the route to a vertex goes through these.
 fn assert_route(rt: &(impl Abort + AllocGlobal), found: &Tree, target: u32, wanted: &[u32]) {
     assert!(rt; 1 <= target);
     assert!(rt; target as usize <= found.vertices());
     match route(rt.alloc(), found, Vertex(target)).expect(rt, "memory") {
-        Some(list) => assert_vertices(rt, &list, wanted),
+        Some(list) => assert!(rt; are_vertices(&list, wanted)),
         None => assert!(rt; wanted.is_empty()),
     }
 }

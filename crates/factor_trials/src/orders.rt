@@ -1,7 +1,7 @@
 //! Orders by approximate minimum degree: what they make of graphs that are counted by hand.
 //! `system_tests/factors` has larger ones, and those that are too dense.
-use crate::graphs::graph_of;
 use elimination_order::approximate_minimum_degree;
+use path_trials::made;
 use std::process::Abort;
 
 /// Asserts how many links and triangles the order of a graph makes.
@@ -11,7 +11,7 @@ fn assert_counts(
     links: u64,
     triangles: u64,
 ) {
-    let graph = graph_of(rt, n, arcs);
+    let graph = made(rt.alloc(), n, arcs).expect(rt, "refused");
     let found = approximate_minimum_degree(rt.alloc(), graph.outgoing()).expect(rt, "memory");
     assert!(rt; found.order.is_some());
     assert!(rt; found.counts.links == links && found.counts.triangles == triangles);

@@ -3,9 +3,9 @@
 
 ghost use Rattle.std.specs.Prelude.{◌≤◌};
 
-use crate::trees::assert_vertices;
 use factor_routes::{RoadFactors, RouteAsker, Unfactored};
 use path_algebra::{Labels, PathAlgebra};
+use path_trials::is_found;
 use road_graph::{Graph, InGraph, Memory, Vertex};
 use route_tree::{Found, Tree};
 use std::marker::Model;
@@ -141,10 +141,5 @@ pub(crate) fn assert_pair<A: PathAlgebra>(
         Ok(found) => found,
         Err(_) => roads.ask(rt, source, target).expect(rt, "memory"),
     };
-    let Some(found) = found else {
-        assert!(rt; route.is_empty());
-        return;
-    };
-    assert!(rt; found.code == code && u64::from(found.hops) + 1 == route.len() as u64);
-    assert_vertices(rt, &found.route, route);
+    assert!(rt; is_found(&found, code, route));
 }

@@ -1,0 +1,155 @@
+//! Factors of a graph over the links of another with the same arcs.
+use path_algebra::{Cost, CountedSums, Labels};
+use path_factors::{Factors, Unfit};
+use path_trials::{FIVE, made};
+use road_graph::{Graph, Vertex};
+use std::process::Abort;
+
+/// The labels of the five vertices.
+type Five = [Option<u64>; 5];
+
+/// The weights of `FIVE`, others, and for each arc the least and the greatest.
+const ONE: [u32; 7] = [4, 1, 2, 5, 8, 0, 3];
+
+const OTHERS: [u32; 7] = [1, 9, 0, 50, 1, 7, 1000];
+
+const LEAST: [u32; 7] = [0; 7];
+
+const GREATEST: [u32; 7] = [u32::MAX; 7];
+
+/// The weights that a graph was factored for, those that it is reweighed for, and the labels from 1.
+/// A value is the sum, times 8, and the arcs: 1, 3, 2, 4 is a route of 8 with three arcs; by the
+/// other weights 1, 2 is one of 1, and 1, 3, 4 one of 10. By weights of 0 the value is the number of
+/// arcs; by the greatest, 2^32 - 1, each arc is worth 34359738361.
+const REWEIGHED: [([u32; 7], [u32; 7], Five); 5] = [
+    (OTHERS, ONE, [Some(0), Some(26), Some(9), Some(67), None]),
+    (ONE, OTHERS, [Some(0), Some(9), Some(73), Some(82), None]),
+    (ONE, ONE, [Some(0), Some(26), Some(9), Some(67), None]),
+    (ONE, LEAST, [Some(0), Some(1), Some(1), Some(2), None]),
+    (
+        LEAST,
+        GREATEST,
+        [
+            Some(0),
+            Some(34359738361),
+            Some(34359738361),
+            Some(68719476722),
+            None,
+        ],
+    ),
+];
+
+/// The sums, times 8, and the arcs.
+fn sums(rt: &impl Abort) -> CountedSums {
+    CountedSums::new(Cost::Weight, 3).expect(rt, "bits")
+}
+
+/// The arcs of `FIVE` with these weights.
+fn five_of(rt: &(impl Abort + AllocGlobal), weights: &[u32; 7]) -> Graph {
+    let mut arcs = FIVE;
+    for i in 0..7 {
+        arcs[i].2 = weights[i];
+    }
+    made(rt.alloc(), 5, &arcs).expect(rt, "refused")
+}
+
+/// One of the orders of the vertices 1 to 5, by its number: each next vertex is put at a place that
+/// a digit of it tells.
+fn order_of(rt: &(impl Abort + AllocGlobal), number: usize) -> Vec<Vertex> {
+    let mut order = Vec::new(rt.alloc());
+    let mut digits = number;
+    for v in 1..=5 {
+        let places = order.len() + 1;
+        order
+            .insert(digits % places, Vertex(v))
+            .expect(rt, "memory");
+        digits /= places;
+    }
+    order
+}
+
+/// A graph that is factored by an order.
+fn factored(
+    rt: &(impl Abort + AllocGlobal),
+    graph: &Graph,
+    order: &Vec<Vertex>,
+) -> Factors<CountedSums> {
+    Factors::build(rt.alloc(), sums(rt), graph.outgoing(), order)
+        .expect(rt, "memory")
+        .expect(rt, "an order")
+}
+
+/// The first five labels.
+fn five(rt: &impl Abort, labels: &Labels<u64>) -> Five {
+    assert!(rt; 5 <= labels.vertices());
+    let mut found = [None; 5];
+    for i in 0..5 {
+        found[i] = labels.of(Vertex(i as u32 + 1));
+    }
+    found
+}
+
+/// Asserts what comes of reweighing factors for a graph.
+fn assert_reweighed(
+    rt: &(impl Abort + AllocGlobal),
+    factors: &Factors<CountedSums>,
+    graph: &Graph,
+    wanted: &Result<Five, Unfit>,
+) {
+    assert!(rt; graph.has(Vertex(1)));
+    let again = factors.reweighed(rt.alloc(), sums(rt), graph.outgoing());
+    match (again.expect(rt, "memory"), wanted) {
+        (Ok(again), Ok(wanted)) => {
+            let labels = again.solve_by(rt.alloc(), &[Vertex(1)]);
+            assert!(rt; five(rt, &labels.expect(rt, "memory")) == *wanted);
+        }
+        (Err(found), Err(why)) => assert!(rt; found == *why),
+        _ => panic!(rt; "reweighed or refused"),
+    }
+}
+
+/// Asserts what comes of reweighing one graph for another, in all orders.
+fn assert_in_all_orders(
+    rt: &(impl Abort + AllocGlobal),
+    one: &Graph,
+    other: &Graph,
+    wanted: &Result<Five, Unfit>,
+) {
+    for number in 0..120 {
+        let factors = factored(rt, one, &order_of(rt, number));
+        assert_reweighed(rt, &factors, other, wanted);
+    }
+}
+
+#[test]
+fn five_vertices_reweighed_in_all_orders(rt: HostRuntime) {
+    for (one, other, labels) in &REWEIGHED {
+        let (one, other) = (five_of(&rt, one), five_of(&rt, other));
+        assert_in_all_orders(&rt, &one, &other, &Ok(*labels));
+    }
+}
+
+/// The five vertices, or more, and one more arc.
+fn with_arc(rt: &(impl Abort + AllocGlobal), n: u32, arc: (u32, u32, u32)) -> Graph {
+    let [a, b, c, d, e, f, g] = FIVE;
+    made(rt.alloc(), n, &[a, b, c, d, e, f, g, arc]).expect(rt, "refused")
+}
+
+/// An arc back has a link, and so has a second one between two vertices; one between two that were
+/// not joined has none. What was refused changes nothing.
+#[test]
+fn an_arc_with_no_link_is_refused(rt: HostRuntime) {
+    let order = vec![in rt.alloc(); Vertex(5), Vertex(1), Vertex(2), Vertex(3), Vertex(4)];
+    let factors = factored(&rt, &five_of(&rt, &ONE), &order.expect(&rt, "memory"));
+    let back = Ok([Some(0), Some(26), Some(9), Some(67), None]);
+    let beside = Ok([Some(0), Some(9), Some(9), Some(50), None]);
+    for (n, arc, wanted) in &[
+        (5, (4, 2, 1), back),
+        (5, (1, 2, 1), beside),
+        (5, (5, 4, 1), Err(Unfit::Arc)),
+        (6, (4, 2, 1), Err(Unfit::Vertices)),
+        (5, (4, 2, 1), back),
+    ] {
+        assert_reweighed(&rt, &factors, &with_arc(&rt, *n, *arc), wanted);
+    }
+}

@@ -29,11 +29,17 @@ module _ {V : Type 0} (A : Algebra V) (g : GraphData) (asked : Asked) where
   pub for_other : (i j : ℕ) (s : Solved V) → IsSolvedFor A g asked j s → ((d : Question) → get_or asked.questions j d ≡ get_or asked.questions i d) → IsSolvedFor A g asked i s
   for_other i j s h same d = subst (λ (q : Question). IsSolution A g asked.kind q s) (same d) (h d)
 
+  -- what is found for the question at a place is so for the one at its own place
   pub at_own : (i : ℕ) (s : Searched V) → i < length asked.questions → IsSearchedAt A g asked i s → IsSearched A g asked s
   at_own i s low h = record {
     place = subst (λ k. k < length asked.questions) (sym h.place) low;
     solved = subst (λ k. IsSolvedFor A g asked k s.solved) (sym h.place) h.solved;
   }
+
+  -- so it is if anything is found
+  pub some_own : (i : ℕ) (o : Option (Searched V)) → i < length asked.questions → IfSome o (IsSearchedAt A g asked i) → IfSome o (IsSearched A g asked)
+  some_own i None low h = tt
+  some_own i (Some s) low h = at_own i s low h
 
   -- those of a group are each found for a question
   pub all_own : (places : List ℕ) (ss : List (Searched V)) → All (λ k. k < length asked.questions) places → AllZip (IsSearchedAt A g asked) places ss → All (IsSearched A g asked) ss

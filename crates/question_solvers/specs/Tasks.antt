@@ -1,5 +1,5 @@
 -- What contracts say of a task over a graph: its questions, and what was found for them.
-use Rattle.std.specs.Prelude.{ℕ, List, All, Result}
+use Rattle.std.specs.Prelude.{ℕ, List, All, Result, IfSome}
 use Rattle.path_algebra.specs.declared.algebra.PathAlgebra.{Ghosts}
 use Rattle.path_algebra.specs.Algebra.{Algebra}
 use Rattle.path_algebra.specs.Carried.{IsCarried}
@@ -48,6 +48,10 @@ module _ {S R V : Type 0} {G : Ghosts S V} (meaning : S → Algebra V) (over : T
   -- so they do, if it was solved with this outcome
   abbrev pub SolvesNextIn : {E : Type 0} → ℕ → List (Searched V) → Result (Unit {0}) E → Type 0
   SolvesNextIn = SolvesNext (meaning over.task.now.algebra) over.graph.now (asked_of over.task.now.questions.now)
+
+  -- what each of a pool found, if anything, solves the question at its own place
+  abbrev pub HaveFoundIn : List (PairSolver S V) → Type 0
+  HaveFoundIn = All (λ s. IfSome s.found (IsSearched (meaning over.task.now.algebra) over.graph.now (asked_of over.task.now.questions.now)))
 
 -- its factors are for costs that carry the values of its algebra
 abbrev pub IsCarriedIn : {S R V : Type 0} {G : Ghosts S V} → (S → Algebra V) → FactoredTask S R V G → Type 0

@@ -1,16 +1,15 @@
 //! Pairs that are asked of the factors of a graph, several side by side.
-ghost use Rattle.std.specs.Prelude.{◌≡◌, ◌≤◌, length, All, IfOk};
+ghost use Rattle.std.specs.Prelude.{◌≡◌, All, IfOk};
 ghost use Rattle.question_solvers.specs.Tasks.{AreFoundIn, ArePairsIn, IsCarriedIn, IsFoundIn, IsPlaceIn, SolvesNextIn};
 
 use crate::ahead::{add_next, add_runs, advance};
 use crate::pair_search::{answer_of_pair, pair_at};
 use crate::searched::{Searched, add};
-use crate::task::{FactoredTask, Task};
+use crate::task::FactoredTask;
 use factor_routes::RouteAsker;
 use path_algebra::PathAlgebra;
 use rayon::prelude::*;
 use road_graph::Memory;
-use std::alloc::AllocError;
 use std::thread::Threads;
 
 /// How many pairs an asker is made for, at most: few enough that their answers are held.
@@ -60,12 +59,13 @@ fn ask_run<A: PathAlgebra, R>(
     Ok(found)
 }
 
-/// Asks for the pairs of several runs, each run by an asker of its own: side by side, on all
-/// processors.
+/// Asks for the pairs from a place on, in `count` runs of `each` pairs, with an asker for each run:
+/// side by side, on all processors.
 fn ask_runs<A: PathAlgebra, R: Threads + Sync>(
     factored: &FactoredTask<'_, A, R>,
-    starts: &[usize],
+    first: usize,
     each: usize,
+    count: usize,
 ) -> Result<Vec<Vec<Searched<A::Value>>>, Memory>
     requires pairs { ArePairsIn factored.now.over.now }
     requires carried { IsCarriedIn A.meaning factored.now }
@@ -73,38 +73,18 @@ fn ask_runs<A: PathAlgebra, R: Threads + Sync>(
         v.items) }
 {
     let task = factored.over.task;
-    let runs: Result<Vec<Vec<Searched<A::Value>>>, Memory> = starts
-        .par_iter()
+    let runs: Result<Vec<Vec<Searched<A::Value>>>, Memory> = (0..count)
+        .into_par_iter()
         .with_min_len(1)
         .map(
-            |start: &usize| -> Result<Vec<Searched<A::Value>>, Memory>
+            |k: usize| -> Result<Vec<Searched<A::Value>>, Memory>
                 requires { ArePairsIn factored.now.over.now × IsCarriedIn A.meaning factored.now }
                 ensures { IfOk result (λ v. AreFoundIn A.meaning factored.entry.now.over.now
                     v.items) }
-            { ask_run(factored, *start, each) },
+            { ask_run(factored, first.saturating_add(k.saturating_mul(each)), each) },
         )
         .collect(task.rt, task.alloc)?;
     runs
-}
-
-/// Where runs of `each` places begin, from a place on, as many as the width.
-fn starts_from<A: PathAlgebra, R>(
-    task: &Task<'_, A, R>,
-    i: usize,
-    each: usize,
-) -> Result<Vec<usize>, AllocError>
-    ensures few { IfOk result (λ v. length v.items ≤ task.now.width) }
-{
-    let mut start = i;
-    let mut starts = Vec::new(task.alloc);
-    for _k in 0..task.width {
-        if start >= task.questions.len() {
-            break;
-        }
-        starts.push(start)?;
-        start = start.saturating_add(each);
-    }
-    Ok(starts)
 }
 
 /// Asks for the pair at a place and for those that follow it, in as many runs as the width, if that
@@ -126,8 +106,8 @@ fn ask_ahead<A: PathAlgebra, R: Threads + Sync>(
     if task.width == 1 || rest <= each {
         return Ok(());
     }
-    let starts = starts_from(task, i, each)?;
-    let runs = ask_runs(factored, starts.as_slice(), each)?;
+    let count = rest.div_ceil(each).min(task.width);
+    let runs = ask_runs(factored, i, each, count)?;
     add_runs(ahead, runs)
 }
 

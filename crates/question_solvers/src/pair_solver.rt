@@ -1,15 +1,14 @@
 //! Searchers for pairs that stay from one group of pairs to the next.
-ghost use Rattle.std.specs.Prelude.{◌≡◌, ℕ, ◌≤◌, ◌<◌, length, map, slice_index_or, All, IfOk, OnOk, Some};
+ghost use Rattle.std.specs.Prelude.{◌≡◌, ℕ, ◌≤◌, ◌<◌, length, slice_index_or, All, OnOk, Some};
 ghost use Rattle.road_graph.specs.GraphData.{GraphData};
 ghost use Rattle.question_solvers.specs.Solvers.{IsPoolOf};
-ghost use Rattle.question_solvers.specs.Tasks.{IsPoolIn};
+ghost use Rattle.question_solvers.specs.Tasks.{AreFoundIn, HaveFoundIn, IsPoolIn};
 
 use crate::searched::{Searched, add};
 use crate::task::TaskOver;
 use path_algebra::PathAlgebra;
 use road_graph::{Memory, Vertex};
 use route_tree::PairSearcher;
-use std::alloc::Global;
 
 /// A searcher for pairs, with a place for what it finds.
 #[derive(Drop)]
@@ -69,22 +68,24 @@ pub(crate) fn find_from<A: PathAlgebra>(pool: &[PairSolver<A>], source: Vertex) 
     0
 }
 
-/// Takes what each of a group found, in order. The only error is want of memory, also of one of
-/// them before.
-pub(crate) fn gather<A: PathAlgebra>(
-    alloc: Global,
+/// Adds what each of a group found, the last one first. The only error is want of memory, also of
+/// one of them before. After an error some of it is added.
+pub(crate) fn add_found<A: PathAlgebra, R>(
+    over: &TaskOver<'_, A, R>,
     group: &mut [PairSolver<A>],
-) -> Result<Vec<Searched<A::Value>>, Memory>
-    ensures found { IfOk result (λ v. map Some v.items ≡ map (λ s. s.found) group.old) }
-    ensures pool { (algebra : A) (g : GraphData) → IsPoolOf algebra g group.old →
-        IsPoolOf algebra g group.new }
+    ahead: &mut Vec<Searched<A::Value>>,
+) -> Result<(), Memory>
+    requires pool { IsPoolIn over.now group.old }
+    requires found { HaveFoundIn A.meaning over.now group.old }
+    requires ahead { AreFoundIn A.meaning over.now ahead.old.items }
+    ensures pool { IsPoolIn over.now group.new }
+    ensures ahead { AreFoundIn A.meaning over.now ahead.new.items }
 {
-    let mut searched = Vec::new(alloc);
-    for solver in group.iter_mut() {
-        let Some(next) = solver.found.take() else {
+    for k in (0..group.len()).rev() {
+        let Some(next) = group[k].found.take() else {
             return Err(Memory);
         };
-        add(&mut searched, next)?;
+        add(ahead, next)?;
     }
-    Ok(searched)
+    Ok(())
 }

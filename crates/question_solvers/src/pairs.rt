@@ -1,11 +1,9 @@
 //! Solves pairs, several side by side, by a pool of searchers.
 ghost use Rattle.std.specs.Prelude.{◌≡◌, ◌≤◌, ◌<◌, ℕ, length, slice_index_or, All, IfOk, IfSome};
-ghost use Rattle.std.specs.List.{AllZip};
-ghost use Rattle.question_solvers.specs.Tasks.{AreFoundIn, IsFoundIn, IsPlaceIn, IsPoolIn, IsSearcherIn};
+ghost use Rattle.question_solvers.specs.Tasks.{AreFoundIn, HaveFoundIn, IsFoundIn, IsPlaceIn, IsPoolIn, IsSearcherIn};
 
-use crate::ahead::add_run;
 use crate::pair_search::{pair_at, solve_at, solve_near_at};
-use crate::pair_solver::{PairSolver, find_from, gather, grow};
+use crate::pair_solver::{PairSolver, add_found, find_from, grow};
 use crate::searched::Searched;
 use crate::side_by_side::{follows, places_from};
 use crate::task::PairTask;
@@ -40,8 +38,7 @@ fn solve_group<A: PathAlgebra, R: Threads + Sync>(
     requires places { All (IsPlaceIn pairs.now.over.now) places.now }
     requires count { length group.old ≡ length places.now }
     requires pool { IsPoolIn pairs.now.over.now group.old }
-    ensures found { AllZip (λ place s. IfSome s.found (IsFoundIn A.meaning pairs.now.over.now
-        place)) places.now group.new }
+    ensures found { HaveFoundIn A.meaning pairs.now.over.now group.new }
     ensures pool { IsPoolIn pairs.now.over.now group.new }
 {
     par_for_each_mut(
@@ -58,22 +55,23 @@ fn solve_group<A: PathAlgebra, R: Threads + Sync>(
     );
 }
 
-/// What the pairs at several places are solved to, by the first of a pool.
+/// Solves the pairs at several places by the first of a pool. They are added ahead.
 fn search_group<A: PathAlgebra, R: Threads + Sync>(
     pairs: &PairTask<'_, A, R>,
     places: &[usize],
     pool: &mut [PairSolver<A>],
-) -> Result<Vec<Searched<A::Value>>, Memory>
+    ahead: &mut Vec<Searched<A::Value>>,
+) -> Result<(), Memory>
     requires places { All (IsPlaceIn pairs.now.over.now) places.now }
     requires long { length places.now ≤ length pool.old }
     requires pool { IsPoolIn pairs.now.over.now pool.old }
-    ensures found { IfOk result (λ v. AllZip (IsFoundIn A.meaning pairs.now.over.now) places.now
-        v.items) }
+    requires ahead { AreFoundIn A.meaning pairs.now.over.now ahead.old.items }
     ensures pool { IsPoolIn pairs.now.over.now pool.new }
+    ensures ahead { AreFoundIn A.meaning pairs.now.over.now ahead.new.items }
 {
     let group = &mut pool[..places.len()];
     solve_group(pairs, places, group);
-    gather(pairs.over.task.alloc, group)
+    add_found(pairs.over, group, ahead)
 }
 
 /// The same by a pool that gets longer if need be.
@@ -81,20 +79,21 @@ fn search_each<A: PathAlgebra, R: Threads + Sync>(
     pairs: &PairTask<'_, A, R>,
     places: &[usize],
     pool: &mut Vec<PairSolver<A>>,
-) -> Result<Vec<Searched<A::Value>>, Memory>
+    ahead: &mut Vec<Searched<A::Value>>,
+) -> Result<(), Memory>
     requires places { All (IsPlaceIn pairs.now.over.now) places.now }
     requires pool { IsPoolIn pairs.now.over.now pool.old.items }
-    ensures found { IfOk result (λ v. AllZip (IsFoundIn A.meaning pairs.now.over.now) places.now
-        v.items) }
+    requires ahead { AreFoundIn A.meaning pairs.now.over.now ahead.old.items }
     ensures pool { IsPoolIn pairs.now.over.now pool.new.items }
+    ensures ahead { AreFoundIn A.meaning pairs.now.over.now ahead.new.items }
 {
     grow(pairs.over, pool, places.len())?;
-    search_group(pairs, places, pool.as_mut_slice())
+    search_group(pairs, places, pool.as_mut_slice(), ahead)
 }
 
 /// Solves the pair at a place and those that follow it with other sources, as many as the width in
 /// all, side by side, unless that is one or the pair follows one of its own source. They are added
-/// ahead. If memory does not suffice, the pool is cut to one.
+/// ahead. If memory does not suffice, the pool is cut to one, and what was ahead is dropped.
 pub(crate) fn search_pairs<A: PathAlgebra, R: Threads + Sync>(
     pairs: &PairTask<'_, A, R>,
     i: usize,
@@ -112,17 +111,16 @@ pub(crate) fn search_pairs<A: PathAlgebra, R: Threads + Sync>(
         return Ok(());
     }
     let places = places_from(task, i)?;
-    match search_each(pairs, places.as_slice(), pool) {
-        Ok(group) => add_run(ahead, group),
-        Err(Memory) => {
-            pool.truncate(1);
-            Err(Memory)
-        }
+    let searched = search_each(pairs, places.as_slice(), pool, ahead);
+    if searched.is_err() {
+        pool.truncate(1);
+        ahead.clear();
     }
+    searched
 }
 
 /// Which of a pool solves the pair at a place: one that goes on with its search, if there is one.
-fn find_for<A: PathAlgebra, R>(
+pub(crate) fn find_for<A: PathAlgebra, R>(
     pairs: &PairTask<'_, A, R>,
     i: usize,
     pool: &mut Vec<PairSolver<A>>,
@@ -137,22 +135,7 @@ fn find_for<A: PathAlgebra, R>(
     Ok(find_from(pool.as_slice(), source))
 }
 
-/// Solves the pair at a place by one of a pool.
-pub(crate) fn search_on<A: PathAlgebra, R>(
-    pairs: &PairTask<'_, A, R>,
-    i: usize,
-    pool: &mut Vec<PairSolver<A>>,
-) -> Result<Searched<A::Value>, Memory>
-    requires place { IsPlaceIn pairs.now.over.now i }
-    requires pool { IsPoolIn pairs.now.over.now pool.old.items }
-    ensures solved { IfOk result (IsFoundIn A.meaning pairs.now.over.now i) }
-    ensures pool { IsPoolIn pairs.now.over.now pool.new.items }
-{
-    let k = find_for(pairs, i, pool)?;
-    solve_at(&mut pool[k].searcher, pairs, i)
-}
-
-/// The same by a search that may give up: none if it does.
+/// Solves the pair at a place by one of a pool, by a search that may give up: none if it does.
 pub(crate) fn search_near<A: PathAlgebra, R>(
     pairs: &PairTask<'_, A, R>,
     i: usize,

@@ -1,7 +1,6 @@
 //! Solves questions by the plain solver.
 ghost use Rattle.std.specs.Prelude.{◌≡◌, IfOk, OnOk, IsSome};
 ghost use Rattle.std.specs.Borrow.{sem};
-ghost use Rattle.std.specs.Option.{ForSome};
 ghost use Rattle.road_files.specs.Asked.{AreQuestionsOf, asked_of};
 ghost use Rattle.question_solvers.specs.Questions.{HasPlace};
 ghost use Rattle.question_solvers.specs.Lending.{EndsPlain};
@@ -10,8 +9,9 @@ ghost use Rattle.question_solvers.specs.Solvers.{IsPlainAfter, IsPlainReady};
 ghost use Rattle.question_solvers.specs.Tasks.{AreFoundIn, ArePairsIn, IsPlaceIn, IsPoolIn, SolvesNextIn};
 
 use crate::ahead::{add_next, advance, solution_of};
+use crate::pair_search::solve_at;
 use crate::pair_solver::{PairSolver, set_algebra};
-use crate::pairs::{search_on, search_pairs};
+use crate::pairs::{find_for, search_pairs};
 use crate::plain_solver::PlainSolver;
 use crate::searched::Searched;
 use crate::side_by_side::{search, search_ahead};
@@ -60,35 +60,9 @@ fn solve_pair<A: PathAlgebra, R: Threads + Sync>(
     if advance(over, i, ahead) {
         return Ok(());
     }
-    let next = search_on(pairs, i, pool)?;
+    let k = find_for(pairs, i, pool)?;
+    let next = solve_at(&mut pool[k].searcher, pairs, i)?;
     add_next(over, i, next, ahead)
-}
-
-/// Solves the question at a place: by what was solved ahead, or else by a search.
-fn solve_over<A: PathAlgebra, R: Threads + Sync>(
-    over: &TaskOver<'_, A, R>,
-    by_head: &Option<InGraph>,
-    i: usize,
-    pool: &mut Vec<PairSolver<A>>,
-    ahead: &mut Vec<Searched<A::Value>>,
-) -> Result<(), Memory>
-    requires place { IsPlaceIn over.now i }
-    requires by_head { ForSome by_head.now (λ by_head. by_head ≡ over.now.graph.now) }
-    requires some { ArePairsIn over.now → IsSome by_head.now }
-    requires pool { IsPoolIn over.now pool.old.items }
-    requires ahead { AreFoundIn A.meaning over.now ahead.old.items }
-    ensures pool { IsPoolIn over.now pool.new.items }
-    ensures solved { SolvesNextIn A.meaning over.now i ahead.new.items result }
-{
-    if advance(over, i, ahead) {
-        return Ok(());
-    }
-    match (over.task.questions, by_head) {
-        (Questions::Pairs(_), Some(by_head)) => {
-            solve_pair(&PairTask { over, by_head }, i, pool, ahead)
-        }
-        _ => solve_from_sources(over, i, ahead),
-    }
 }
 
 /// Makes the rows of arcs by head, unless they are there.
@@ -127,7 +101,8 @@ pub fn start_plain<A: PathAlgebra, R>(
     Ok(())
 }
 
-/// Solves the question at a place: its solution is the next one then.
+/// Solves the question at a place, by what was solved ahead or else by a search: its solution is
+/// the next one then.
 pub(crate) fn solve_plainly<A: PathAlgebra, R: Threads + Sync>(
     task: &Task<'_, A, R>,
     solver: &mut PlainSolver<A>,
@@ -143,9 +118,17 @@ pub(crate) fn solve_plainly<A: PathAlgebra, R: Threads + Sync>(
         (asked_of task.now.questions.now) i solver.new.searched.items) }
 {
     let graph = &solver.graph;
-    let over = TaskOver { task, graph };
+    let over = &TaskOver { task, graph };
     let (pool, ahead) = (&mut solver.pool, &mut solver.searched);
-    solve_over(&over, &solver.by_head, i, pool, ahead)
+    if advance(over, i, ahead) {
+        return Ok(());
+    }
+    match (task.questions, &solver.by_head) {
+        (Questions::Pairs(_), Some(by_head)) => {
+            solve_pair(&PairTask { over, by_head }, i, pool, ahead)
+        }
+        _ => solve_from_sources(over, i, ahead),
+    }
 }
 
 /// Solves the question at a place.

@@ -1,11 +1,16 @@
-use Rattle.std.proofs.Common.{◌<◌, length, sym, subst}
-use Rattle.std.specs.List.{All}
+use Rattle.std.proofs.Common.{◌∙◌, [], ap}
+use Rattle.std.proofs.lemmas.List.Elements.{All-nil, All-same}
 use Rattle.road_files.specs.Asked.{asked_of}
-use Rattle.question_solvers.proofs.Searches.{all_own}
+use Rattle.question_solvers.specs.Solved.{IsSearched}
+use Rattle.question_solvers.proofs.pairs.search_pairs.Goals.{then-is_err, else-is_err}
 use Rattle.question_solvers.proofs.pairs.search_pairs.Goals as goal
 
-pub returns-in-Ok-clause-ahead : goal.returns-in-Ok-clause-ahead
-returns-in-Ok-clause-ahead g c =
-    let asked = asked_of c.args.pairs.now.over.now.task.now.questions.now in
-    let inside = subst (All (λ k. k < length asked.questions)) (sym c.as_slice.ensures.value) c.in_ok-places.ensures.inside in
-    c.add_run.ensures _ _ _ c.requires.ahead (all_own _ _ asked c.as_slice.result.now c.in-Ok.group.items inside c.in-Ok.ensures.found)
+pub returns-clause-ahead : goal.returns-clause-ahead
+returns-clause-ahead g c =
+    let over = c.args.pairs.now.over.now in
+    let P = IsSearched (g.A.PathAlgebra.meaning over.task.now.algebra) over.graph.now (asked_of over.task.now.questions.now) in
+    let left = c.search_each-searched.new.ahead.items in
+    elim c.if-is_err.branch [
+      | then-is_err w ↦ All-same P c.if-is_err.ahead.items [] (ap (λ v. v.items) w.ahead-is ∙ w.clear.ensures.items) (All-nil P)
+      | else-is_err w ↦ All-same P c.if-is_err.ahead.items left (ap (λ v. v.items) w.ahead-is) c.search_each-searched.ensures.ahead
+    ]

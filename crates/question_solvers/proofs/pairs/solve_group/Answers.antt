@@ -1,12 +1,13 @@
-use Rattle.std.proofs.Common.{rules, ◌≡◌, ◌<◌, length, sym, subst, get_or}
+use Rattle.std.proofs.Common.{rules, ◌<◌, length, sym, subst, get_or}
 use Rattle.std.specs.Prelude.{IfSome}
 use denote.Exit.{no}
 use denote.Param.{copied, param}
 use denote.Ref.{NamedLft}
 use denote.Param.Send.{param_send, arg_send, sendable}
 use Rattle.std.proofs.Crossing.{crosses}
+use Rattle.road_files.specs.Asked.{asked_of}
 use Rattle.question_solvers.specs.Tasks.{IsFoundIn, IsSearcherIn}
-use Rattle.question_solvers.proofs.Pools.{zipped}
+use Rattle.question_solvers.proofs.Searches.{some_own}
 use Rattle.question_solvers.proofs.Sending.{pair_solver_send, pair_task_sync}
 use Rattle.question_solvers.proofs.pairs.solve_group.Goals as goal
 
@@ -31,13 +32,15 @@ par_for_each_mut-requires-after_bounds g c κs within = λ k s low is. (
 )
 
 pub returns-clause-found : goal.returns-clause-found
-returns-clause-found g c =
-    let at = IsFoundIn g.A.PathAlgebra.meaning c.args.pairs.now.over.now in
-    let many : length c.par_for_each_mut.new.s ≡ length c.args.places.now = search rules in
-    zipped (λ place s. IfSome s.found (at place)) c.args.places.now c.par_for_each_mut.new.s many (λ k d e low.
+returns-clause-found g c = λ k d low.
+    let over = c.args.pairs.now.over.now in
     let low_old : k < length c.args.group.now = search rules in
-    let call = (c.par_for_each_mut.ensures k e low_old).1 in
-    subst (λ s. IfSome s.found (at (get_or c.args.places.now k d))) {y = get_or c.par_for_each_mut.new.s k e} call.left (call.call.0 d))
+    let place = get_or c.args.places.now k 0 in
+    let At = IsFoundIn g.A.PathAlgebra.meaning over place in
+    let call = (c.par_for_each_mut.ensures k d low_old).1 in
+    let found = subst (λ s. IfSome s.found At) {x = call.after_call.now} {y = get_or c.par_for_each_mut.new.s k d} call.left (call.call.0 0) in
+    some_own (g.A.PathAlgebra.meaning over.task.now.algebra) over.graph.now (asked_of over.task.now.questions.now) place (get_or c.par_for_each_mut.new.s k d).found
+    (c.requires.places k 0 (subst (λ n. k < n) c.requires.count low_old)) found
 
 pub returns-clause-pool : goal.returns-clause-pool
 returns-clause-pool g c = λ k d low.

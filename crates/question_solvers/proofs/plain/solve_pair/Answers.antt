@@ -1,7 +1,7 @@
 use Rattle.std.proofs.Common.{sym, subst}
 use Rattle.std.proofs.lemmas.List.Elements.{All-set}
 use Rattle.question_solvers.specs.Tasks.{IsSearcherIn}
-use Rattle.question_solvers.proofs.pairs.search_on.Goals as goal
+use Rattle.question_solvers.proofs.plain.solve_pair.Goals as goal
 
 pub solve_at-requires-clause-searcher : goal.solve_at-requires-clause-searcher
 solve_at-requires-clause-searcher g c κs within =
@@ -9,3 +9,6 @@ solve_at-requires-clause-searcher g c κs within =
 
 pub returns-clause-pool : goal.returns-clause-pool
 returns-clause-pool g c = All-set (λ s. IsSearcherIn c.args.pairs.now.over.now s.searcher) c.find_for.new.pool.items c.in_ok-k.k _ c.solve_at.ensures.searcher c.in_ok-k.ensures.pool
+
+pub returns-in_err-next-clause-pool : goal.returns-in_err-next-clause-pool
+returns-in_err-next-clause-pool g c = All-set (λ s. IsSearcherIn c.args.pairs.now.over.now s.searcher) c.find_for.new.pool.items c.in_ok-k.k _ c.solve_at.ensures.searcher c.in_ok-k.ensures.pool

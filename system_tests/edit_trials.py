@@ -8,12 +8,15 @@ import re
 import shutil
 import subprocess
 import tempfile
+import time
 from concurrent.futures import ThreadPoolExecutor
 from pathlib import Path
 from threading import Lock
 
 from common import TOP
 
+# An edit that takes longer, in seconds by the clock, is named: a dear one is worth another form.
+LONG = 25
 FUNCTION = re.compile(r"^ *(?:pub(?:\([a-z]+\))? )?(?:const )?(?:unsafe )?(?:extern \"C\" )?fn (\w+)", re.M)
 IMPL = re.compile(r"^impl\b(?:<.*?>)? ?(.*?)(?:\{|$)", re.M)
 TOLD = re.compile(r"^(?:note: )?(?:\./)?(src|specs|proofs)/\S*?:\d+:\d+:")
@@ -131,11 +134,13 @@ def weight(crate):
 
 
 def try_crate(prover, crate, edits, pairs_of, say):
-    """Tries the edits of a crate, and says what is wrong of each."""
+    """Tries the edits of a crate, and says what is wrong of each, and how long it took. The first one also takes what its functions call."""
     with tempfile.TemporaryDirectory(prefix="rt-edits-") as room:
         trial = Trial(prover, crate, room)
         for edit in edits:
-            say(f"{crate}/{edit.stem}", trial.wrong(edit, list(pairs_of(edit))))
+            began = time.monotonic()
+            wrong = trial.wrong(edit, list(pairs_of(edit)))
+            say(f"{crate}/{edit.stem}", wrong, time.monotonic() - began)
 
 
 def try_edits(tree, edits, pairs_of, lanes, tally):
@@ -144,8 +149,10 @@ def try_edits(tree, edits, pairs_of, lanes, tally):
     for edit in edits:
         crates.setdefault(edit.parts[-3], []).append(edit)
 
-    def say(name, why):
+    def say(name, why, seconds):
         with lock:
+            if seconds > LONG:
+                print(f"{name} took {seconds:.0f} s")
             tally.count(f"{name} is refused", not why, why)
 
     with ThreadPoolExecutor(lanes) as pool:

@@ -249,7 +249,7 @@ enum diffuse_status diffuse_graph_table(struct diffuse_graph *graph, enum diffus
    some hundred vertices, and a tree among 500 and a 64th of the vertices; the factors are asked if that does not decide it. So
    each handle also keeps the lists of these searches, 26 and 25 bytes a vertex, beside its own lists for the factors, 21 bytes a
    vertex. SHORTEST and WITHIN at every limit have one factoring, HOPS has its own, and the other algebras have none. It takes the
-   time of some tens of routes. Once it is done, a second call for the same factoring does nothing. After a refusal calls search,
+   time of ten to twenty routes. Once it is done, a second call for the same factoring does nothing. After a refusal calls search,
    as before, and a second call tries again.
    CLOSED, NO_ALGEBRA, NO_FACTORS, MEMORY, HEAVY, DENSE or DONE. */
 DIFFUSE_CHECKED((1))

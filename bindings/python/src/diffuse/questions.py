@@ -119,7 +119,7 @@ class Questions(Located):
     def factor(self, by: str, algebra: AnyAlgebra = Algebra.SHORTEST, towards: bool = False) -> None:
         """Factors the graph by a cost, once: routes, trees and tables by it are then the same, in a fraction of the time.
 
-        Questions `towards` have a graph of their own. It takes as long as some tens of routes. Raises NotFactored if that does not
+        Questions `towards` have a graph of their own. It takes as long as ten to twenty routes. Raises NotFactored if that does not
         pay or the algebra has no factors; then the graph is searched as before. InputError, OutOfMemory.
         """
         self.graph(by, towards).factor(self._algebra(algebra, by))

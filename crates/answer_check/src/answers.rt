@@ -33,13 +33,13 @@ fn judge_source<A: PathAlgebra, R: Threads + Sync>(
     rt: &R,
     alloc: Global,
     algebra: A,
-    graph: &InGraph,
+    by_head: &InGraph,
     source: Vertex,
     answer: &Answer,
 ) -> Result<Option<Place>, Memory>
-    requires { HasVertex graph.now source }
-    ensures { IfOk result (IsJudgedAt (IsAnswer (A.meaning algebra) graph.now (FromSource source)
-        (answer_data answer.now)) (IsWrongIn (A.meaning algebra) graph.now (FromSource source)
+    requires { HasVertex by_head.now source }
+    ensures { IfOk result (IsJudgedAt (IsAnswer (A.meaning algebra) by_head.now (FromSource source)
+        (answer_data answer.now)) (IsWrongIn (A.meaning algebra) by_head.now (FromSource source)
         (answer_data answer.now))) }
 {
     let Answer::Source {
@@ -49,10 +49,10 @@ fn judge_source<A: PathAlgebra, R: Threads + Sync>(
     else {
         return Ok(Some(MISMATCH));
     };
-    if named.0 != source.0 || lines.len() != graph.vertices() as usize {
+    if named.0 != source.0 || lines.len() != by_head.vertices() as usize {
         return Ok(Some(MISMATCH));
     }
-    judge_lines(rt, alloc, algebra, graph, &[source], lines)
+    judge_lines(rt, alloc, algebra, by_head, &[source], lines)
 }
 
 /// Judges the answer to a question from several sources.
@@ -60,15 +60,15 @@ fn judge_sources<A: PathAlgebra, R: Threads + Sync>(
     rt: &R,
     alloc: Global,
     algebra: A,
-    graph: &InGraph,
+    by_head: &InGraph,
     sources: &[Vertex],
     answer: &Answer,
 ) -> Result<Option<Place>, Memory>
-    requires { All (HasVertex graph.now) sources.now }
+    requires { All (HasVertex by_head.now) sources.now }
     ensures { IfOk result
-        (IsJudgedAt (IsAnswer (A.meaning algebra) graph.now (FromSources sources.now)
-        (answer_data answer.now)) (IsWrongIn (A.meaning algebra) graph.now (FromSources sources.now)
-        (answer_data answer.now))) }
+        (IsJudgedAt (IsAnswer (A.meaning algebra) by_head.now (FromSources sources.now)
+        (answer_data answer.now)) (IsWrongIn (A.meaning algebra) by_head.now
+        (FromSources sources.now) (answer_data answer.now))) }
 {
     let Answer::Multi {
         sources: named,
@@ -77,22 +77,22 @@ fn judge_sources<A: PathAlgebra, R: Threads + Sync>(
     else {
         return Ok(Some(MISMATCH));
     };
-    if !are_same(sources, named.as_slice()) || lines.len() != graph.vertices() as usize {
+    if !are_same(sources, named.as_slice()) || lines.len() != by_head.vertices() as usize {
         return Ok(Some(MISMATCH));
     }
-    judge_lines(rt, alloc, algebra, graph, sources, lines)
+    judge_lines(rt, alloc, algebra, by_head, sources, lines)
 }
 
 /// Judges the answer to a question from one vertex to another, which the searcher solves.
 pub(crate) fn judge_pair<A: PathAlgebra>(
     searcher: &mut PairSearcher<A>,
     graph: &OutGraph,
-    rows: &InGraph,
+    by_head: &InGraph,
     pair: (Vertex, Vertex),
     answer: &Answer,
 ) -> Result<Option<Place>, Memory>
     requires graph { graph.now ≡ searcher.old.roads }
-    requires rows { rows.now ≡ graph.now }
+    requires by_head { by_head.now ≡ graph.now }
     requires source { HasVertex graph.now pair.0 }
     requires target { HasVertex graph.now pair.1 }
     ensures place { IfOk result (IsJudgedAt (IsAnswer (A.meaning searcher.old.algebra) graph.now
@@ -113,7 +113,7 @@ pub(crate) fn judge_pair<A: PathAlgebra>(
     if from.0 != source.0 || to.0 != target.0 {
         return Ok(Some(MISMATCH));
     }
-    let reason = reason_of_pair(searcher, graph, rows, pair, found)?;
+    let reason = reason_of_pair(searcher, graph, by_head, pair, found)?;
     Ok(reason.map(|reason| Place {
         vertex: target.0,
         reason,
@@ -134,7 +134,7 @@ fn judge_alone<A: PathAlgebra>(
         (answer_data answer.now))) }
 {
     let mut searcher = PairSearcher::new(case.alloc, case.algebra, case.graph)?;
-    judge_pair(&mut searcher, case.graph, case.rows, pair, answer)
+    judge_pair(&mut searcher, case.graph, case.by_head, pair, answer)
 }
 
 /// The first place where the answer to question `i` is wrong.
@@ -150,12 +150,14 @@ pub(crate) fn judge<A: PathAlgebra, R: Threads + Sync>(
         (answer_data answer.now)) (IsWrongIn (A.meaning case.now.algebra) case.now.graph.now q
         (answer_data answer.now))) }
 {
-    let (alloc, algebra, rows) = (case.alloc, case.algebra, case.rows);
+    let (alloc, algebra, by_head) = (case.alloc, case.algebra, case.by_head);
     match case.questions {
-        Questions::Sources(sources) => judge_source(rt, alloc, algebra, rows, sources[i], answer),
+        Questions::Sources(sources) => judge_source(
+            rt, alloc, algebra, by_head, sources[i], answer,
+        ),
         Questions::Pairs(pairs) => judge_alone(case, pairs[i], answer),
         Questions::Multi(lists) => {
-            judge_sources(rt, alloc, algebra, rows, lists[i].as_slice(), answer)
+            judge_sources(rt, alloc, algebra, by_head, lists[i].as_slice(), answer)
         }
     }
 }

@@ -16,10 +16,10 @@ pub(crate) struct Case<'c, A: PathAlgebra> {
     pub(crate) alloc: Global,
     pub(crate) algebra: A,
     pub(crate) graph: &'c OutGraph,
-    pub(crate) rows: &'c InGraph,
+    pub(crate) by_head: &'c InGraph,
     pub(crate) questions: &'c Questions,
     pub(crate) answers: &'c Answers,
-    ghost same: { rows.now ≡ graph.now },
+    ghost same: { by_head.now ≡ graph.now },
     ghost within: { AskWithin graph.now.vertices questions.now } by { AskWithin-prop graph.now.vertices questions.now },
     ghost count: { length (asked_of questions.now).questions ≡ length answers.now.list.items },
 }

@@ -62,12 +62,12 @@ pub fn check<A: PathAlgebra, R: Threads + Sync>(
             reason: Reason::Mismatch,
         });
     }
-    let rows = InGraph::of(alloc, graph)?;
+    let by_head = InGraph::of(alloc, graph)?;
     let case = Case {
         alloc,
         algebra,
         graph,
-        rows: &rows,
+        by_head: &by_head,
         questions,
         answers,
     };

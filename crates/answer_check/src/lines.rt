@@ -37,19 +37,19 @@ fn marks_of(alloc: Global, n: usize, sources: &[Vertex]) -> Result<Vec<bool>, Al
 pub fn first_wrong_line<A: PathAlgebra, L: VertexLines>(
     alloc: Global,
     algebra: A,
-    graph: &InGraph,
+    by_head: &InGraph,
     sources: &[Vertex],
     lines: &L,
 ) -> Result<Option<Place>, Memory>
-    requires inside { All (HasVertex graph.now) sources.now }
-    requires count { length (L.list lines.now) ≡ graph.now.vertices }
-    ensures { IfOk result (IsJudgedAt (AreVertexLines (A.meaning algebra) graph.now sources.now
-        (L.list lines.now)) (λ v r. HasVertex graph.now v × IsLineRefused (A.meaning algebra)
-        graph.now sources.now (L.list lines.now) v r)) }
+    requires inside { All (HasVertex by_head.now) sources.now }
+    requires count { length (L.list lines.now) ≡ by_head.now.vertices }
+    ensures { IfOk result (IsJudgedAt (AreVertexLines (A.meaning algebra) by_head.now sources.now
+        (L.list lines.now)) (λ v r. HasVertex by_head.now v × IsLineRefused (A.meaning algebra)
+        by_head.now sources.now (L.list lines.now) v r)) }
 {
     laws_hold(algebra);
-    let marks = marks_of(alloc, graph.vertices() as usize, sources)?;
-    Ok(first_place(algebra, graph, lines, &marks, 0))
+    let marks = marks_of(alloc, by_head.vertices() as usize, sources)?;
+    Ok(first_place(algebra, by_head, lines, &marks, 0))
 }
 
 /// The same, by a parallel pass over the lines first.
@@ -57,18 +57,18 @@ pub(crate) fn judge_lines<A: PathAlgebra, L: VertexLines + Sync, R: Threads + Sy
     rt: &R,
     alloc: Global,
     algebra: A,
-    graph: &InGraph,
+    by_head: &InGraph,
     sources: &[Vertex],
     lines: &L,
 ) -> Result<Option<Place>, Memory>
-    requires inside { All (HasVertex graph.now) sources.now }
-    requires count { length (L.list lines.now) ≡ graph.now.vertices }
-    ensures { IfOk result (IsJudgedAt (AreVertexLines (A.meaning algebra) graph.now sources.now
-        (L.list lines.now)) (λ v r. HasVertex graph.now v × IsLineRefused (A.meaning algebra)
-        graph.now sources.now (L.list lines.now) v r)) }
+    requires inside { All (HasVertex by_head.now) sources.now }
+    requires count { length (L.list lines.now) ≡ by_head.now.vertices }
+    ensures { IfOk result (IsJudgedAt (AreVertexLines (A.meaning algebra) by_head.now sources.now
+        (L.list lines.now)) (λ v r. HasVertex by_head.now v × IsLineRefused (A.meaning algebra)
+        by_head.now sources.now (L.list lines.now) v r)) }
 {
     laws_hold(algebra);
-    let marks = marks_of(alloc, graph.vertices() as usize, sources)?;
-    let right = right_lines(rt, algebra, graph, lines, &marks);
-    Ok(first_place(algebra, graph, lines, &marks, right))
+    let marks = marks_of(alloc, by_head.vertices() as usize, sources)?;
+    let right = right_lines(rt, algebra, by_head, lines, &marks);
+    Ok(first_place(algebra, by_head, lines, &marks, right))
 }

@@ -34,12 +34,12 @@ fn difference(right: &Found, found: &Found) -> Option<Reason>
 pub(crate) fn reason_of_pair<A: PathAlgebra>(
     searcher: &mut PairSearcher<A>,
     graph: &OutGraph,
-    rows: &InGraph,
+    by_head: &InGraph,
     pair: (Vertex, Vertex),
     found: &Option<Found>,
 ) -> Result<Option<Reason>, Memory>
     requires graph { graph.now ≡ searcher.old.roads }
-    requires rows { rows.now ≡ graph.now }
+    requires by_head { by_head.now ≡ graph.now }
     requires source { HasVertex graph.now pair.0 }
     requires target { HasVertex graph.now pair.1 }
     ensures reason { IfOk result (IsFirstReason
@@ -50,7 +50,7 @@ pub(crate) fn reason_of_pair<A: PathAlgebra>(
 {
     let algebra = searcher.algebra();
     laws_hold(algebra);
-    let right = searcher.solve(graph, rows, pair)?;
+    let right = searcher.solve(graph, by_head, pair)?;
     let Some(found) = found else {
         return Ok(if right.is_some() {
             Some(Reason::HasWalk)

@@ -17,42 +17,42 @@ use std::thread::Threads;
 /// Whether there is a reason against line `i` of the list.
 fn is_refused<A: PathAlgebra, L: VertexLines>(
     algebra: A,
-    graph: &InGraph,
+    by_head: &InGraph,
     lines: &L,
     marks: &[bool],
     i: usize,
 ) -> bool
-    requires count { length (L.list lines.now) ≡ graph.now.vertices }
-    requires marks { length marks.now ≡ graph.now.vertices }
-    requires place { i < graph.now.vertices }
-    ensures { TellsRefused (A.meaning algebra) graph.now (L.list lines.now) marks.now (i + 1)
+    requires count { length (L.list lines.now) ≡ by_head.now.vertices }
+    requires marks { length marks.now ≡ by_head.now.vertices }
+    requires place { i < by_head.now.vertices }
+    ensures { TellsRefused (A.meaning algebra) by_head.now (L.list lines.now) marks.now (i + 1)
         result }
 {
-    graph.holds();
-    reason_at(algebra, graph, lines, marks, Vertex(i as u32 + 1)).is_some()
+    by_head.holds();
+    reason_at(algebra, by_head, lines, marks, Vertex(i as u32 + 1)).is_some()
 }
 
 /// The index of the first line with a reason against it. The lines are judged in parallel.
 fn first_refused<A: PathAlgebra, L: VertexLines + Sync, R: Threads + Sync>(
     rt: &R,
     algebra: A,
-    graph: &InGraph,
+    by_head: &InGraph,
     lines: &L,
     marks: &[bool],
 ) -> Option<usize>
-    requires count { length (L.list lines.now) ≡ graph.now.vertices }
-    requires marks { length marks.now ≡ graph.now.vertices }
-    ensures { IsFirstNumber graph.now.vertices (λ i. TellsRefused (A.meaning algebra) graph.now
+    requires count { length (L.list lines.now) ≡ by_head.now.vertices }
+    requires marks { length marks.now ≡ by_head.now.vertices }
+    ensures { IsFirstNumber by_head.now.vertices (λ i. TellsRefused (A.meaning algebra) by_head.now
         (L.list lines.now) marks.now (i + 1)) result }
 {
     (0..marks.len()).into_par_iter().position_first(
         rt,
         |i: usize| -> bool
-            requires { (length (L.list lines.now) ≡ graph.now.vertices) ×
-                (length marks.now ≡ graph.now.vertices) × (i < graph.now.vertices) }
-            ensures { TellsRefused (A.meaning algebra) graph.entry.now (L.list lines.entry.now)
+            requires { (length (L.list lines.now) ≡ by_head.now.vertices) ×
+                (length marks.now ≡ by_head.now.vertices) × (i < by_head.now.vertices) }
+            ensures { TellsRefused (A.meaning algebra) by_head.entry.now (L.list lines.entry.now)
                 marks.entry.now (i + 1) result }
-        { is_refused(algebra, graph, lines, marks, i) },
+        { is_refused(algebra, by_head, lines, marks, i) },
     )
 }
 
@@ -60,18 +60,18 @@ fn first_refused<A: PathAlgebra, L: VertexLines + Sync, R: Threads + Sync>(
 pub(crate) fn right_lines<A: PathAlgebra, L: VertexLines + Sync, R: Threads + Sync>(
     rt: &R,
     algebra: A,
-    graph: &InGraph,
+    by_head: &InGraph,
     lines: &L,
     marks: &[bool],
 ) -> usize
-    requires count { length (L.list lines.now) ≡ graph.now.vertices }
-    requires marks { length marks.now ≡ graph.now.vertices }
-    ensures right { (k : ℕ) → k < result → TellsRefused (A.meaning algebra) graph.now
+    requires count { length (L.list lines.now) ≡ by_head.now.vertices }
+    requires marks { length marks.now ≡ by_head.now.vertices }
+    ensures right { (k : ℕ) → k < result → TellsRefused (A.meaning algebra) by_head.now
         (L.list lines.now) marks.now (k + 1) false }
-    ensures first { result < graph.now.vertices → TellsRefused (A.meaning algebra) graph.now
+    ensures first { result < by_head.now.vertices → TellsRefused (A.meaning algebra) by_head.now
         (L.list lines.now) marks.now (result + 1) true }
 {
-    match first_refused(rt, algebra, graph, lines, marks) {
+    match first_refused(rt, algebra, by_head, lines, marks) {
         Some(i) => i,
         None => marks.len(),
     }
@@ -81,25 +81,25 @@ pub(crate) fn right_lines<A: PathAlgebra, L: VertexLines + Sync, R: Threads + Sy
 /// lines are known to be right.
 pub(crate) fn first_place<A: PathAlgebra, L: VertexLines>(
     algebra: A,
-    graph: &InGraph,
+    by_head: &InGraph,
     lines: &L,
     marks: &[bool],
     right: usize,
 ) -> Option<Place>
-    requires count { length (L.list lines.now) ≡ graph.now.vertices }
-    requires marks { length marks.now ≡ graph.now.vertices }
-    requires right { (k : ℕ) → k < right → TellsRefused (A.meaning algebra) graph.now
+    requires count { length (L.list lines.now) ≡ by_head.now.vertices }
+    requires marks { length marks.now ≡ by_head.now.vertices }
+    requires right { (k : ℕ) → k < right → TellsRefused (A.meaning algebra) by_head.now
         (L.list lines.now) marks.now (k + 1) false }
-    ensures { IsJudgedAt ((v : ℕ) → HasVertex graph.now v → IsMarkedRight (A.meaning algebra)
-        graph.now (L.list lines.now) v (is_marked marks.now v)) (λ v r. HasVertex graph.now v ×
-        IsMarkedRefused (A.meaning algebra) graph.now (L.list lines.now) v (is_marked marks.now v)
+    ensures { IsJudgedAt ((v : ℕ) → HasVertex by_head.now v → IsMarkedRight (A.meaning algebra)
+        by_head.now (L.list lines.now) v (is_marked marks.now v)) (λ v r. HasVertex by_head.now v ×
+        IsMarkedRefused (A.meaning algebra) by_head.now (L.list lines.now) v (is_marked marks.now v)
         r) result }
 {
     laws_hold(algebra);
-    graph.holds();
+    by_head.holds();
     for i in right..marks.len() {
         let vertex = Vertex(i as u32 + 1);
-        if let Some(reason) = reason_at(algebra, graph, lines, marks, vertex) {
+        if let Some(reason) = reason_at(algebra, by_head, lines, marks, vertex) {
             return Some(Place {
                 vertex: vertex.0,
                 reason,

@@ -33,7 +33,7 @@ fn is_suspect<A: PathAlgebra>(searcher: &mut PairSearcher<A>, case: &Case<'_, A>
         return true;
     };
     let answer = &case.answers.list[i];
-    match judge_pair(searcher, case.graph, case.rows, pairs[i], answer) {
+    match judge_pair(searcher, case.graph, case.by_head, pairs[i], answer) {
         Ok(None) => false,
         _ => true,
     }

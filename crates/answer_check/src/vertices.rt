@@ -46,19 +46,19 @@ fn offers_some<A: PathAlgebra, L: VertexLines>(algebra: A, lines: &L, roads: &[O
 /// The first reason against the line of a vertex that is no source.
 fn reason_of_line<A: PathAlgebra, L: VertexLines>(
     algebra: A,
-    graph: &InGraph,
+    by_head: &InGraph,
     lines: &L,
     v: Vertex,
 ) -> Option<Reason>
-    requires count { length (L.list lines.now) ≡ graph.now.vertices }
-    requires in_graph { HasVertex graph.now v }
-    ensures { IsFirstReason (IsRightLine (A.meaning algebra) graph.now (L.list lines.now) v
-        (label_of (L.list lines.now) v)) (IsRefuted (A.meaning algebra) graph.now
+    requires count { length (L.list lines.now) ≡ by_head.now.vertices }
+    requires in_graph { HasVertex by_head.now v }
+    ensures { IsFirstReason (IsRightLine (A.meaning algebra) by_head.now (L.list lines.now) v
+        (label_of (L.list lines.now) v)) (IsRefuted (A.meaning algebra) by_head.now
         (L.list lines.now) v (label_of (L.list lines.now) v)) result }
 {
     laws_hold(algebra);
-    graph.holds();
-    let roads = graph.roads_into(v);
+    by_head.holds();
+    let roads = by_head.roads_into(v);
     let Some(line) = lines.line_of(v) else {
         let has_walk = offers_some(algebra, lines, roads);
         return if has_walk {
@@ -76,20 +76,20 @@ fn reason_of_line<A: PathAlgebra, L: VertexLines>(
 /// The first reason against the line of a vertex. `marks` says which vertices are sources.
 pub(crate) fn reason_at<A: PathAlgebra, L: VertexLines>(
     algebra: A,
-    graph: &InGraph,
+    by_head: &InGraph,
     lines: &L,
     marks: &[bool],
     v: Vertex,
 ) -> Option<Reason>
-    requires count { length (L.list lines.now) ≡ graph.now.vertices }
-    requires marks { length marks.now ≡ graph.now.vertices }
-    requires in_graph { HasVertex graph.now v }
-    ensures { IsFirstReason (IsMarkedRight (A.meaning algebra) graph.now (L.list lines.now) v
-        (is_marked marks.now v)) (IsMarkedRefused (A.meaning algebra) graph.now (L.list lines.now)
+    requires count { length (L.list lines.now) ≡ by_head.now.vertices }
+    requires marks { length marks.now ≡ by_head.now.vertices }
+    requires in_graph { HasVertex by_head.now v }
+    ensures { IsFirstReason (IsMarkedRight (A.meaning algebra) by_head.now (L.list lines.now) v
+        (is_marked marks.now v)) (IsMarkedRefused (A.meaning algebra) by_head.now (L.list lines.now)
         v (is_marked marks.now v)) result }
 {
     if !marks[v.0 as usize - 1] {
-        return reason_of_line(algebra, graph, lines, v);
+        return reason_of_line(algebra, by_head, lines, v);
     }
     if is_source_line(algebra, lines.line_of(v)) {
         None

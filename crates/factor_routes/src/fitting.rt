@@ -18,26 +18,27 @@ fn cost_of(cost: Cost, w: u32) -> u32
 }
 
 /// The greatest cost among the arcs that enter a vertex; 0 if none does.
-fn greatest_into(cost: Cost, rows: &InGraph, v: Vertex) -> u32
-    requires { HasVertex rows.now v }
-    ensures { result ≡ greatest_into (cost_of cost) v rows.now.arcs }
+fn greatest_into(cost: Cost, by_head: &InGraph, v: Vertex) -> u32
+    requires { HasVertex by_head.now v }
+    ensures { result ≡ greatest_into (cost_of cost) v by_head.now.arcs }
 {
     let mut greatest = 0u32;
-    for road in rows.roads_into(v) {
+    for road in by_head.roads_into(v) {
         greatest = greatest.max(cost_of(cost, road.weight));
     }
     greatest
 }
 
 /// The sum of the greatest costs into each vertex.
-fn sum_of_greatest(cost: Cost, rows: &InGraph) -> u64
-    ensures sum { result ≡ sum_to (λ v. greatest_into (cost_of cost) v rows.now.arcs) rows.now.vertices }
+fn sum_of_greatest(cost: Cost, by_head: &InGraph) -> u64
+    ensures sum { result ≡ sum_to (λ v. greatest_into (cost_of cost) v by_head.now.arcs)
+        by_head.now.vertices }
     ensures low { result < 2 ^ 58 }
 {
-    rows.holds();
+    by_head.holds();
     let mut sum = 0u64;
-    for i in 0..rows.vertices() {
-        sum += u64::from(greatest_into(cost, rows, Vertex(i + 1)));
+    for i in 0..by_head.vertices() {
+        sum += u64::from(greatest_into(cost, by_head, Vertex(i + 1)));
     }
     sum
 }
@@ -53,14 +54,14 @@ fn bits_of(n: u32) -> u32
 
 /// Sums of costs with as few low bits for the hops as hold them; none if no number of low bits
 /// leaves room for the sums.
-pub(crate) fn fitting_sums(cost: Cost, rows: &InGraph) -> Option<CountedSums>
+pub(crate) fn fitting_sums(cost: Cost, by_head: &InGraph) -> Option<CountedSums>
     ensures cost { IfSome result (λ sums. sums.cost ≡ cost) }
-    ensures fits { IfSome result (λ sums. CountsFit rows.now (cost_of cost) sums.bits) }
-    ensures none { IfNone result ((k : ℕ) → CountsFit rows.now (cost_of cost) k → ⊥) }
+    ensures fits { IfSome result (λ sums. CountsFit by_head.now (cost_of cost) sums.bits) }
+    ensures none { IfNone result ((k : ℕ) → CountsFit by_head.now (cost_of cost) k → ⊥) }
 {
-    rows.holds();
-    let bits = bits_of(rows.vertices());
-    if bits < 32 && sum_of_greatest(cost, rows) < 1u64 << (63 - bits) {
+    by_head.holds();
+    let bits = bits_of(by_head.vertices());
+    if bits < 32 && sum_of_greatest(cost, by_head) < 1u64 << (63 - bits) {
         CountedSums::new(cost, bits)
     } else {
         None

@@ -56,12 +56,12 @@ impl RoadFactors {
     /// there is no such vertex.
     pub(crate) fn least_tail<N: BestNumbers>(
         &self,
-        rows: &InGraph,
+        by_head: &InGraph,
         numbers: &mut N,
         v: Vertex,
         y: u64,
     ) -> Result<Option<(Vertex, u64)>, Memory>
-        requires rows { rows.now ≡ self.now.roads }
+        requires by_head { by_head.now ≡ self.now.roads }
         requires vertex { HasVertex self.now.roads v }
         requires known { (sources : List ℕ) × N.are_best numbers.old self.now sources }
         ensures kept { (sources : List ℕ) → N.are_best numbers.old self.now sources → N.are_best
@@ -75,7 +75,7 @@ impl RoadFactors {
     {
         self.holds();
         let mut least = None;
-        for road in rows.roads_into(v) {
+        for road in by_head.roads_into(v) {
             least = lesser(least, self.tail_if(numbers, *road, y)?);
         }
         Ok(least)

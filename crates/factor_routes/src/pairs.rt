@@ -55,11 +55,11 @@ impl RoadFactors {
     fn route_back(
         &self,
         alloc: Global,
-        rows: &InGraph,
+        by_head: &InGraph,
         asker: &mut RouteAsker,
         end: (Vertex, u64),
     ) -> Result<Vec<Vertex>, Memory>
-        requires rows { rows.now ≡ self.now.roads }
+        requires by_head { by_head.now ≡ self.now.roads }
         requires same { asker.old.factors ≡ self.now }
         requires end { HasVertex self.now.roads end.0 }
         ensures same { asker.new.factors ≡ asker.old.factors }
@@ -72,7 +72,7 @@ impl RoadFactors {
         let mut list = Vec::new(alloc);
         list.push(end.0).map_err(AllocError::from)?;
         let (mut at, mut number) = end;
-        while let Some(tail) = self.least_tail(rows, asker, at, number)? {
+        while let Some(tail) = self.least_tail(by_head, asker, at, number)? {
             list.push(tail.0).map_err(AllocError::from)?;
             (at, number) = tail;
         }
@@ -89,11 +89,11 @@ impl RoadFactors {
         &self,
         alloc: Global,
         algebra: A,
-        rows: &InGraph,
+        by_head: &InGraph,
         asker: &mut RouteAsker,
         pair: (Vertex, Vertex),
     ) -> Result<Option<Found>, Memory>
-        requires rows { rows.now ≡ self.now.roads }
+        requires by_head { by_head.now ≡ self.now.roads }
         requires carried { IsCarried (A.meaning algebra) (cost_of self.now.algebra.cost) }
         requires same { asker.old.factors ≡ self.now }
         requires source { HasVertex self.now.roads pair.0 }
@@ -113,7 +113,7 @@ impl RoadFactors {
         let Some(value) = self.value_in(algebra, number) else {
             return Ok(None);
         };
-        let route = self.route_back(alloc, rows, asker, (target, number))?;
+        let route = self.route_back(alloc, by_head, asker, (target, number))?;
         Ok(Some(Found {
             code: algebra.code(value),
             hops: self.hops_in(number),

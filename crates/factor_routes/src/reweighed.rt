@@ -22,7 +22,8 @@ pub enum Unweighed {
 
 impl RoadFactors {
     /// The factors of another graph for the sums of the same costs, by the same order and over the
-    /// same links: in a fraction of the time of `of`. `rows` is that graph, with its arcs by head.
+    /// same links: in a fraction of the time of `of`. `by_head` is that graph, with its arcs by
+    /// head.
     ///
     /// # Errors
     /// `Heavy` as of `of`; `Unfit` if there is not a link for each arc, as there is where an arc
@@ -31,15 +32,15 @@ impl RoadFactors {
         &self,
         alloc: Global,
         graph: &OutGraph,
-        rows: &InGraph,
+        by_head: &InGraph,
     ) -> Result<RoadFactors, Unweighed>
-        requires { rows.now ≡ graph.now }
+        requires { by_head.now ≡ graph.now }
         ensures roads { IfOk result (λ f. f.roads ≡ graph.now) }
         ensures cost { IfOk result (λ f. f.algebra.cost ≡ self.now.algebra.cost) }
         ensures fits { IfOk result (λ f. Fits graph.now self.now) }
         ensures cause { IfErr result (λ why. IsCause why graph.now self.now) }
     {
-        let Some(sums) = fitting_sums(self.sums.cost, rows) else {
+        let Some(sums) = fitting_sums(self.sums.cost, by_head) else {
             return Err(Unweighed::Heavy);
         };
         match self.factors.reweighed(alloc, sums, graph) {

@@ -52,8 +52,8 @@ impl Model for RoadFactors {
 }
 
 impl RoadFactors {
-    /// An order of elimination for factors of a graph, and the counts of what it makes; that they are
-    /// those of this order is not claimed. `rows` is the same graph, with its arcs by head.
+    /// An order of elimination for factors of a graph, and the counts of what it makes; that they
+    /// are those of this order is not claimed. `by_head` is the same graph, with its arcs by head.
     ///
     /// # Errors
     /// As of `of`.
@@ -61,9 +61,9 @@ impl RoadFactors {
         alloc: Global,
         cost: Cost,
         graph: &OutGraph,
-        rows: &InGraph,
+        by_head: &InGraph,
     ) -> Result<(Vec<Vertex>, Counts), Unfactored>
-        requires { rows.now ≡ graph.now }
+        requires { by_head.now ≡ graph.now }
         ensures each { IfOk result (λ found. HasEachVertex graph.now.vertices found.0.items) }
         ensures within { IfOk result (λ found. AreWithinBounds graph.now.vertices
             (length graph.now.arcs) found.1) }
@@ -73,7 +73,7 @@ impl RoadFactors {
         ensures bounds { IfErr result (λ e. (c : Counts) → e ≡ Dense c →
             IsTooDense graph.now.vertices (length graph.now.arcs) c) }
     {
-        let Some(_) = fitting_sums(cost, rows) else {
+        let Some(_) = fitting_sums(cost, by_head) else {
             return Err(Unfactored::Heavy);
         };
         let Ok(Ordered { order, counts }) = approximate_minimum_degree(alloc, graph) else {
@@ -86,7 +86,7 @@ impl RoadFactors {
     }
 
     /// The factors of a graph by an order of its vertices. Any order gives the same answers, a good
-    /// one few links. `rows` is the same graph, with its arcs by head.
+    /// one few links. `by_head` is the same graph, with its arcs by head.
     ///
     /// # Errors
     /// `Heavy` as of `of`; never `Dense`.
@@ -94,10 +94,10 @@ impl RoadFactors {
         alloc: Global,
         cost: Cost,
         graph: &OutGraph,
-        rows: &InGraph,
+        by_head: &InGraph,
         order: &Vec<Vertex>,
     ) -> Result<RoadFactors, Unfactored>
-        requires same { rows.now ≡ graph.now }
+        requires same { by_head.now ≡ graph.now }
         requires order { HasEachVertex graph.now.vertices order.now.items }
         ensures roads { IfOk result (λ f. f.roads ≡ graph.now) }
         ensures cost { IfOk result (λ f. f.algebra.cost ≡ cost) }
@@ -105,7 +105,7 @@ impl RoadFactors {
         ensures heavy { IfErr result (λ e. e ≡ Heavy → (k : ℕ) → CountsFit graph.now (cost_of cost) k → ⊥) }
         ensures dense { IfErr result (λ e. (c : Counts) → e ≢ Dense c) }
     {
-        let Some(sums) = fitting_sums(cost, rows) else {
+        let Some(sums) = fitting_sums(cost, by_head) else {
             return Err(Unfactored::Heavy);
         };
         match Factors::build(alloc, sums, graph, order) {
@@ -115,19 +115,19 @@ impl RoadFactors {
         }
     }
 
-    /// The factors of a graph for the sums of these costs, by an order that is found. `rows` is the
-    /// same graph, with its arcs by head.
+    /// The factors of a graph for the sums of these costs, by an order that is found. `by_head` is
+    /// the same graph, with its arcs by head.
     ///
     /// # Errors
-    /// `Heavy` only if no number of low bits leaves room for both the hops and the sums; `Dense` only
-    /// if some do, with counts of which one is above its bound.
+    /// `Heavy` only if no number of low bits leaves room for both the hops and the sums; `Dense`
+    /// only if some do, with counts of which one is above its bound.
     pub fn of(
         alloc: Global,
         cost: Cost,
         graph: &OutGraph,
-        rows: &InGraph,
+        by_head: &InGraph,
     ) -> Result<RoadFactors, Unfactored>
-        requires { rows.now ≡ graph.now }
+        requires { by_head.now ≡ graph.now }
         ensures roads { IfOk result (λ f. f.roads ≡ graph.now) }
         ensures cost { IfOk result (λ f. f.algebra.cost ≡ cost) }
         ensures heavy { IfErr result (λ e. e ≡ Heavy → (k : ℕ) → CountsFit graph.now (cost_of cost) k → ⊥) }
@@ -136,8 +136,8 @@ impl RoadFactors {
         ensures bounds { IfErr result (λ e. (c : Counts) → e ≡ Dense c →
             IsTooDense graph.now.vertices (length graph.now.arcs) c) }
     {
-        let (order, _) = RoadFactors::seek_order(alloc, cost, graph, rows)?;
-        RoadFactors::by_order(alloc, cost, graph, rows, &order)
+        let (order, _) = RoadFactors::seek_order(alloc, cost, graph, by_head)?;
+        RoadFactors::by_order(alloc, cost, graph, by_head, &order)
     }
 
     /// What holds of every factored graph. Nothing is computed.

@@ -40,11 +40,11 @@ impl RoadFactors {
     fn finding<A: PathAlgebra>(
         &self,
         algebra: A,
-        rows: &InGraph,
+        by_head: &InGraph,
         numbers: &mut Labels<u64>,
         v: Vertex,
     ) -> Result<Finding<A::Value>, Memory>
-        requires rows { rows.now ≡ self.now.roads }
+        requires by_head { by_head.now ≡ self.now.roads }
         requires carried { IsCarried (A.meaning algebra) (cost_of self.now.algebra.cost) }
         requires vertex { HasVertex self.now.roads v }
         requires known { (sources : List ℕ) × AreBest (numbers_of self.now) self.now.roads sources numbers.old }
@@ -68,7 +68,7 @@ impl RoadFactors {
         let Some(value) = self.value_in(algebra, y) else {
             return Ok(none);
         };
-        let tail = self.least_tail(rows, numbers, v, y)?;
+        let tail = self.least_tail(by_head, numbers, v, y)?;
         Ok(Finding {
             value: Some(value),
             hops: NumberSlot::some(self.hops_in(y)),
@@ -85,10 +85,10 @@ impl RoadFactors {
         &self,
         alloc: Global,
         algebra: A,
-        rows: &InGraph,
+        by_head: &InGraph,
         sources: &[Vertex],
     ) -> Result<(Labels<A::Value>, Tree), Memory>
-        requires rows { rows.now ≡ self.now.roads }
+        requires by_head { by_head.now ≡ self.now.roads }
         requires carried { IsCarried (A.meaning algebra) (cost_of self.now.algebra.cost) }
         requires sources { All (HasVertex self.now.roads) sources.now }
         ensures labels { IfOk result (λ s. AreBest (A.meaning algebra) self.now.roads sources.now s.0) }
@@ -96,9 +96,9 @@ impl RoadFactors {
     {
         self.holds();
         let mut numbers = self.numbers(alloc, sources)?;
-        let mut findings = Findings::new(alloc, rows.vertices() as usize)?;
-        for i in 0..rows.vertices() {
-            let finding = self.finding(algebra, rows, &mut numbers, Vertex(i + 1))?;
+        let mut findings = Findings::new(alloc, by_head.vertices() as usize)?;
+        for i in 0..by_head.vertices() {
+            let finding = self.finding(algebra, by_head, &mut numbers, Vertex(i + 1))?;
             findings.push(finding)?;
         }
         Ok(findings.into_labels_and_tree())

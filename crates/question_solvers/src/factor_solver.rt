@@ -24,16 +24,16 @@ pub(crate) struct Factored {
 }
 
 impl Factored {
-    /// The factors of a graph for what arcs cost, by an order of its vertices. `rows` is the same
-    /// graph by head.
+    /// The factors of a graph for what arcs cost, by an order of its vertices. `by_head` is the
+    /// same graph, with its arcs by head.
     pub(crate) fn by_order(
         alloc: Global,
         cost: Cost,
         graph: &OutGraph,
-        rows: &InGraph,
+        by_head: &InGraph,
         order: &Vec<Vertex>,
     ) -> Result<Factored, Unfactored>
-        requires same { rows.now ≡ graph.now }
+        requires same { by_head.now ≡ graph.now }
         requires order { HasEachVertex graph.now.vertices order.now.items }
         ensures roads { IfOk result (λ f. f.factors.roads ≡ graph.now) }
         ensures cost { IfOk result (λ f. f.factors.algebra.cost ≡ cost) }
@@ -42,7 +42,7 @@ impl Factored {
             CountsFit graph.now (cost_of cost) k → ⊥) }
         ensures dense { IfErr result (λ e. (c : Counts) → e ≢ Unfactored.Dense c) }
     {
-        let factors = RoadFactors::by_order(alloc, cost, graph, rows, order)?;
+        let factors = RoadFactors::by_order(alloc, cost, graph, by_head, order)?;
         match factors.asker(alloc) {
             Ok(asker) => Ok(Factored { factors, asker }),
             Err(Memory) => Err(Unfactored::Memory),
@@ -160,10 +160,10 @@ impl<A: PathAlgebra> FactorSolver<A> {
             return Ok(None);
         }
         let plain = &self.plain;
-        let Some(rows) = &plain.by_head else {
+        let Some(by_head) = &plain.by_head else {
             unreachable!()
         };
-        match RoadFactors::seek_order(alloc, cost, &plain.graph, rows) {
+        match RoadFactors::seek_order(alloc, cost, &plain.graph, by_head) {
             Ok((order, counts)) => {
                 self.order = Some(order);
                 return Ok(Some(counts));
@@ -199,10 +199,10 @@ impl<A: PathAlgebra> FactorSolver<A> {
             return Ok(());
         }
         let plain = &self.plain;
-        let (Some(rows), Some(order)) = (&plain.by_head, &self.order) else {
+        let (Some(by_head), Some(order)) = (&plain.by_head, &self.order) else {
             unreachable!()
         };
-        match Factored::by_order(alloc, cost, &plain.graph, rows, order) {
+        match Factored::by_order(alloc, cost, &plain.graph, by_head, order) {
             Ok(factored) => self.factored = Some(factored),
             Err(Unfactored::Memory) => return Err(Memory),
             Err(Unfactored::Dense(_)) => unreachable!(),

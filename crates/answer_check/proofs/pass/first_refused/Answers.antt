@@ -13,7 +13,7 @@ use Rattle.answer_check.proofs.pass.first_refused.Goals as goal
 pub position_first-requires-clause-items : goal.position_first-requires-clause-items
 position_first-requires-clause-items g c κs within =
     let ends = c.into_par_iter.ensures in
-    let n = c.args.graph.now.vertices in
+    let n = c.args.by_head.now.vertices in
     let marks = c.requires.marks in
     let inside = nat_range-All (λ i. (length (g.L.VertexLines.list c.args.lines.now) ≡ n) × (length c.args.marks.now ≡ n) × (i < n)) 0 (length c.args.marks.now)
     (λ i low high. (c.requires.count, c.requires.marks, omega (arith, high, marks))) in
@@ -25,7 +25,7 @@ returns g c =
     let n = length c.args.marks.now in
     let whole : n - 0 ≡ n = omega arith in
     let done = c.position_first.ensures in
-    let tells = λ (i : ℕ) (b : Bool). TellsRefused (g.A.PathAlgebra.meaning c.args.algebra) c.args.graph.now (g.L.VertexLines.list c.args.lines.now) c.args.marks.now (i + 1) b in
+    let tells = λ (i : ℕ) (b : Bool). TellsRefused (g.A.PathAlgebra.meaning c.args.algebra) c.args.by_head.now (g.L.VertexLines.list c.args.lines.now) c.args.marks.now (i + 1) b in
     let short : n < 2 ^ 64 = search rules in
     let places : done.0 ≡ range_with_len 0 n = done.2 ∙ (λ i. nat_range (ends.0 i) (ends.1 i)) ∙ ap (range_with_len 0) whole in
     let told : AllZip tells (range_with_len 0 n) done.1 = subst (λ (xs : List ℕ). AllZip tells xs done.1) places done.3 in

@@ -16,7 +16,7 @@ with_bits g cost bits (Some sums) h fit = subst (λ (k : ℕ). CountsFit g (cost
 pub returns-then-sum_of_greatest-bits-clause-fits :
     goal.returns-then-sum_of_greatest-bits-clause-fits
 returns-then-sum_of_greatest-bits-clause-fits c =
-    let G = c.args.rows.now in
+    let G = c.args.by_head.now in
     let bits = c.bits_of-bits.result in
     let few = c.if-bits-lt32.true in
     let enough = subst (λ (n : ℕ). n < 2 ^ bits) c.vertices.ensures.count c.bits_of-bits.ensures.enough in
@@ -28,7 +28,7 @@ returns-then-sum_of_greatest-bits-clause-fits c =
 
 pub returns-else-bits-lt32-clause-none : goal.returns-else-bits-lt32-clause-none
 returns-else-bits-lt32-clause-none c = λ k fit.
-    let G = c.args.rows.now in
+    let G = c.args.by_head.now in
     let bits = c.bits_of-bits.result in
     let least = subst (λ (n : ℕ). (j : ℕ) → n < 2 ^ j → bits ≤ j) c.vertices.ensures.count c.bits_of-bits.ensures.least in
     let vertices = c.holds.ensures.few_vertices in

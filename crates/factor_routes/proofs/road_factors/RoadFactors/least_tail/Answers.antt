@@ -14,7 +14,7 @@ tail_if-requires-clause-tail g c =
     let G = c.args.self.now.roads in
     let items = c.roads_into-road-items.result.now in
     let road = c.road-item.result in
-    let lists = subst (λ (r : GraphData). ListsRoadsInto r c.args.v items) c.requires.rows c.roads_into-road-items.ensures in
+    let lists = subst (λ (r : GraphData). ListsRoadsInto r c.args.v items) c.requires.by_head c.roads_into-road-items.ensures in
     let tail = row_tail G c.args.v items lists c.loop-road.road-index road c.loop-road-test.true in
     subst (λ (n : ℕ). HasVertex G n) (tail.3 ∙ ap (λ (r : OutRoad). r.head) (sym c.road-item.is)) (c.holds.ensures.roads.ends tail.0 tail.1).0
 
@@ -24,7 +24,7 @@ loop-road-preserved g c =
     let items = c.roads_into-road-items.result.now in
     let road = c.road-item.result in
     let inv = c.loop-road.invariant in
-    let lists = subst (λ (r : GraphData). ListsRoadsInto r c.args.v items) c.requires.rows c.roads_into-road-items.ensures in (
+    let lists = subst (λ (r : GraphData). ListsRoadsInto r c.args.v items) c.requires.by_head c.roads_into-road-items.ensures in (
       λ sources are. c.tail_if.ensures.kept sources (inv.0 sources are),
       subst (λ (o : Option (ℕ × ℕ)). IfSome o (λ tail. HasVertex f.roads tail.0 × (tail.1 < c.args.y))) (sym c.lesser-least.ensures)
           (lesser_holds (λ tail. HasVertex f.roads tail.0 × (tail.1 < c.args.y)) c.loop-road.least c.in_ok-tail_if.field-0 inv.1 c.in_ok-tail_if.ensures.inside),
@@ -42,7 +42,7 @@ pub returns-clause-least : goal.returns-clause-least
 returns-clause-least g c = λ sources number are into.
     let f = c.args.self.now in
     let items = c.roads_into-road-items.result.now in
-    let lists = subst (λ (r : GraphData). ListsRoadsInto r c.args.v items) c.requires.rows c.roads_into-road-items.ensures in
+    let lists = subst (λ (r : GraphData). ListsRoadsInto r c.args.v items) c.requires.by_head c.roads_into-road-items.ensures in
     let whole = c.loop-road.invariant.2 sources number are into in
     let all : c.loop-road.least ≡ least_from (cost_of f.algebra.cost) f.algebra.bits c.args.y number None items = grind (arith, common_steps) in
     subst (λ (o : Option (ℕ × ℕ)). IsLeastTail f.roads (cost_of f.algebra.cost) f.algebra.bits number c.args.v c.args.y o) (sym all)

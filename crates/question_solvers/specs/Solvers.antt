@@ -16,7 +16,7 @@ use Rattle.question_solvers.specs.Solved.{IsSearched}
 use Rattle.question_solvers.specs.declared.factor_solver.FactorSolver.{FactorSolver}
 use Rattle.question_solvers.specs.declared.factor_solver.Factoring.{Factoring}
 use Rattle.question_solvers.specs.declared.factor_solver.Factoring.TheVariants.{Untried, Made, Refused}
-use Rattle.question_solvers.specs.declared.factor_solver.Refusal.TheVariants.{Dense, Heavy}
+use Rattle.question_solvers.specs.declared.factor_solver.NoFactors.TheVariants.{Dense, Heavy}
 use Rattle.question_solvers.specs.declared.pair_solver.PairSolver.{PairSolver}
 use Rattle.question_solvers.specs.declared.plain_solver.PlainSolver.{PlainSolver}
 

@@ -6,7 +6,7 @@ ghost use Rattle.elimination_order.specs.Bounds.{AreWithinBounds, IsTooDense};
 ghost use Rattle.elimination_order.specs.declared.counts.Counts.{Counts};
 ghost use Rattle.path_factors.specs.Factors.{HasEachVertex};
 ghost use Rattle.question_solvers.specs.Orders.{IsOrderOf};
-ghost use Rattle.question_solvers.specs.declared.factor_solver.Refusal.TheVariants.{Dense, Heavy};
+ghost use Rattle.question_solvers.specs.declared.factor_solver.NoFactors.TheVariants.{Dense, Heavy};
 
 use crate::plain_solver::PlainSolver;
 use elimination_order::Counts;
@@ -50,9 +50,9 @@ impl Factored {
     }
 }
 
-/// Why a graph is left to the plain solver.
+/// Why a graph has no factors.
 #[derive(Clone, Copy, Debug, PartialEq, Eq)]
-pub enum Refusal {
+pub enum NoFactors {
     /// Its factors would have too many links: what its order had counted when it was given up.
     Dense(Counts),
     /// The sums of its costs, with hops, could pass 2^63.
@@ -67,7 +67,7 @@ pub enum Factoring {
     /// The graph is factored.
     Made,
     /// The graph is not factored.
-    Refused(Refusal),
+    Refused(NoFactors),
 }
 
 /// Solves a pair by asking the factors of the graph, several side by side, and another question by
@@ -82,7 +82,7 @@ pub struct FactorSolver<A: PathAlgebra> {
     /// The factors, once they are made.
     pub(crate) factored: Option<Factored>,
     /// For which costs the graph is not factored, and why.
-    pub(crate) refused: Option<(Cost, Refusal)>,
+    pub(crate) refused: Option<(Cost, NoFactors)>,
     ghost each: { ForSome order (λ list. IsOrderOf plain.graph.vertices list.items) },
     ghost of_graph: { ForSome factored (λ f. f.factors.roads ≡ plain.graph) },
     ghost heavy: { ForSome refused (λ r. r.1 ≡ Heavy → (k : ℕ) → CountsFit plain.graph (cost_of r.0) k → ⊥) },
@@ -119,7 +119,7 @@ impl<A: PathAlgebra> FactorSolver<A> {
     /// What became of factoring the graph.
     pub fn factoring(&self) -> Factoring
         ensures made { (result ≡ Factoring.Made) ↔ IsSome self.now.factored }
-        ensures refused { (why : Refusal) → (result ≡ Factoring.Refused why) ↔
+        ensures refused { (why : NoFactors) → (result ≡ Factoring.Refused why) ↔
             (IsNone self.now.factored × IsSomeAnd self.now.refused (λ r. r.1 ≡ why)) }
         ensures by { IsFactoringBy self.now result }
         ensures told { IsToldRightly self.now.plain.graph result }
@@ -169,8 +169,8 @@ impl<A: PathAlgebra> FactorSolver<A> {
                 return Ok(Some(counts));
             }
             Err(Unfactored::Memory) => return Err(Memory),
-            Err(Unfactored::Dense(counts)) => self.refused = Some((cost, Refusal::Dense(counts))),
-            Err(Unfactored::Heavy) => self.refused = Some((cost, Refusal::Heavy)),
+            Err(Unfactored::Dense(counts)) => self.refused = Some((cost, NoFactors::Dense(counts))),
+            Err(Unfactored::Heavy) => self.refused = Some((cost, NoFactors::Heavy)),
         }
         Ok(None)
     }
@@ -206,7 +206,7 @@ impl<A: PathAlgebra> FactorSolver<A> {
             Ok(factored) => self.factored = Some(factored),
             Err(Unfactored::Memory) => return Err(Memory),
             Err(Unfactored::Dense(_)) => unreachable!(),
-            Err(Unfactored::Heavy) => self.refused = Some((cost, Refusal::Heavy)),
+            Err(Unfactored::Heavy) => self.refused = Some((cost, NoFactors::Heavy)),
         }
         Ok(())
     }

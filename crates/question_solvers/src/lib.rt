@@ -16,7 +16,7 @@ mod solved;
 mod task;
 
 pub use elimination_order::Counts;
-pub use factor_solver::{FactorSolver, Factoring, Refusal};
+pub use factor_solver::{FactorSolver, Factoring, NoFactors};
 pub use factors::{factor, seek_order, solve_next_by_factors, start_factors};
 pub use plain::{solve_next_plainly, start_plain};
 pub use plain_solver::PlainSolver;

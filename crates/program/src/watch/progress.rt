@@ -3,7 +3,7 @@ ghost use Rattle.std.specs.Prelude.{◌≡◌};
 ghost use Rattle.program.specs.Progress.{due_line, hundredths, is_due, line_of_dense, line_of_factoring, line_of_order, line_of_progress, shown_at};
 ghost use Rattle.command_files.specs.Added.{IsAdded};
 
-use batch_run::{Counts, Factoring, Progress, Refusal};
+use batch_run::{Counts, Factoring, NoFactors, Progress};
 use text_lines::{Line, RoadWrite, push_number, write_bytes};
 
 /// How many whole hundredths of all questions so many are.
@@ -79,8 +79,8 @@ fn line_of_factoring(became: Factoring) -> Line
     let mut line = Line::new();
     match became {
         Factoring::Made => line.push_str("diffuse: the graph is factored\n"),
-        Factoring::Refused(Refusal::Dense(counts)) => return line_of_dense(counts),
-        Factoring::Refused(Refusal::Heavy) => {
+        Factoring::Refused(NoFactors::Dense(counts)) => return line_of_dense(counts),
+        Factoring::Refused(NoFactors::Heavy) => {
             line.push_str("diffuse: the graph's sums are too large to factor; searches answer\n");
         }
         Factoring::Untried => {

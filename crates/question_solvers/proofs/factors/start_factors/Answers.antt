@@ -5,7 +5,7 @@ use Rattle.road_graph.specs.GraphData.{GraphData}
 use Rattle.elimination_order.specs.Bounds.{IsTooDense}
 use Rattle.elimination_order.specs.declared.counts.Counts.{Counts}
 use Rattle.question_solvers.specs.Orders.{IsOrderOf}
-use Rattle.question_solvers.specs.declared.factor_solver.Refusal.TheVariants.{Dense, Heavy}
+use Rattle.question_solvers.specs.declared.factor_solver.NoFactors.TheVariants.{Dense, Heavy}
 use Rattle.question_solvers.proofs.factors.start_factors.Goals as goal
 
 pub invariant_of-solver-clause-heavy : goal.invariant_of-solver-clause-heavy

@@ -3,7 +3,7 @@ use Rattle.std.specs.Prelude.{IfSome, Vec}
 use Rattle.std.specs.declared.alloc.Global.{Global}
 use Rattle.elimination_order.specs.Orders.{HasEachVertex}
 use Rattle.path_algebra.specs.Counted.{cost_of, CountsFit}
-use Rattle.question_solvers.specs.declared.factor_solver.Refusal.TheVariants.{Heavy}
+use Rattle.question_solvers.specs.declared.factor_solver.NoFactors.TheVariants.{Heavy}
 use Rattle.question_solvers.proofs.FactorCosts.{recorded}
 use Rattle.question_solvers.proofs.OrderLaws.{given}
 use Rattle.question_solvers.proofs.factor_solver.FactorSolver.factor.Goals as goal

@@ -1,5 +1,4 @@
-use Rattle.std.proofs.Common.{[], ◌∷◌, sym, subst}
-use Rattle.std.specs.Prelude.{Option, option_map}
+use Rattle.std.proofs.Common.{subst}
 use Rattle.path_algebra.specs.Algebra.{IsLawful}
 use Rattle.route_tree.specs.Found.{IsPairFound, found_of}
 use Rattle.answer_check.proofs.PairsJudged.{told_without_walk, pair_judged}

@@ -19,7 +19,6 @@ use path_algebra::PathAlgebra;
 use road_files::{Questions, are_same};
 use road_graph::{InGraph, Memory, OutGraph, Vertex};
 use route_tree::PairSearcher;
-use std::alloc::Global;
 use std::thread::Threads;
 
 /// The answer as a whole is to another question.
@@ -31,16 +30,14 @@ const MISMATCH: Place = Place {
 /// Judges the answer to a question from one source.
 fn judge_source<A: PathAlgebra, R: Threads + Sync>(
     rt: &R,
-    alloc: Global,
-    algebra: A,
-    by_head: &InGraph,
+    case: &Case<'_, A>,
     source: Vertex,
     answer: &Answer,
 ) -> Result<Option<Place>, Memory>
-    requires { HasVertex by_head.now source }
-    ensures { IfOk result (IsJudgedAt (IsAnswer (A.meaning algebra) by_head.now (FromSource source)
-        (answer_data answer.now)) (IsWrongIn (A.meaning algebra) by_head.now (FromSource source)
-        (answer_data answer.now))) }
+    requires { HasVertex case.now.graph.now source }
+    ensures { IfOk result (IsJudgedAt (IsAnswer (A.meaning case.now.algebra) case.now.graph.now
+        (FromSource source) (answer_data answer.now)) (IsWrongIn (A.meaning case.now.algebra)
+        case.now.graph.now (FromSource source) (answer_data answer.now))) }
 {
     let Answer::Source {
         source: named,
@@ -49,26 +46,23 @@ fn judge_source<A: PathAlgebra, R: Threads + Sync>(
     else {
         return Ok(Some(MISMATCH));
     };
-    if named.0 != source.0 || lines.len() != by_head.vertices() as usize {
+    if named.0 != source.0 || lines.len() != case.graph.vertices() as usize {
         return Ok(Some(MISMATCH));
     }
-    judge_lines(rt, alloc, algebra, by_head, &[source], lines)
+    judge_lines(rt, case, &[source], lines)
 }
 
 /// Judges the answer to a question from several sources.
 fn judge_sources<A: PathAlgebra, R: Threads + Sync>(
     rt: &R,
-    alloc: Global,
-    algebra: A,
-    by_head: &InGraph,
+    case: &Case<'_, A>,
     sources: &[Vertex],
     answer: &Answer,
 ) -> Result<Option<Place>, Memory>
-    requires { All (HasVertex by_head.now) sources.now }
-    ensures { IfOk result
-        (IsJudgedAt (IsAnswer (A.meaning algebra) by_head.now (FromSources sources.now)
-        (answer_data answer.now)) (IsWrongIn (A.meaning algebra) by_head.now
-        (FromSources sources.now) (answer_data answer.now))) }
+    requires { All (HasVertex case.now.graph.now) sources.now }
+    ensures { IfOk result (IsJudgedAt (IsAnswer (A.meaning case.now.algebra) case.now.graph.now
+        (FromSources sources.now) (answer_data answer.now)) (IsWrongIn (A.meaning case.now.algebra)
+        case.now.graph.now (FromSources sources.now) (answer_data answer.now))) }
 {
     let Answer::Multi {
         sources: named,
@@ -77,10 +71,10 @@ fn judge_sources<A: PathAlgebra, R: Threads + Sync>(
     else {
         return Ok(Some(MISMATCH));
     };
-    if !are_same(sources, named.as_slice()) || lines.len() != by_head.vertices() as usize {
+    if !are_same(sources, named.as_slice()) || lines.len() != case.graph.vertices() as usize {
         return Ok(Some(MISMATCH));
     }
-    judge_lines(rt, alloc, algebra, by_head, sources, lines)
+    judge_lines(rt, case, sources, lines)
 }
 
 /// Judges the answer to a question from one vertex to another, which the searcher solves.
@@ -150,14 +144,9 @@ pub(crate) fn judge<A: PathAlgebra, R: Threads + Sync>(
         (answer_data answer.now)) (IsWrongIn (A.meaning case.now.algebra) case.now.graph.now q
         (answer_data answer.now))) }
 {
-    let (alloc, algebra, by_head) = (case.alloc, case.algebra, case.by_head);
     match case.questions {
-        Questions::Sources(sources) => judge_source(
-            rt, alloc, algebra, by_head, sources[i], answer,
-        ),
+        Questions::Sources(sources) => judge_source(rt, case, sources[i], answer),
         Questions::Pairs(pairs) => judge_alone(case, pairs[i], answer),
-        Questions::Multi(lists) => {
-            judge_sources(rt, alloc, algebra, by_head, lists[i].as_slice(), answer)
-        }
+        Questions::Multi(lists) => judge_sources(rt, case, lists[i].as_slice(), answer),
     }
 }

@@ -7,6 +7,7 @@ ghost use Rattle.answer_text.specs.IsAnswer.{AreVertexLines};
 ghost use Rattle.answer_check.specs.Reasons.{IsLineRefused};
 ghost use Rattle.answer_check.specs.Places.{IsJudgedAt};
 
+use crate::case::Case;
 use crate::pass::{first_place, right_lines};
 use crate::place::Place;
 use crate::vertex_lines::VertexLines;
@@ -55,20 +56,20 @@ pub fn first_wrong_line<A: PathAlgebra, L: VertexLines>(
 /// The same, by a parallel pass over the lines first.
 pub(crate) fn judge_lines<A: PathAlgebra, L: VertexLines + Sync, R: Threads + Sync>(
     rt: &R,
-    alloc: Global,
-    algebra: A,
-    by_head: &InGraph,
+    case: &Case<'_, A>,
     sources: &[Vertex],
     lines: &L,
 ) -> Result<Option<Place>, Memory>
-    requires inside { All (HasVertex by_head.now) sources.now }
-    requires count { length (L.list lines.now) ≡ by_head.now.vertices }
-    ensures { IfOk result (IsJudgedAt (AreVertexLines (A.meaning algebra) by_head.now sources.now
-        (L.list lines.now)) (λ v r. HasVertex by_head.now v × IsLineRefused (A.meaning algebra)
-        by_head.now sources.now (L.list lines.now) v r)) }
+    requires inside { All (HasVertex case.now.graph.now) sources.now }
+    requires count { length (L.list lines.now) ≡ case.now.graph.now.vertices }
+    ensures { IfOk result (IsJudgedAt (AreVertexLines (A.meaning case.now.algebra)
+        case.now.graph.now sources.now (L.list lines.now)) (λ v r. HasVertex case.now.graph.now v ×
+        IsLineRefused (A.meaning case.now.algebra) case.now.graph.now sources.now
+        (L.list lines.now) v r)) }
 {
+    let (algebra, by_head) = (case.algebra, case.by_head);
     laws_hold(algebra);
-    let marks = marks_of(alloc, by_head.vertices() as usize, sources)?;
+    let marks = marks_of(case.alloc, by_head.vertices() as usize, sources)?;
     let right = right_lines(rt, algebra, by_head, lines, &marks);
     Ok(first_place(algebra, by_head, lines, &marks, right))
 }

@@ -7,7 +7,7 @@ pub returns-in-Sources : goal.returns-in-Sources
 returns-in-Sources g c = λ q e.
     let at = rw c.in-Sources.is at e in
     let same : FromSource c.index.result.now ≡ q = mapped_is of_source c.in-Sources.sources.items c.args.i c.index.result.now q c.index.ensures at in
-    rw (← same, ← c.args.case.now.same) c.judge_source.ensures
+    rw (← same) c.judge_source.ensures
 
 pub returns-in-Pairs : goal.returns-in-Pairs
 returns-in-Pairs g c = λ q e.
@@ -20,4 +20,4 @@ returns-in-Multi g c = λ q e.
     let at = rw c.in-Multi.is at e in
     let same : FromSources c.as_slice.result.now ≡ q = ap (λ (ss : List ℕ). FromSources ss) c.as_slice.ensures.value
     ∙ mapped_is of_list c.in-Multi.lists.items c.args.i c.index-in-Multi.result.now q c.index-in-Multi.ensures at in
-    rw (← same, ← c.args.case.now.same) c.judge_sources.ensures
+    rw (← same) c.judge_sources.ensures

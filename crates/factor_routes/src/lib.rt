@@ -10,11 +10,13 @@ mod carried;
 mod findings;
 mod fitting;
 mod least_tail;
+mod near;
 mod numbers;
 mod pairs;
 mod reweighed;
 mod road_factors;
 mod solve;
 
+pub use near::near_halt;
 pub use reweighed::Unweighed;
 pub use road_factors::{RoadFactors, RouteAsker, Unfactored};

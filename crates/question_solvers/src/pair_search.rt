@@ -12,14 +12,11 @@ use crate::searched::Searched;
 use crate::solved::Solved;
 use crate::task::PairTask;
 use answer_text::Answer;
+use factor_routes::near_halt;
 use path_algebra::PathAlgebra;
-use path_plain::Halt;
 use road_files::Questions;
 use road_graph::{Memory, Vertex};
 use route_tree::{Found, Nearby, PairSearcher};
-
-/// How many steps a search takes, at most, before factors are asked: most near pairs need fewer.
-const NEAR: u32 = 500;
 
 /// The pair at a place.
 pub(crate) fn pair_at(questions: &Questions, place: usize) -> (Vertex, Vertex)
@@ -87,7 +84,7 @@ pub(crate) fn solve_near_at<A: PathAlgebra, R>(
 {
     let over = pairs.over;
     let (source, target) = pair_at(over.task.questions, place);
-    let mut halt = Halt::After(NEAR);
+    let mut halt = near_halt(over.graph.vertices());
     match searcher.solve_unless(over.graph, pairs.by_head, (source, target), &mut halt)? {
         Nearby::Decided(found) => Ok(Some(answer_of_pair(place, (source, target), found))),
         Nearby::Undecided => Ok(None),

@@ -27,4 +27,4 @@ pub use question_solvers::{Counts, FactorSolver, Factoring, NoFactors, PlainSolv
 pub use run::{read_batch, run_batch};
 pub use solve::{Solver, WorkerSolver};
 pub use watcher::{Progress, Unwatched, Watcher};
-pub use worker_fleet::{Driven, Gate, OpenGate, Outcome, drive};
+pub use worker_fleet::{Gate, OpenGate};

@@ -15,7 +15,9 @@ use std::process::Abort;
 use std::slice;
 use std::sync::Wait;
 use std::thread::Threads;
-use worker_fleet::{CallOff, Dealing, Gate, GroupSettings, OpenGate, Outcome, drive, run_group};
+use worker_fleet::{
+    CallOff, Dealing, Gate, GroupSettings, OpenGate, Outcome, TurnSettings, drive, run_group,
+};
 
 /// A gate that lets each worker make this many turns.
 struct TurnsAtMost(u64);
@@ -44,6 +46,15 @@ fn placed<'g, A: PathAlgebra>(
     placed
 }
 
+/// So many turns at most, each of one item, with this gate.
+fn turns<G>(limit: u64, gate: &G) -> TurnSettings<'_, G> {
+    TurnSettings {
+        budget: 1,
+        limit,
+        gate,
+    }
+}
+
 /// Stations that a worker drove to their end, three turns at a time.
 fn driven<'g, A: PathAlgebra>(
     rt: &impl Abort,
@@ -54,7 +65,7 @@ fn driven<'g, A: PathAlgebra>(
 {
     let mut stations = stations;
     for _ in 0..200 {
-        let back = drive(floors, stations, 0, 1, 3, &OpenGate);
+        let back = drive(floors, stations, 0, &turns(3, &OpenGate));
         stations = back.stations;
         match back.outcome {
             Outcome::Ended => return stations,
@@ -98,15 +109,15 @@ fn run_by_workers<'g, A: PathAlgebra, R: Threads + Wait + Abort + AllocGlobal>(
     rt: &R,
     floor: &Floor<A>,
     stations: Vec<Station<'g, A>>,
-    settings: GroupSettings,
+    settings: &GroupSettings<'_, OpenGate>,
 ) -> Vec<Vec<Station<'g, A>>>
-    requires some { 0 < settings.workers }
+    requires some { 0 < settings.now.workers }
     requires own { All (BelongsTo floor.now) stations.items }
 {
     let mut lists = Vec::new(rt.alloc());
     lists.push(stations).expect(rt, "memory");
     let floors = slice::from_ref(floor);
-    let ended = run_group(rt, rt.alloc(), floors, lists, settings, &OpenGate);
+    let ended = run_group(rt, rt.alloc(), floors, lists, settings);
     ended.expect(rt, "no end")
 }
 
@@ -115,7 +126,7 @@ fn run_by_workers<'g, A: PathAlgebra, R: Threads + Wait + Abort + AllocGlobal>(
 fn assert_by_workers<A: PathAlgebra<Value = u64>, R: Threads + Wait + Abort + AllocGlobal>(
     rt: &R,
     algebra: A,
-    settings: GroupSettings,
+    settings: &GroupSettings<'_, OpenGate>,
     wanted: &[Option<u64>; 5],
 ) {
     let (graph, plan) = (five(rt), blocks_of(rt, 5, 3));
@@ -141,7 +152,7 @@ fn assert_stops<A: PathAlgebra, G: Gate>(
     let (graph, plan) = (five(rt), blocks_of(rt, 5, 2));
     let (floor, stations) = opened(rt, algebra, &graph, &plan, 1, QueueOrder::Arrival);
     let stations = placed(rt, &floor, stations);
-    let back = drive(&[floor], stations, 0, 1, limit, gate);
+    let back = drive(&[floor], stations, 0, &turns(limit, gate));
     assert!(rt; (back.outcome, back.turns) == wanted);
     assert!(rt; back.stations.len() == 2);
 }
@@ -177,9 +188,12 @@ fn workers_on_threads(rt: HostRuntime) {
         let settings = GroupSettings {
             workers,
             dealing,
-            budget,
-            limit: 1_000_000_000,
+            turns: TurnSettings {
+                budget,
+                limit: 1_000_000_000,
+                gate: &OpenGate,
+            },
         };
-        assert_by_workers(&rt, Shortest, settings, &SHORTEST);
+        assert_by_workers(&rt, Shortest, &settings, &SHORTEST);
     }
 }

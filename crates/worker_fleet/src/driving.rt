@@ -5,6 +5,7 @@ ghost use Rattle.worker_fleet.specs.Turns.{NextOn, IsOnItsFloor, StationHasEnded
 ghost use Rattle.worker_fleet.specs.Drives.{Drives, LetsTurn, WasCalledOff};
 
 use crate::gate::{Gate, OpenGate};
+use crate::settings::TurnSettings;
 use path_algebra::PathAlgebra;
 use post_floor::Floor;
 use station::{Report, Station};
@@ -89,20 +90,19 @@ fn turn_until<'g, A: PathAlgebra, G: Gate, C: Gate>(
     floors: &[Floor<A>],
     stations: &mut Vec<(usize, Station<'g, A>)>,
     worker: u64,
-    budget: u32,
-    limit: u64,
-    gate: &G,
+    settings: &TurnSettings<'_, G>,
     call_off: &C,
 ) -> Option<(Outcome, u64)>
     requires { All (IsOnItsFloor floors.now) stations.old.items }
-    ensures drives { IfSome result (λ r. Drives A.meaning floors.now budget limit
-        (G.may_answer gate.now) worker stations.old.items
+    ensures drives { IfSome result (λ r. Drives A.meaning floors.now settings.now.budget
+        settings.now.limit (G.may_answer settings.now.gate.now) worker stations.old.items
         (record { outcome = r.0; turns = r.1; stations = stations.new })) }
     ensures looked { IfSome result (λ r. LetsTurn (C.may_answer call_off.now) worker r.1) }
-    ensures called_off { IfNone result (WasCalledOff (C.may_answer call_off.now) worker limit) }
+    ensures called_off { IfNone result (WasCalledOff (C.may_answer call_off.now) worker
+        settings.now.limit) }
 {
     let (mut at, mut busy) = (0, true);
-    for done in 0..limit {
+    for done in 0..settings.limit {
         let Some(k) = next_open(stations, at) else {
             return Some((Outcome::Ended, done));
         };
@@ -113,15 +113,15 @@ fn turn_until<'g, A: PathAlgebra, G: Gate, C: Gate>(
             yield_unless(busy);
             busy = false;
         }
-        if !gate.before(worker, done + 1) {
+        if !settings.gate.before(worker, done + 1) {
             return Some((Outcome::Gated, done));
         }
-        busy |= turn_one(floors, &mut stations[k], budget);
+        busy |= turn_one(floors, &mut stations[k], settings.budget);
         at = k + 1;
     }
     match next_open(stations, at) {
-        Some(_) => Some((Outcome::Stalled, limit)),
-        None => Some((Outcome::Ended, limit)),
+        Some(_) => Some((Outcome::Stalled, settings.limit)),
+        None => Some((Outcome::Ended, settings.limit)),
     }
 }
 
@@ -130,19 +130,18 @@ pub(crate) fn drive_unless<'g, A: PathAlgebra, G: Gate, C: Gate>(
     floors: &[Floor<A>],
     stations: Vec<(usize, Station<'g, A>)>,
     worker: u64,
-    budget: u32,
-    limit: u64,
-    gate: &G,
+    settings: &TurnSettings<'_, G>,
     call_off: &C,
 ) -> Option<Driven<'g, A>>
     requires { All (IsOnItsFloor floors.now) stations.items }
-    ensures drives { IfSome result (Drives A.meaning floors.now budget limit (G.may_answer gate.now)
-        worker stations.entry.items) }
+    ensures drives { IfSome result (Drives A.meaning floors.now settings.now.budget
+        settings.now.limit (G.may_answer settings.now.gate.now) worker stations.entry.items) }
     ensures looked { IfSome result (λ d. LetsTurn (C.may_answer call_off.now) worker d.turns) }
-    ensures called_off { IfNone result (WasCalledOff (C.may_answer call_off.now) worker limit) }
+    ensures called_off { IfNone result (WasCalledOff (C.may_answer call_off.now) worker
+        settings.now.limit) }
 {
     let mut stations = stations;
-    let stopped = turn_until(floors, &mut stations, worker, budget, limit, gate, call_off);
+    let stopped = turn_until(floors, &mut stations, worker, settings, call_off);
     let (outcome, turns) = stopped?;
     Some(Driven {
         outcome,
@@ -159,15 +158,13 @@ pub fn drive<'g, A: PathAlgebra, G: Gate>(
     floors: &[Floor<A>],
     stations: Vec<(usize, Station<'g, A>)>,
     worker: u64,
-    budget: u32,
-    limit: u64,
-    gate: &G,
+    settings: &TurnSettings<'_, G>,
 ) -> Driven<'g, A>
     requires { All (IsOnItsFloor floors.now) stations.items }
-    ensures { Drives A.meaning floors.now budget limit (G.may_answer gate.now) worker
-        stations.entry.items result }
+    ensures { Drives A.meaning floors.now settings.now.budget settings.now.limit
+        (G.may_answer settings.now.gate.now) worker stations.entry.items result }
 {
-    match drive_unless(floors, stations, worker, budget, limit, gate, &OpenGate) {
+    match drive_unless(floors, stations, worker, settings, &OpenGate) {
         Some(driven) => driven,
         None => unreachable!(),
     }

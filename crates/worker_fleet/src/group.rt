@@ -12,7 +12,7 @@ use crate::dealing::{deal_all, empty_lists, put_all};
 use crate::driving::{Driven, Outcome, drive_unless};
 use crate::fleet::{Assignment, run_each};
 use crate::gate::Gate;
-use batch_settings::Dealing;
+use crate::settings::{GroupSettings, TurnSettings};
 use path_algebra::PathAlgebra;
 use post_floor::Floor;
 use station::Station;
@@ -41,34 +41,21 @@ impl From<AllocError> for GroupFault {
     }
 }
 
-/// How a group is run.
-#[derive(Clone, Copy, PartialEq, Eq, Debug)]
-pub struct GroupSettings {
-    /// How many workers there are.
-    pub workers: usize,
-    /// By which rule the stations are dealt to them.
-    pub dealing: Dealing,
-    /// How many items a station handles in one turn.
-    pub budget: u32,
-    /// How many turns each worker may make.
-    pub limit: u64,
-}
-
 /// What all workers of a group are given.
 #[derive(Drop)]
-struct GroupAssignment<'a, A: PathAlgebra, G: Gate> {
+struct GroupAssignment<'a, 't, A: PathAlgebra, G: Gate> {
     floors: &'a [Floor<A>],
-    budget: u32,
-    limit: u64,
-    gate: &'a G,
+    settings: &'a TurnSettings<'t, G>,
     call_off: &'a CallOff,
 }
 
-impl<'a, 'g, A: PathAlgebra, G: Gate> Assignment<
+impl<'a, 't, 'g, A: PathAlgebra, G: Gate> Assignment<
     Vec<(usize, Station<'g, A>)>,
     Option<Driven<'g, A>>,
-> for GroupAssignment<'a, A, G> {
-    ghost answers = { λ o worker stations r. IfSome r (Drives A.meaning o.floors.now o.budget o.limit (G.may_answer o.gate.now) worker stations.items) };
+> for GroupAssignment<'a, 't, A, G> {
+    ghost answers = { λ o worker stations r. IfSome r (Drives A.meaning o.floors.now
+        o.settings.now.budget o.settings.now.limit (G.may_answer o.settings.now.gate.now) worker
+        stations.items) };
 
     ghost called_off = { λ _. ⊤ };
 
@@ -102,22 +89,19 @@ fn drive_each<'g, A: PathAlgebra, G: Gate, R: Threads + Wait>(
     alloc: Global,
     floors: &[Floor<A>],
     shares: Vec<Vec<(usize, Station<'g, A>)>>,
-    budget: u32,
-    limit: u64,
-    gate: &G,
+    settings: &TurnSettings<'_, G>,
 ) -> Result<Vec<Driven<'g, A>>, AllocError>
     requires { All (λ share. All (IsOnItsFloor floors.now) share.items) shares.items }
     ensures len { IfOk result (λ v. vec_len v ≡ vec_len shares.entry) }
     ensures each { IfOk result (λ v. (k : ℕ) (share : _) (r : _) → k < vec_len shares.entry →
-        Drives A.meaning floors.now budget limit (G.may_answer gate.now) k
-        (slice_index_or shares.entry.items k share).items (slice_index_or v.items k r)) }
+        Drives A.meaning floors.now settings.now.budget settings.now.limit
+        (G.may_answer settings.now.gate.now) k (slice_index_or shares.entry.items k share).items
+        (slice_index_or v.items k r)) }
 {
     let call_off = &CallOff::new();
     let assignment = GroupAssignment {
         floors,
-        budget,
-        limit,
-        gate,
+        settings,
         call_off,
     };
     let answers = run_each(
@@ -127,9 +111,10 @@ fn drive_each<'g, A: PathAlgebra, G: Gate, R: Threads + Wait>(
         &assignment,
         &move |worker: u64, stations: Vec<(usize, Station<'_, A>)>| -> Option<Driven<'_, A>>
             requires { All (IsOnItsFloor floors.now) stations.items }
-            ensures { IfSome result (Drives A.meaning floors.entry.now budget limit
-                (G.may_answer gate.entry.now) worker stations.entry.items) }
-        { drive_unless(floors, stations, worker, budget, limit, gate, call_off) },
+            ensures { IfSome result (Drives A.meaning floors.entry.now settings.entry.now.budget
+                settings.entry.now.limit (G.may_answer settings.entry.now.gate.now) worker
+                stations.entry.items) }
+        { drive_unless(floors, stations, worker, settings, call_off) },
     )?;
     let driven = all_driven(alloc, answers)?;
     Ok(driven)
@@ -207,10 +192,9 @@ pub fn run_group<'g, A: PathAlgebra, G: Gate, R: Threads + Wait>(
     alloc: Global,
     floors: &[Floor<A>],
     diffusions: Vec<Vec<Station<'g, A>>>,
-    settings: GroupSettings,
-    gate: &G,
+    settings: &GroupSettings<'_, G>,
 ) -> Result<Vec<Vec<Station<'g, A>>>, GroupFault>
-    requires some { 0 < settings.workers }
+    requires some { 0 < settings.now.workers }
     requires width { length floors.now ≡ vec_len diffusions }
     requires own { (q : ℕ) (d : _) → q < vec_len diffusions →
         All (λ s. IsOnItsFloor floors.now (q, s)) (slice_index_or diffusions.items q d).items }
@@ -221,17 +205,11 @@ pub fn run_group<'g, A: PathAlgebra, G: Gate, R: Threads + Wait>(
     ensures done { IfOk result (λ v. (q : ℕ) (d : _) → q < vec_len diffusions.entry →
         All (IsDone floors.now q) (slice_index_or v.items q d).items) }
     ensures fault { IfErr result (λ f. (f ≡ GroupFault.Memory) ⊎ IsStop A.meaning floors.now
-        settings.dealing settings.budget settings.limit settings.workers (G.may_answer gate.now)
-        diffusions.entry.items f) }
+        settings.now.dealing settings.now.turns.budget settings.now.turns.limit settings.now.workers
+        (G.may_answer settings.now.turns.gate.now) diffusions.entry.items f) }
 {
-    let GroupSettings {
-        workers,
-        dealing,
-        budget,
-        limit,
-    } = settings;
     let width = diffusions.len();
-    let shares = deal_all(alloc, diffusions, dealing, workers)?;
-    let answers = drive_each(rt, alloc, floors, shares, budget, limit, gate)?;
+    let shares = deal_all(alloc, diffusions, settings.dealing, settings.workers)?;
+    let answers = drive_each(rt, alloc, floors, shares, &settings.turns)?;
     end_group(alloc, answers, width)
 }

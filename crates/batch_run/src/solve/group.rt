@@ -18,26 +18,25 @@ use scholten_core::roads_hold;
 use shard_part::Plan;
 use shard_part::laws::plan_holds;
 use station::{Gathered, Station, open_diffusion};
-use std::alloc::{AllocError, Global};
+use std::alloc::AllocError;
 use std::sync::Wait;
 use std::thread::Threads;
-use worker_fleet::{Gate, GroupFault, GroupSettings, run_group};
+use worker_fleet::{Gate, GroupFault, GroupSettings, TurnSettings, run_group};
 
 /// A floor, and its stations, for a diffusion from a source. Its shards are held back as the pace
 /// says.
-fn open_at_pace<'g, A: PathAlgebra>(
-    alloc: Global,
-    algebra: A,
-    graph: &'g Graph,
+fn open_at_pace<'g, A: PathAlgebra, R, T>(
+    batch: &'g BatchOver<'_, A, Graph, R, T>,
     plan: &'g Plan,
     source: Vertex,
     pace: Pace,
 ) -> Result<(Floor<A>, Vec<Station<'g, A>>), Memory>
-    requires plan { IsPlanOf graph.now plan.now }
-    requires source { HasVertex graph.now source }
+    requires plan { IsPlanOf batch.now.graph.now plan.now }
+    requires source { HasVertex batch.now.graph.now source }
     ensures { IfOk result (λ r. AreOpened A.meaning
-        (setup_of algebra graph.now source plan.now pace.order) r.0 r.1.items) }
+        (setup_of batch.now.algebra batch.now.graph.now source plan.now pace.order) r.0 r.1.items) }
 {
+    let (alloc, algebra, graph) = (batch.run.alloc, batch.algebra, batch.graph);
     let opened = open_diffusion(alloc, algebra, graph, plan, source, pace.order)?;
     let (mut floor, stations) = opened;
     if let Some(ahead) = pace.ahead {
@@ -47,26 +46,26 @@ fn open_at_pace<'g, A: PathAlgebra>(
 }
 
 /// A floor, and its stations, for a diffusion from each source, in order.
-fn open_all<'g, A: PathAlgebra>(
-    alloc: Global,
-    algebra: A,
-    graph: &'g Graph,
+fn open_all<'g, A: PathAlgebra, R, T>(
+    batch: &'g BatchOver<'_, A, Graph, R, T>,
     plan: &'g Plan,
     sources: &[Vertex],
     pace: Pace,
 ) -> Result<(Vec<Floor<A>>, Vec<Vec<Station<'g, A>>>), AllocError>
-    requires plan { IsPlanOf graph.now plan.now }
-    requires sources { All (HasVertex graph.now) sources.now }
+    requires plan { IsPlanOf batch.now.graph.now plan.now }
+    requires sources { All (HasVertex batch.now.graph.now) sources.now }
     ensures floors { IfOk result (λ r. vec_len r.0 ≡ length sources.now) }
     ensures stations { IfOk result (λ r. vec_len r.1 ≡ length sources.now) }
     ensures opened { IfOk result (λ r. (q : ℕ) (s : ℕ) (f : _) (v : _) → q < length sources.now →
-        AreOpened A.meaning (setup_of algebra graph.now (get_or sources.now q s) plan.now
-        pace.order) (get_or r.0.items q f) (get_or r.1.items q v).items) }
+        AreOpened A.meaning (setup_of batch.now.algebra batch.now.graph.now
+        (get_or sources.now q s) plan.now pace.order) (get_or r.0.items q f)
+        (get_or r.1.items q v).items) }
 {
+    let alloc = batch.run.alloc;
     let mut floors = Vec::new(alloc);
     let mut lists = Vec::new(alloc);
     for source in sources {
-        let Ok((floor, stations)) = open_at_pace(alloc, algebra, graph, plan, *source, pace) else {
+        let Ok((floor, stations)) = open_at_pace(batch, plan, *source, pace) else {
             return Err(AllocError);
         };
         floors.push(floor)?;
@@ -139,20 +138,21 @@ pub(crate) fn run_together<A: PathAlgebra, R: Threads + Wait, T: Gate>(
     ensures sources { IfOk result (λ v. sources_in_order v.items ≡ sources.now) }
     ensures stops { IfErr result (StopsOver A.meaning T.may_answer batch.now) }
 {
-    let (alloc, settings) = (batch.run.alloc, batch.run.settings);
-    let (algebra, graph) = (batch.algebra, batch.graph);
-    roads_hold(graph);
+    let (rt, alloc, settings) = (batch.run.rt, batch.run.alloc, batch.run.settings);
+    roads_hold(batch.graph);
     plan_holds(plan);
-    let pace = Pace::of(settings, graph);
-    let (mut floors, opened) = open_all(alloc, algebra, graph, plan, sources, pace)?;
+    let pace = Pace::of(settings, batch.graph);
+    let (mut floors, opened) = open_all(batch, plan, sources, pace)?;
     let how = GroupSettings {
         workers: settings.workers as usize,
         dealing: settings.dealing,
-        budget: settings.budget as u32,
-        limit: settings.turns,
+        turns: TurnSettings {
+            budget: settings.budget as u32,
+            limit: settings.turns,
+            gate: batch.run.gate,
+        },
     };
-    let (rt, gate) = (batch.run.rt, batch.run.gate);
-    let mut lists = run_group(rt, alloc, floors.as_slice(), opened, how, gate)?;
+    let mut lists = run_group(rt, alloc, floors.as_slice(), opened, &how)?;
     let mut gathered = Vec::new(alloc);
     for k in 0..sources.len() {
         let source = sources[sources.len() - 1 - k];

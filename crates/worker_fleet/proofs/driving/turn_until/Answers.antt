@@ -25,10 +25,10 @@ loop-done-preserved g c =
     record {
       place = set_place c.loop-done.stations.items c.in-Some.k c.turn_one-busy.new.placed low;
       placed = All-set (IsOnItsFloor c.args.floors.now) c.loop-done.stations.items c.in-Some.k c.turn_one-busy.new.placed
-          (IsOnItsFloor-next g.A.PathAlgebra.meaning c.args.floors.now c.args.budget _ _
+          (IsOnItsFloor-next g.A.PathAlgebra.meaning c.args.floors.now c.args.settings.now.budget _ _
           (rw c.index_mut.ensures.value (c.loop-done.invariant.placed c.in-Some.k c.index_mut.result.now low)) c.turn_one-busy.ensures)
           c.loop-done.invariant.placed;
-      moved = MovedRound-more (NextOn g.A.PathAlgebra.meaning c.args.floors.now c.args.budget) c.loop-done.done c.loop-done.at c.args.stations.now.items c.loop-done.stations.items c.in-Some.k
+      moved = MovedRound-more (NextOn g.A.PathAlgebra.meaning c.args.floors.now c.args.settings.now.budget) c.loop-done.done c.loop-done.at c.args.stations.now.items c.loop-done.stations.items c.in-Some.k
           c.index_mut.result.now c.turn_one-busy.new.placed following c.index_mut.ensures.value c.turn_one-busy.ensures c.loop-done.invariant.moved;
       asked = below_more _ _ c.loop-done.invariant.asked c.if-not-before-2.ensures;
       looked = below_more _ _ c.loop-done.invariant.looked c.if-not-before.ensures;

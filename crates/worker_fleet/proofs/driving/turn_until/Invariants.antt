@@ -9,7 +9,7 @@ abbrev pub invariant-loop-done : goal.invariant-loop-done
 invariant-loop-done g l = record {
   place : l.at ≤ length l.stations.items;
   placed : All (IsOnItsFloor l.floors) l.stations.items;
-  moved : MovedRound (NextOn g.A.PathAlgebra.meaning l.floors l.budget) l.done l.at l.fn.stations.items l.stations.items;
-  asked : LetsTurn (g.G.Gate.may_answer l.gate) l.worker l.done;
+  moved : MovedRound (NextOn g.A.PathAlgebra.meaning l.floors l.settings.budget) l.done l.at l.fn.stations.items l.stations.items;
+  asked : LetsTurn (g.G.Gate.may_answer l.settings.gate.now) l.worker l.done;
   looked : LetsTurn (g.C.Gate.may_answer l.call_off) l.worker l.done;
 }

@@ -1,6 +1,5 @@
 //! How the parts of a diffusion take their items.
-ghost use Rattle.std.specs.Prelude.{◌≡◌, ◌↔◌, true, false};
-ghost use Rattle.shard_store.specs.declared.queue_order.QueueOrder.TheVariants.{Arrival, BestFirst};
+ghost use Rattle.std.specs.Prelude.{◌≡◌};
 ghost use Rattle.batch_run.specs.Cut.{order_of};
 
 use batch_settings::Settings;
@@ -35,8 +34,7 @@ impl Pace {
 
 /// In which order a part takes its items.
 fn queue_order(settings: &Settings) -> QueueOrder
-    ensures arrival { (result ≡ Arrival) ↔ (settings.now.best_first ≡ false) }
-    ensures best_first { (result ≡ BestFirst) ↔ (settings.now.best_first ≡ true) }
+    ensures { result ≡ order_of settings.now }
 {
     if settings.best_first {
         QueueOrder::BestFirst

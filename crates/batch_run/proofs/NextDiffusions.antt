@@ -68,8 +68,8 @@ module _ {V : Type 0} (A : Algebra V) (how : Settings) (g : GraphData) where
     order : source ∷ left ≡ e.source ∷ (sources_in_order new.waiting.items ++ were.rest)
     order = sym next ∙ were.sources_are ∙ ap (λ (l : List ℕ). l ++ were.rest) (one_before new.waiting.items old.waiting.items e is)
 
-    pub taken_source : e.source ≡ source
-    taken_source = let o = order in cc
+    pub taken_next : to_come ≡ e.source ∷ left
+    taken_next = let o = order in cc
 
     pub taken_gathered : IsGatheredOver A how g e
     taken_gathered = last_of_all (IsGatheredOver A how g) old.waiting.items new.waiting.items e is were.gathered

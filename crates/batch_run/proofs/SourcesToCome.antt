@@ -10,7 +10,11 @@ use Rattle.road_files.specs.Asked.{AskWithin, IsVertexOf, Question, FromSource, 
 use Rattle.road_files.specs.declared.questions.Questions.{Questions}
 use Rattle.road_files.specs.declared.questions.Questions.TheVariants as variants
 use Rattle.road_files.proofs.QuestionLaws.{any_of, asked_within, in_sources, in_pairs, in_lists}
-use Rattle.batch_run.specs.Diffusions.{HasSource, sources_to_come}
+use Rattle.batch_run.specs.Diffusions.{HasSource, IsNextSource, sources_to_come}
+
+-- the sources of question i
+abbrev pub sources_at : List Question → ℕ → List ℕ
+sources_at qs i = sources_of (get_or qs i (FromSource 0))
 
 -- the rest of a list from an element of its prefix on
 drop_next : (xs ys zs : List ℕ) (j x : ℕ) → xs ≡ ys ++ zs → j < length ys → x ≡ get_or ys j x → drop j xs ≡ x ∷ drop (j + 1) xs
@@ -48,7 +52,7 @@ module _ (qs : List Question) where
       ap (flat_map sources_of) (drop-cons qs i d low) ∙ flat_map-cons sources_of (get_or qs i d) (drop (suc i) qs) ∙ ap (λ (n : ℕ). sources_of (get_or qs i d) ++ flat_map sources_of (drop n qs)) next
 
   -- the next is the source at this place
-  pub next_to_come : (i j source : ℕ) (d : Question) → HasSource qs i j → source ≡ get_or (sources_of (get_or qs i d)) j source → sources_to_come qs i j ≡ source ∷ sources_to_come qs i (j + 1)
+  pub next_to_come : (i j source : ℕ) (d : Question) → HasSource qs i j → source ≡ get_or (sources_of (get_or qs i d)) j source → IsNextSource qs i j source
   unfolding sources_to_come
   next_to_come i j source d has is =
       drop_next (flat_map sources_of (drop i qs)) (sources_of (get_or qs i d)) (flat_map sources_of (drop (i + 1) qs)) j source (from_question i d has.question) (has.source d) is
@@ -65,18 +69,22 @@ module _ (qs : List Question) where
     pub has_source : (j : ℕ) → j < length xs → HasSource qs i j
     has_source j low = record { question = place; source = λ d. subst (λ (l : List ℕ). j < length l) (are d) low }
 
-    pub next_source : (j source : ℕ) → j < length xs → source ≡ get_or xs j source → sources_to_come qs i j ≡ source ∷ sources_to_come qs i (j + 1)
+    pub next_source : (j source : ℕ) → j < length xs → source ≡ get_or xs j source → IsNextSource qs i j source
     next_source j source low is = next_to_come i j source (FromSource 0) (has_source j low) (is ∙ ap (λ (l : List ℕ). get_or l j source) (are (FromSource 0)))
 
     pub sources_over : (j : ℕ) → j ≡ length xs → sources_to_come qs i j ≡ sources_to_come qs (i + 1) 0
     sources_over j is = question_over i j (FromSource 0) place (is ∙ ap (λ (l : List ℕ). length l) (are (FromSource 0)))
 
-  pub some_to_come : (i j : ℕ) (d : Question) → HasSource qs i j → 1 ≤ length (sources_to_come qs i j)
-  some_to_come i j d has =
+  -- there is a next one
+  pub has_next : (i j : ℕ) (d : Question) → HasSource qs i j → (source : ℕ) × IsNextSource qs i j source
+  has_next i j d has =
       let s = any_of (sources_of (get_or qs i d)) j (has.source d) in
       let x = get_or (sources_of (get_or qs i d)) j s in
       let is : x ≡ get_or (sources_of (get_or qs i d)) j x = grind (arith, common_steps) in
-      let e = ap (λ (l : List ℕ). length l) (next_to_come i j x d has is) in omega (arith, e)
+      (x, next_to_come i j x d has is)
+
+  pub some_to_come : (i j : ℕ) (d : Question) → HasSource qs i j → 1 ≤ length (sources_to_come qs i j)
+  some_to_come i j d has = let e = ap (λ (l : List ℕ). length l) (has_next i j d has).1 in omega (arith, e)
 
   module _ (w i j : ℕ) where
     -- those of the first question

@@ -1,5 +1,5 @@
 -- Diffusions that were run to their end, and those that were gathered.
-use Rattle.std.specs.Prelude.{◌≡◌, ℕ, ◌<◌, List, [], ◌∷◌, ◌++◌, length, map, get_or, drop, reverse, true}
+use Rattle.std.specs.Prelude.{◌≡◌, ℕ, ◌+◌, ◌<◌, List, [], ◌∷◌, ◌++◌, length, map, get_or, drop, reverse, true}
 use Rattle.std.specs.List.{All, flat_map}
 use Rattle.road_graph.specs.GraphData.{GraphData}
 use Rattle.road_files.specs.Asked.{Question, sources_of}
@@ -29,6 +29,10 @@ pub record HasSource (questions : List Question) (i j : ℕ) : Type 0 where
 -- the sources that are still to come, from source j of question i on
 unfoldable pub sources_to_come : List Question → ℕ → ℕ → List ℕ
 sources_to_come questions i j = drop j (flat_map sources_of (drop i questions))
+
+-- the next of them, which is source j of question i
+abbrev pub IsNextSource : List Question → (i j source : ℕ) → Type 0
+IsNextSource questions i j source = sources_to_come questions i j ≡ source ∷ sources_to_come questions i (j + 1)
 
 -- a diffusion was run to its end on this floor: each of its stations is here, and has ended
 pub record AreEnded {A V : Type 0} (t : SetupData A) (floor : FloorData A) (stations : List (StationData A V)) : Type 0 where

@@ -33,9 +33,9 @@ pub(crate) fn merge_all<A: PathAlgebra, R: Threads + Wait, T: Gate, O: Watcher>(
 {
     laws_hold(batch.algebra);
     let sources = batch.questions.sources(i);
-    let mut labels = next_labels(batch, queue, i, 0, sources[0], watcher)?;
+    let mut labels = next_labels(batch, queue, i, 0, watcher)?;
     for j in 1..sources.len() {
-        let other = next_labels(batch, queue, i, j, sources[j], watcher)?;
+        let other = next_labels(batch, queue, i, j, watcher)?;
         labels.merge(batch.algebra, &other);
     }
     Ok(labels)

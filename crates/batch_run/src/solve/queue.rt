@@ -1,10 +1,10 @@
 //! The diffusions of a batch, one after the other: several are run together, and wait here until
 //! they are asked for.
-ghost use Rattle.std.specs.Prelude.{◌≡◌, ◌≤◌, ◌+◌, [], ◌∷◌, length, IfOk, IfErr, OnOk, OnErr};
+ghost use Rattle.std.specs.Prelude.{◌≡◌, ℕ, ◌≤◌, ◌+◌, [], ◌∷◌, length, IfOk, IfErr, OnOk, OnErr};
 ghost use Rattle.path_algebra.specs.Walks.{AreBest};
 ghost use Rattle.road_files.specs.Asked.{asked_of};
 ghost use Rattle.batch_run.specs.Batches.{AreNextAt, StopsOver};
-ghost use Rattle.batch_run.specs.Diffusions.{HasSource, IsGatheredOver, sources_to_come};
+ghost use Rattle.batch_run.specs.Diffusions.{HasSource, IsGatheredOver, IsNextSource};
 ghost use Rattle.batch_run.specs.Reports.{Account, Reported};
 
 use crate::batch::BatchOver;
@@ -13,7 +13,7 @@ use crate::solve::group::run_together;
 use crate::solve::upcoming::upcoming;
 use crate::watcher::{Progress, Watcher};
 use path_algebra::{Labels, PathAlgebra};
-use road_graph::{Graph, Vertex};
+use road_graph::Graph;
 use shard_part::Plan;
 use std::sync::Wait;
 use std::thread::Threads;
@@ -55,13 +55,11 @@ fn take_next<A: PathAlgebra, R: Threads + Wait, T: Gate>(
     queue: &mut DiffusionQueue<A::Value>,
     i: usize,
     j: usize,
-    source: Vertex,
 ) -> Result<GatheredDiffusion<A::Value>, GroupFault>
     requires source { HasSource (asked_of batch.now.questions.now).questions i j }
-    requires next { sources_to_come (asked_of batch.now.questions.now).questions i j ≡ source ∷
-        sources_to_come (asked_of batch.now.questions.now).questions i (j + 1) }
     requires ready { AreNextAt A.meaning batch.now i j queue.old }
-    ensures source { IfOk result (λ d. d.source ≡ source) }
+    ensures next { IfOk result (λ d. IsNextSource (asked_of batch.now.questions.now).questions i j
+        d.source) }
     ensures gathered { IfOk result (IsGatheredOver (A.meaning batch.now.algebra)
         batch.now.run.now.settings.now batch.now.graph.now) }
     ensures ready { OnOk result (AreNextAt A.meaning batch.now i (j + 1) queue.new) }
@@ -81,26 +79,25 @@ pub(crate) fn next_labels<A: PathAlgebra, R: Threads + Wait, T: Gate, O: Watcher
     queue: &mut DiffusionQueue<A::Value>,
     i: usize,
     j: usize,
-    source: Vertex,
     watcher: &mut O,
 ) -> Result<Labels<A::Value>, GroupFault>
     requires source { HasSource (asked_of batch.now.questions.now).questions i j }
-    requires next { sources_to_come (asked_of batch.now.questions.now).questions i j ≡ source ∷
-        sources_to_come (asked_of batch.now.questions.now).questions i (j + 1) }
     requires ready { AreNextAt A.meaning batch.now i j queue.old }
-    ensures labels { IfOk result (λ labels. AreBest (A.meaning batch.now.algebra)
-        batch.now.graph.now (source ∷ []) labels) }
+    ensures labels { IfOk result (λ labels. (source : ℕ) →
+        IsNextSource (asked_of batch.now.questions.now).questions i j source →
+        AreBest (A.meaning batch.now.algebra) batch.now.graph.now (source ∷ []) labels) }
     ensures ready { OnOk result (AreNextAt A.meaning batch.now i (j + 1) queue.new) }
     ensures stops { IfErr result (StopsOver A.meaning T.may_answer batch.now) }
-    ensures reported { OnOk result (Reported (A.meaning batch.now.algebra)
-        batch.now.run.now.settings.now batch.now.graph.now O.may_become (Account (i + 1) source ∷
-        []) watcher.old watcher.new) }
+    ensures reported { OnOk result ((source : ℕ) →
+        IsNextSource (asked_of batch.now.questions.now).questions i j source →
+        Reported (A.meaning batch.now.algebra) batch.now.run.now.settings.now batch.now.graph.now
+        O.may_become (Account (i + 1) source ∷ []) watcher.old watcher.new) }
     ensures unreported { OnErr result (watcher.new ≡ watcher.old) }
 {
     let question = (i + 1) as u32;
-    let next = take_next(batch, queue, i, j, source)?;
+    let next = take_next(batch, queue, i, j)?;
     let GatheredDiffusion {
-        source: _,
+        source,
         labels,
         tally,
     } = next;

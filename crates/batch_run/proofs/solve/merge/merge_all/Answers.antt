@@ -1,66 +1,83 @@
-use Rattle.std.proofs.Common.{List, ℕ, ◌≡◌, ◌∙◌, ◌+◌, length, map, subst, arith}
-use Rattle.std.proofs.lemmas.List.{take_all}
+use Rattle.std.proofs.Common.{List, ℕ, ◌≡◌, ◌∙◌, ◌+◌, ◌<◌, ◌≤◌, length, map, get_or, subst, sym, arith}
+use Rattle.std.proofs.lemmas.List.{take_all, get_or_default}
 use Rattle.std.proofs.lemmas.Result.{err_from_is_err_and}
-use Rattle.road_files.specs.Asked.{asked_of}
+use Rattle.road_files.specs.Asked.{FromSource, Question, asked_of}
 use Rattle.path_algebra.specs.Walks.{AreBest}
+use Rattle.batch_run.specs.Diffusions.{IsNextSource}
 use Rattle.batch_run.specs.Reports.{Account, Reported, ReportedPrefix}
 use Rattle.batch_run.proofs.SourceByMore.{first_source, source_more}
-use Rattle.batch_run.proofs.SourcesToCome.{has_source, next_source, some_sources, sources_over}
+use Rattle.batch_run.proofs.SourcesToCome.{has_source, next_source, some_sources, sources_at, sources_over}
 use Rattle.batch_run.proofs.Reporting.{prefix_if_err, prefix_kept, sources_begun, sources_more, sources_stopped, sources_ended}
 use Rattle.batch_run.proofs.solve.merge.merge_all.Goals as goal
-
-pub bounds-sources-0 : goal.bounds-sources-0
-bounds-sources-0 g c = (some_sources c.args.batch.now.graph.now.vertices c.args.batch.now.questions.now c.args.i c.args.batch.now.within c.requires.place c.sources-sources.result.now
-    c.sources-sources.ensures)
+use Rattle.batch_run.proofs.solve.merge.merge_all.Goals.{In_ok-other}
 
 pub next_labels-requires-clause-source : goal.next_labels-requires-clause-source
 next_labels-requires-clause-source g c κs within =
     has_source (asked_of c.args.batch.now.questions.now).questions c.args.i c.requires.place c.sources-sources.result.now c.sources-sources.ensures 0
     (some_sources c.args.batch.now.graph.now.vertices c.args.batch.now.questions.now c.args.i c.args.batch.now.within c.requires.place c.sources-sources.result.now c.sources-sources.ensures)
 
-pub next_labels-requires-clause-next : goal.next_labels-requires-clause-next
-next_labels-requires-clause-next g c κs within =
-    next_source (asked_of c.args.batch.now.questions.now).questions c.args.i c.requires.place c.sources-sources.result.now c.sources-sources.ensures 0 c.index-sources-0.result
-    (some_sources c.args.batch.now.graph.now.vertices c.args.batch.now.questions.now c.args.i c.args.batch.now.within c.requires.place c.sources-sources.result.now
-    c.sources-sources.ensures) c.index-sources-0.is
-
 pub next_labels-requires-in-loop-j-clause-source : goal.next_labels-requires-in-loop-j-clause-source
 next_labels-requires-in-loop-j-clause-source g c κs within =
     has_source (asked_of c.args.batch.now.questions.now).questions c.args.i c.requires.place c.sources-sources.result.now c.sources-sources.ensures c.loop-j.j c.loop-j-test.true
 
-pub next_labels-requires-in-loop-j-clause-next : goal.next_labels-requires-in-loop-j-clause-next
-next_labels-requires-in-loop-j-clause-next g c κs within =
-    next_source (asked_of c.args.batch.now.questions.now).questions c.args.i c.requires.place c.sources-sources.result.now c.sources-sources.ensures c.loop-j.j c.index-sources-j.result
-    c.loop-j-test.true c.index-sources-j.is
-
 pub loop-j-init : goal.loop-j-init
 loop-j-init g c =
-    let first = first_source c.sources-sources.result.now c.index-sources-0.result
-    (some_sources c.args.batch.now.graph.now.vertices c.args.batch.now.questions.now c.args.i c.args.batch.now.within c.requires.place c.sources-sources.result.now
-    c.sources-sources.ensures) c.index-sources-0.is in
+    let qs = (asked_of c.args.batch.now.questions.now).questions in
+    let all = sources_at qs c.args.i in
+    let are = λ (d : Question). sym (c.sources-sources.ensures (FromSource 0)) ∙ c.sources-sources.ensures d in
+    let some = some_sources c.args.batch.now.graph.now.vertices c.args.batch.now.questions.now c.args.i c.args.batch.now.within c.requires.place all are in
+    let source = get_or all 0 0 in
+    let is = get_or_default all 0 0 source some in
+    let next = next_source qs c.args.i c.requires.place all are 0 source some is in
+    let first = first_source all source some is in
     record {
-      best = rw first c.in_ok-labels.ensures.labels;
+      best = rw first (c.in_ok-labels.ensures.labels source next);
       ready = c.in_ok-labels.ensures.ready;
       reported = sources_begun (g.A.PathAlgebra.meaning c.args.batch.now.algebra) c.args.batch.now.run.now.settings.now c.args.batch.now.graph.now g.O.Watcher.may_become
-          (c.args.i + 1) c.sources-sources.result.now c.index-sources-0.result _ _ first c.in_ok-labels.ensures.reported;
+          (c.args.i + 1) all source _ _ first (c.in_ok-labels.ensures.reported source next);
     }
 
+-- the source at place j
+abbrev source : (g : _) (c : In_ok-other g) → ℕ
+source g c = get_or (sources_at (asked_of c.args.batch.now.questions.now).questions c.args.i) c.loop-j.j 0
+
+low : (g : _) (c : In_ok-other g) → c.loop-j.j < length (sources_at (asked_of c.args.batch.now.questions.now).questions c.args.i)
+low g c = subst (λ (xs : List ℕ). c.loop-j.j < length xs) (c.sources-sources.ensures (FromSource 0)) c.loop-j-test.true
+
+is : (g : _) (c : In_ok-other g) → source g c ≡ get_or (sources_at (asked_of c.args.batch.now.questions.now).questions c.args.i) c.loop-j.j (source g c)
+is g c = get_or_default (sources_at (asked_of c.args.batch.now.questions.now).questions c.args.i) c.loop-j.j 0 (source g c) (low g c)
+
+-- the next diffusion is from there
+next : (g : _) (c : In_ok-other g) → IsNextSource (asked_of c.args.batch.now.questions.now).questions c.args.i c.loop-j.j (source g c)
+next g c =
+    let qs = (asked_of c.args.batch.now.questions.now).questions in
+    next_source qs c.args.i c.requires.place (sources_at qs c.args.i) (λ (d : Question). sym (c.sources-sources.ensures (FromSource 0)) ∙ c.sources-sources.ensures d) c.loop-j.j (source g c) (low g c) (is g c)
+
+pub merge-requires-after_bounds : goal.merge-requires-after_bounds
+merge-requires-after_bounds g c κs within =
+    let at = (goal.at.merge-requires-after_bounds g c).In_ok-other in
+    (c.in_ok-other.ensures.labels (source g at) (next g at)).count ∙ sym c.loop-j.invariant.best.count
+
 pub loop-j-preserved : goal.loop-j-preserved
-loop-j-preserved g c = record {
-  best = source_more (g.A.PathAlgebra.meaning c.args.batch.now.algebra) c.laws_hold.ensures.lawful c.args.batch.now.graph.now g.A.PathAlgebra.order c.laws_hold.ensures.order
-      c.sources-sources.result.now c.loop-j.j c.index-sources-j.result c.loop-j.labels c.in_ok-other.other c.merge.new.self c.loop-j-test.true c.index-sources-j.is
-      c.loop-j.invariant.best c.in_ok-other.ensures.labels c.merge.ensures.count c.merge.ensures.labels;
-  ready = c.in_ok-other.ensures.ready;
-  reported = sources_more (g.A.PathAlgebra.meaning c.args.batch.now.algebra) c.args.batch.now.run.now.settings.now c.args.batch.now.graph.now g.O.Watcher.may_become
-      (c.args.i + 1) c.sources-sources.result.now c.loop-j.j c.index-sources-j.result _ _ _
-      c.loop-j-test.true c.index-sources-j.is c.loop-j.invariant.reported c.in_ok-other.ensures.reported;
-}
+loop-j-preserved g c =
+    let at = (goal.at.loop-j-preserved g c).In_ok-other in
+    let all = sources_at (asked_of c.args.batch.now.questions.now).questions c.args.i in
+    record {
+      best = source_more (g.A.PathAlgebra.meaning c.args.batch.now.algebra) c.laws_hold.ensures.lawful c.args.batch.now.graph.now g.A.PathAlgebra.order c.laws_hold.ensures.order
+          all c.loop-j.j (source g at) c.loop-j.labels c.in_ok-other.other c.merge.new.self (low g at) (is g at)
+          c.loop-j.invariant.best (c.in_ok-other.ensures.labels (source g at) (next g at)) c.merge.ensures.count c.merge.ensures.labels;
+      ready = c.in_ok-other.ensures.ready;
+      reported = sources_more (g.A.PathAlgebra.meaning c.args.batch.now.algebra) c.args.batch.now.run.now.settings.now c.args.batch.now.graph.now g.O.Watcher.may_become
+          (c.args.i + 1) all c.loop-j.j (source g at) _ _ _
+          (low g at) (is g at) c.loop-j.invariant.reported (c.in_ok-other.ensures.reported (source g at) (next g at));
+    }
 
 pub returns-clause-labels : goal.returns-clause-labels
 returns-clause-labels g c = λ d.
-    let all = c.sources-sources.result.now in
+    let all = sources_at (asked_of c.args.batch.now.questions.now).questions c.args.i in
+    let own = c.sources-sources.ensures (FromSource 0) in
     subst (λ (xs : List ℕ). AreBest (g.A.PathAlgebra.meaning c.args.batch.now.algebra) c.args.batch.now.graph.now xs c.loop-j.labels)
-    (take_all c.loop-j.j all c.loop-j-test.false ∙ c.sources-sources.ensures d) c.loop-j.invariant.best
+    (take_all c.loop-j.j all (subst (λ (xs : List ℕ). length xs ≤ c.loop-j.j) own c.loop-j-test.false) ∙ sym own ∙ c.sources-sources.ensures d) c.loop-j.invariant.best
 
 pub returns-clause-ready : goal.returns-clause-ready
 returns-clause-ready g c =
@@ -70,19 +87,21 @@ returns-clause-ready g c =
 
 pub returns-clause-reported : goal.returns-clause-reported
 returns-clause-reported g c = λ d.
+    let all = sources_at (asked_of c.args.batch.now.questions.now).questions c.args.i in
+    let own = c.sources-sources.ensures (FromSource 0) in
     subst (λ (xs : List ℕ). Reported (g.A.PathAlgebra.meaning c.args.batch.now.algebra) c.args.batch.now.run.now.settings.now c.args.batch.now.graph.now g.O.Watcher.may_become
-    (map (Account (c.args.i + 1)) xs) c.args.watcher.now c.loop-j.watcher) (c.sources-sources.ensures d)
+    (map (Account (c.args.i + 1)) xs) c.args.watcher.now c.loop-j.watcher) (sym own ∙ c.sources-sources.ensures d)
     (sources_ended (g.A.PathAlgebra.meaning c.args.batch.now.algebra) c.args.batch.now.run.now.settings.now c.args.batch.now.graph.now g.O.Watcher.may_become
-    (c.args.i + 1) c.sources-sources.result.now c.loop-j.j _ _ c.loop-j-test.false c.loop-j.invariant.reported)
+    (c.args.i + 1) all c.loop-j.j _ _ (subst (λ (xs : List ℕ). length xs ≤ c.loop-j.j) own c.loop-j-test.false) c.loop-j.invariant.reported)
 
 pub returns-in_err-other-clause-reported : goal.returns-in_err-other-clause-reported
 returns-in_err-other-clause-reported g c =
     let fault = err_from_is_err_and c.from_residual-in_err-other.result c.from_residual-in_err-other.ensures.1 in
     λ d. prefix_if_err (g.A.PathAlgebra.meaning c.args.batch.now.algebra) c.args.batch.now.run.now.settings.now c.args.batch.now.graph.now g.O.Watcher.may_become _ _ _ _ fault.0 fault.1 (
     subst (λ (xs : List ℕ). ReportedPrefix (g.A.PathAlgebra.meaning c.args.batch.now.algebra) c.args.batch.now.run.now.settings.now c.args.batch.now.graph.now g.O.Watcher.may_become
-    (map (Account (c.args.i + 1)) xs) c.args.watcher.now c.next_labels-in-loop-j.new.watcher) (c.sources-sources.ensures d)
+    (map (Account (c.args.i + 1)) xs) c.args.watcher.now c.next_labels-in-loop-j.new.watcher) (sym (c.sources-sources.ensures (FromSource 0)) ∙ c.sources-sources.ensures d)
     (sources_stopped (g.A.PathAlgebra.meaning c.args.batch.now.algebra) c.args.batch.now.run.now.settings.now c.args.batch.now.graph.now g.O.Watcher.may_become
-    (c.args.i + 1) c.sources-sources.result.now c.loop-j.j _ _ _ c.loop-j.invariant.reported c.in_err-other.ensures.unreported))
+    (c.args.i + 1) (sources_at (asked_of c.args.batch.now.questions.now).questions c.args.i) c.loop-j.j _ _ _ c.loop-j.invariant.reported c.in_err-other.ensures.unreported))
 
 pub returns-in_err-labels-clause-reported : goal.returns-in_err-labels-clause-reported
 returns-in_err-labels-clause-reported g c =

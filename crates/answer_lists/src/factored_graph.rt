@@ -15,6 +15,7 @@ ghost use Rattle.answer_lists.specs.Tree.{HasLowCodes};
 
 use crate::codes::{code_for, push_code};
 use crate::stopping::is_stopped;
+use crate::table_rows::RowEnds;
 use factor_routes::{RoadFactors, RouteAsker, Unweighed};
 use path_algebra::{Cost, Labels, PathAlgebra, laws_hold};
 use path_plain::Stop;
@@ -27,6 +28,7 @@ use std::sync::Arc;
 /// An owner of a factored graph, with an asker of its own once it was needed.
 #[derive(Drop)]
 pub(crate) struct FactoredGraph {
+    alloc: Global,
     factors: Arc<RoadFactors>,
     asker: Option<RouteAsker>,
 }
@@ -51,6 +53,7 @@ impl FactoredGraph {
     {
         let factors = Arc::new(alloc, factors).map_err(AllocError::from)?;
         Ok(FactoredGraph {
+            alloc,
             factors,
             asker: None,
         })
@@ -62,6 +65,7 @@ impl FactoredGraph {
     {
         let factors = Arc::try_clone(&self.factors)?;
         Ok(FactoredGraph {
+            alloc: self.alloc,
             factors,
             asker: None,
         })
@@ -70,7 +74,6 @@ impl FactoredGraph {
     /// The first owner of the factors of another graph, over the same links.
     pub(crate) fn reweighed(
         &self,
-        alloc: Global,
         graph: &OutGraph,
         by_head: &InGraph,
     ) -> Result<FactoredGraph, Unweighed>
@@ -79,8 +82,8 @@ impl FactoredGraph {
         ensures cost { IfOk result (λ f. f.algebra.cost ≡ self.now.algebra.cost) }
         ensures cause { IfErr result (λ why. IsCause why graph.now self.now) }
     {
-        let factors = self.factors.reweighed(alloc, graph, by_head)?;
-        match FactoredGraph::of(alloc, factors) {
+        let factors = self.factors.reweighed(self.alloc, graph, by_head)?;
+        match FactoredGraph::of(self.alloc, factors) {
             Ok(factored) => Ok(factored),
             Err(AllocError) => Err(Unweighed::Memory),
         }
@@ -94,41 +97,39 @@ impl FactoredGraph {
     }
 
     /// Takes the asker out, or makes it.
-    fn take_asker(&mut self, alloc: Global) -> Result<RouteAsker, Memory>
+    fn take_asker(&mut self) -> Result<RouteAsker, Memory>
         ensures kept { self.new ≡ self.old }
         ensures asker { IfOk result (λ a. a.factors ≡ self.old) }
     {
         match self.asker.take() {
             Some(asker) => Ok(asker),
-            None => self.factors.asker(alloc),
+            None => self.factors.asker(self.alloc),
         }
     }
 
     /// Asks for the code of the best value of each target; none if the stop is set before.
     fn ask_row<A: PathAlgebra>(
         &self,
-        alloc: Global,
         algebra: A,
         stop: &Option<Stop>,
         asker: &mut RouteAsker,
-        source: Vertex,
-        targets: &[u32],
+        ends: &RowEnds<'_>,
     ) -> Result<Option<Vec<u64>>, Memory>
         requires carried { IsCarried (A.meaning algebra) (cost_of self.now.algebra.cost) }
         requires same { asker.old.factors ≡ self.now }
         requires low { HasLowCodes (A.meaning algebra) }
-        requires source { HasVertex self.now.roads source }
-        requires targets { All (HasVertex self.now.roads) targets.now }
+        requires source { HasVertex self.now.roads ends.now.source }
+        requires targets { All (HasVertex self.now.roads) ends.now.targets.now }
         ensures same { asker.new.factors ≡ self.now }
         ensures row { IfOk result (λ row. IfSome row (λ row. AreRowCodes (A.meaning algebra)
-            self.now.roads targets.now source row.items)) }
+            self.now.roads ends.now.targets.now ends.now.source row.items)) }
         ensures stopped { IfOk result (λ row. row ≡ None → IsSome stop.now) }
     {
         laws_hold(algebra);
         self.factors.holds();
-        self.factors.begin(asker, source);
-        let mut row = Vec::with_capacity(alloc, targets.len())?;
-        for target in targets {
+        self.factors.begin(asker, ends.source);
+        let mut row = Vec::with_capacity(self.alloc, ends.targets.len())?;
+        for target in ends.targets {
             if is_stopped(stop) {
                 return Ok(None);
             }
@@ -141,23 +142,21 @@ impl FactoredGraph {
     /// The codes of a row of a table; none if the stop is set before.
     pub(crate) fn row<A: PathAlgebra>(
         &mut self,
-        alloc: Global,
         algebra: A,
         stop: &Option<Stop>,
-        source: Vertex,
-        targets: &[u32],
+        ends: &RowEnds<'_>,
     ) -> Result<Option<Vec<u64>>, Memory>
         requires carried { IsCarried (A.meaning algebra) (cost_of self.old.algebra.cost) }
         requires low { HasLowCodes (A.meaning algebra) }
-        requires source { HasVertex self.old.roads source }
-        requires targets { All (HasVertex self.old.roads) targets.now }
+        requires source { HasVertex self.old.roads ends.now.source }
+        requires targets { All (HasVertex self.old.roads) ends.now.targets.now }
         ensures kept { self.new ≡ self.old }
         ensures row { IfOk result (λ row. IfSome row (λ row. AreRowCodes (A.meaning algebra)
-            self.old.roads targets.now source row.items)) }
+            self.old.roads ends.now.targets.now ends.now.source row.items)) }
         ensures stopped { IfOk result (λ row. row ≡ None → IsSome stop.now) }
     {
-        let mut asker = self.take_asker(alloc)?;
-        let row = self.ask_row(alloc, algebra, stop, &mut asker, source, targets);
+        let mut asker = self.take_asker()?;
+        let row = self.ask_row(algebra, stop, &mut asker, ends);
         self.asker = Some(asker);
         row
     }
@@ -165,7 +164,6 @@ impl FactoredGraph {
     /// The best code and the route; none if no walk to the target has a value.
     pub(crate) fn route<A: PathAlgebra>(
         &mut self,
-        alloc: Global,
         algebra: A,
         by_head: &InGraph,
         ends: (Vertex, Vertex),
@@ -176,8 +174,10 @@ impl FactoredGraph {
         ensures kept { self.new ≡ self.old }
         ensures found { IfOk result (IsPairFound (A.meaning algebra) self.old.roads ends.0 ends.1) }
     {
-        let mut asker = self.take_asker(alloc)?;
-        let found = self.factors.find(alloc, algebra, by_head, &mut asker, ends);
+        let mut asker = self.take_asker()?;
+        let found = self
+            .factors
+            .find(self.alloc, algebra, by_head, &mut asker, ends);
         self.asker = Some(asker);
         found
     }
@@ -185,7 +185,6 @@ impl FactoredGraph {
     /// The labels from some sources, and their tree.
     pub(crate) fn tree<A: PathAlgebra>(
         &self,
-        alloc: Global,
         algebra: A,
         by_head: &InGraph,
         sources: &[Vertex],
@@ -197,6 +196,6 @@ impl FactoredGraph {
         ensures tree { IfOk result (λ s. IsTree (A.meaning algebra) self.now.roads sources.now s.1) }
     {
         self.factors
-            .solve_with_tree(alloc, algebra, by_head, sources)
+            .solve_with_tree(self.alloc, algebra, by_head, sources)
     }
 }

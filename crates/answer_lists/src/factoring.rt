@@ -9,10 +9,9 @@ use crate::shared_graph::SharedGraph;
 use crate::status::{DENSE, DONE, HEAVY, MEMORY, NO_ALGEBRA, NO_FACTORS};
 use factor_routes::Unfactored;
 use path_algebra::{AlgebraChoice, PathAlgebra, with_algebra};
-use std::alloc::Global;
 
 /// Factors a graph for an algebra.
-fn factor<A: PathAlgebra>(alloc: Global, algebra: A, shared: &mut SharedGraph) -> i32
+fn factor<A: PathAlgebra>(algebra: A, shared: &mut SharedGraph) -> i32
     ensures graph { shared.new ≡ shared.old }
     ensures heavy { result ≡ pos 8 → IsTooHeavy (A.meaning algebra) shared.old }
     ensures dense { result ≡ pos 7 → HasRoom (A.meaning algebra) shared.old }
@@ -21,7 +20,7 @@ fn factor<A: PathAlgebra>(alloc: Global, algebra: A, shared: &mut SharedGraph) -
     let Some(cost) = algebra.cost() else {
         return NO_FACTORS;
     };
-    match shared.factor(alloc, cost) {
+    match shared.factor(cost) {
         Ok(()) => DONE,
         Err(Unfactored::Memory) => MEMORY,
         Err(Unfactored::Dense(_)) => DENSE,
@@ -30,20 +29,20 @@ fn factor<A: PathAlgebra>(alloc: Global, algebra: A, shared: &mut SharedGraph) -
 }
 
 /// Factors a graph for the chosen algebra.
-fn factor_chosen(alloc: Global, chosen: AlgebraChoice, shared: &mut SharedGraph) -> i32
+fn factor_chosen(chosen: AlgebraChoice, shared: &mut SharedGraph) -> i32
     ensures graph { shared.new ≡ shared.old }
     ensures heavy { result ≡ pos 8 → Under chosen (λ V A. IsTooHeavy A shared.old) }
     ensures dense { result ≡ pos 7 → Under chosen (λ V A. HasRoom A shared.old) }
     ensures status { IsOneOf (0 ∷ 3 ∷ 7 ∷ 8 ∷ 9 ∷ []) result }
 {
-    with_algebra!(chosen, |algebra| factor(alloc, algebra, shared))
+    with_algebra!(chosen, |algebra| factor(algebra, shared))
 }
 
 /// Factors a graph for the algebra of a number, at every limit, if there is such an algebra.
 ///
 /// What is asked afterwards has the same answers, whether there are factors or not.
 #[tactic(auto, using(path_algebra::proofs::Chosen::of_numbered))]
-pub fn factor_graph(alloc: Global, number: u32, shared: &mut SharedGraph) -> i32
+pub fn factor_graph(number: u32, shared: &mut SharedGraph) -> i32
     ensures graph { shared.new ≡ shared.old }
     ensures heavy { result ≡ pos 8 → OfAlgebra number 0 (λ V A. IsTooHeavy A shared.old) }
     ensures dense { result ≡ pos 7 → OfAlgebra number 0 (λ V A. HasRoom A shared.old) }
@@ -53,5 +52,5 @@ pub fn factor_graph(alloc: Global, number: u32, shared: &mut SharedGraph) -> i32
     let Some(chosen) = AlgebraChoice::numbered(number, 0) else {
         return NO_ALGEBRA;
     };
-    factor_chosen(alloc, chosen, shared)
+    factor_chosen(chosen, shared)
 }

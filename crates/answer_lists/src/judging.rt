@@ -66,7 +66,6 @@ pub struct FirstRefuted<'a> {
 /// vertex, each list has a place for each vertex and there is such an algebra.
 #[tactic(auto, using(path_algebra::proofs::Chosen::of_numbered))]
 pub fn check_tree(
-    alloc: Global,
     by: AlgebraNumber,
     shared: &mut SharedGraph,
     sources: &[u32],
@@ -97,10 +96,10 @@ pub fn check_tree(
     let Some(chosen) = AlgebraChoice::numbered(by.algebra, by.limit) else {
         return NO_ALGEBRA;
     };
-    let Ok(by_head) = shared.by_head(alloc) else {
+    let Ok(by_head) = shared.by_head() else {
         return MEMORY;
     };
-    match judge_chosen(alloc, chosen, &by_head, sources, tree) {
+    match judge_chosen(shared.alloc(), chosen, &by_head, sources, tree) {
         Ok(None) => DONE,
         Ok(Some(place)) => {
             *first.vertex = place.vertex;

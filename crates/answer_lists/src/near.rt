@@ -19,12 +19,10 @@ use crate::status::{MEMORY, NO_ALGEBRA, NO_VERTEX, STOPPED};
 use path_algebra::AlgebraChoice;
 use path_plain::{Halt, Stop};
 use road_graph::{Memory, Vertex};
-use std::alloc::Global;
 
 /// Searches by the chosen algebra, unless the search is to give up; with the searcher, which is
 /// taken out of the graph, comes whether there is an answer.
 pub(crate) fn search(
-    alloc: Global,
     chosen: AlgebraChoice,
     shared: &mut SharedGraph,
     sources: &[Vertex],
@@ -42,13 +40,12 @@ pub(crate) fn search(
         sources.now (code_in k.0) (tree_in k.0))) }
     ensures halts { IfOk result (λ k. k.1 ≡ false → CanHalt halt.old) }
 {
-    let kept = shared.take_tree(alloc, chosen)?;
+    let kept = shared.take_tree(chosen)?;
     kept.solve(shared.graph(), sources, halt)
 }
 
 /// Searches by the chosen algebra, counts what is reached, and writes it if there is room.
 fn answer(
-    alloc: Global,
     chosen: AlgebraChoice,
     shared: &mut SharedGraph,
     stop: &Option<Stop>,
@@ -65,10 +62,10 @@ fn answer(
     ensures stopped { result ≡ pos 45 → IsSome stop.now }
     ensures status { IsOneOf (0 ∷ 2 ∷ 3 ∷ 45 ∷ []) result }
 {
-    let Ok(list) = vertices_of(alloc, sources) else {
+    let Ok(list) = vertices_of(shared.alloc(), sources) else {
         return MEMORY;
     };
-    let Ok((kept, is_found)) = search(alloc, chosen, shared, &list, &mut Halt::by(stop)) else {
+    let Ok((kept, is_found)) = search(chosen, shared, &list, &mut Halt::by(stop)) else {
         return MEMORY;
     };
     if !is_found {
@@ -88,7 +85,6 @@ fn answer(
 /// the stop is set, if there is one.
 #[tactic(auto, using(path_algebra::proofs::Chosen::of_numbered))]
 pub fn answer_near(
-    alloc: Global,
     by: AlgebraNumber,
     shared: &mut SharedGraph,
     stop: &Option<Stop>,
@@ -112,5 +108,5 @@ pub fn answer_near(
     let Some(chosen) = AlgebraChoice::numbered(by.algebra, by.limit) else {
         return NO_ALGEBRA;
     };
-    answer(alloc, chosen, shared, stop, sources, lists)
+    answer(chosen, shared, stop, sources, lists)
 }

@@ -22,48 +22,6 @@ pub struct NearLists<'a> {
     pub count: &'a mut usize,
 }
 
-/// Writes the codes of what is reached.
-fn fill_codes(kept: &KeptTree, codes: &mut [u64])
-    requires vertices { All (HasVertex (graph_in kept.now)) (vertices_in kept.now) }
-    requires places { length (vertices_in kept.now) ≤ length codes.old }
-    ensures list { take (length (vertices_in kept.now)) codes.new ≡ map (code_in kept.now)
-        (vertices_in kept.now) }
-    ensures rest { IsSameAfter (length (vertices_in kept.now)) codes.old codes.new }
-{
-    let reached = kept.reached();
-    for i in 0..reached.len() {
-        codes[i] = kept.code(reached[i]);
-    }
-}
-
-/// Writes their hops.
-fn fill_hops(kept: &KeptTree, hops: &mut [u32])
-    requires vertices { All (HasVertex (graph_in kept.now)) (vertices_in kept.now) }
-    requires places { length (vertices_in kept.now) ≤ length hops.old }
-    ensures list { take (length (vertices_in kept.now)) hops.new ≡ map (hops_at (tree_in kept.now))
-        (vertices_in kept.now) }
-    ensures rest { IsSameAfter (length (vertices_in kept.now)) hops.old hops.new }
-{
-    let reached = kept.reached();
-    for i in 0..reached.len() {
-        hops[i] = kept.hops(reached[i]);
-    }
-}
-
-/// Writes their parents.
-fn fill_parents(kept: &KeptTree, parents: &mut [u32])
-    requires vertices { All (HasVertex (graph_in kept.now)) (vertices_in kept.now) }
-    requires places { length (vertices_in kept.now) ≤ length parents.old }
-    ensures list { take (length (vertices_in kept.now)) parents.new ≡ map (parent_at (tree_in
-        kept.now)) (vertices_in kept.now) }
-    ensures rest { IsSameAfter (length (vertices_in kept.now)) parents.old parents.new }
-{
-    let reached = kept.reached();
-    for i in 0..reached.len() {
-        parents[i] = kept.parent(reached[i]);
-    }
-}
-
 /// Writes the vertices that are reached, if the list is wanted.
 fn write_vertices(kept: &KeptTree, vertices: &mut [u32])
     requires { IsLongOrNone (length (vertices_in kept.now)) (length vertices.old) }
@@ -87,7 +45,10 @@ fn write_codes(kept: &KeptTree, codes: &mut [u64])
     if codes.is_empty() {
         return;
     }
-    fill_codes(kept, codes);
+    let reached = kept.reached();
+    for i in 0..reached.len() {
+        codes[i] = kept.code(reached[i]);
+    }
 }
 
 /// Writes their hops, if the list is wanted.
@@ -101,7 +62,10 @@ fn write_hops(kept: &KeptTree, hops: &mut [u32])
     if hops.is_empty() {
         return;
     }
-    fill_hops(kept, hops);
+    let reached = kept.reached();
+    for i in 0..reached.len() {
+        hops[i] = kept.hops(reached[i]);
+    }
 }
 
 /// Writes their parents, if the list is wanted.
@@ -115,7 +79,10 @@ fn write_parents(kept: &KeptTree, parents: &mut [u32])
     if parents.is_empty() {
         return;
     }
-    fill_parents(kept, parents);
+    let reached = kept.reached();
+    for i in 0..reached.len() {
+        parents[i] = kept.parent(reached[i]);
+    }
 }
 
 /// Whether so many places suffice for n vertices, or there is none.

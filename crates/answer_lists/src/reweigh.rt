@@ -8,26 +8,20 @@ use crate::status::{HEAVY, MEMORY, NO_LINK};
 use factor_routes::Unweighed;
 use path_algebra::Cost;
 use road_graph::OutGraph;
-use std::alloc::Global;
 
 /// Factors a second graph for arcs that cost this, over the links of the first, if that is factored
 /// for them.
-fn reweigh_for(
-    alloc: Global,
-    cost: Cost,
-    first: &SharedGraph,
-    second: &mut SharedGraph,
-) -> Result<(), i32>
+fn reweigh_for(cost: Cost, first: &SharedGraph, second: &mut SharedGraph) -> Result<(), i32>
     ensures kept { second.new ≡ second.old }
     ensures refusal { IfErr result (IsRefusal second.old first.now) }
 {
     let Some(factored) = first.factored(cost) else {
         return Ok(());
     };
-    let Ok(by_head) = second.by_head(alloc) else {
+    let Ok(by_head) = second.by_head() else {
         return Err(MEMORY);
     };
-    match factored.reweighed(alloc, second.graph(), &by_head) {
+    match factored.reweighed(second.graph(), &by_head) {
         Ok(reweighed) => {
             second.put_factored(reweighed);
             Ok(())
@@ -43,18 +37,14 @@ fn reweigh_for(
 ///
 /// What is asked of it has the same answers, whether there are factors or not. Else the status says
 /// why: it is `MEMORY`, `HEAVY`, or `NO_LINK` for an arc between vertices with no link.
-pub fn reweigh_graph(
-    alloc: Global,
-    first: &SharedGraph,
-    graph: OutGraph,
-) -> Result<SharedGraph, i32>
+pub fn reweigh_graph(first: &SharedGraph, graph: OutGraph) -> Result<SharedGraph, i32>
     ensures graph { IfOk result (λ s. s ≡ graph) }
     ensures refusal { IfErr result (IsRefusal graph first.now) }
 {
-    let Ok(mut second) = SharedGraph::of(alloc, graph) else {
+    let Ok(mut second) = SharedGraph::of(first.alloc(), graph) else {
         return Err(MEMORY);
     };
-    reweigh_for(alloc, Cost::Weight, first, &mut second)?;
-    reweigh_for(alloc, Cost::One, first, &mut second)?;
+    reweigh_for(Cost::Weight, first, &mut second)?;
+    reweigh_for(Cost::One, first, &mut second)?;
     Ok(second)
 }

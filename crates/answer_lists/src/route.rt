@@ -11,20 +11,15 @@ ghost use Rattle.answer_lists.specs.Route.{IsWrittenRoute};
 use crate::algebra_number::AlgebraNumber;
 use crate::shared_graph::SharedGraph;
 use crate::status::{DONE, MEMORY, NO_ALGEBRA, NO_ROOM, NO_ROUTE, NO_VERTEX, STOPPED};
+use factor_routes::near_halt;
 use path_algebra::{AlgebraChoice, PathAlgebra, with_algebra};
 use path_plain::{Halt, Stop};
 use road_graph::{InGraph, Memory, Vertex};
 use route_tree::{Found, Nearby};
-use std::alloc::Global;
-
-/// How many entries a search on a factored graph takes from its queue, at most, before the factors
-/// are asked: most near routes need fewer, and a far one loses some hundredths of its time.
-const NEAR: u32 = 500;
 
 /// The best code and the route by factors, none if no walk to the target has a value; or undecided,
 /// if there are no factors for the algebra.
 fn ask<A: PathAlgebra>(
-    alloc: Global,
     algebra: A,
     shared: &mut SharedGraph,
     by_head: &InGraph,
@@ -38,14 +33,13 @@ fn ask<A: PathAlgebra>(
     let Some(mut factored) = shared.take_factored(algebra) else {
         return Ok(Nearby::Undecided);
     };
-    let found = factored.route(alloc, algebra, by_head, ends);
+    let found = factored.route(algebra, by_head, ends);
     shared.put_factored(factored);
     Ok(Nearby::Decided(found?))
 }
 
 /// The same, by the chosen algebra.
 fn ask_chosen(
-    alloc: Global,
     chosen: AlgebraChoice,
     shared: &mut SharedGraph,
     by_head: &InGraph,
@@ -56,13 +50,12 @@ fn ask_chosen(
     ensures graph { shared.new ≡ shared.old }
     ensures found { Under chosen (λ V A. IfOk result (IsFoundIfNear A shared.old ends.0 ends.1)) }
 {
-    with_algebra!(chosen, |algebra| ask(alloc, algebra, shared, by_head, ends))
+    with_algebra!(chosen, |algebra| ask(algebra, shared, by_head, ends))
 }
 
 /// The best code and the route on a factored graph, none if no walk to the target has a value: by a
 /// search if it decides the pair soon, and else by factors. It is undecided if neither decides it.
 fn find_soon(
-    alloc: Global,
     chosen: AlgebraChoice,
     shared: &mut SharedGraph,
     by_head: &InGraph,
@@ -74,16 +67,11 @@ fn find_soon(
     ensures found { Under chosen (λ V A. IfOk result (IsFoundIfNear A shared.old ends.0 ends.1)) }
 {
     let (source, target) = ends;
-    match shared.search(
-        alloc,
-        chosen,
-        by_head,
-        (source, target),
-        &mut Halt::After(NEAR),
-    ) {
+    let mut halt = near_halt(shared.graph().vertices());
+    match shared.search(chosen, by_head, (source, target), &mut halt) {
         Ok(Nearby::Decided(found)) => Ok(Nearby::Decided(found)),
         Ok(Nearby::Undecided) | Err(Memory) => {
-            ask_chosen(alloc, chosen, shared, by_head, (source, target))
+            ask_chosen(chosen, shared, by_head, (source, target))
         }
     }
 }
@@ -91,7 +79,6 @@ fn find_soon(
 /// The best code and the route, none if no walk to the target has a value; or undecided, if a stop
 /// was set.
 fn find_near(
-    alloc: Global,
     chosen: AlgebraChoice,
     shared: &mut SharedGraph,
     stop: &Option<Stop>,
@@ -103,25 +90,18 @@ fn find_near(
     ensures stopped { IfOk result (λ near. near ≡ Undecided → IsSome stop.now) }
 {
     let (source, target) = ends;
-    let by_head = shared.by_head(alloc)?;
-    if shared.has_factors() {
-        let soon = find_soon(alloc, chosen, shared, &by_head, (source, target))?;
+    let by_head = shared.by_head()?;
+    if shared.is_factored_for(chosen) {
+        let soon = find_soon(chosen, shared, &by_head, (source, target))?;
         if let Nearby::Decided(found) = soon {
             return Ok(Nearby::Decided(found));
         }
     }
-    shared.search(
-        alloc,
-        chosen,
-        &by_head,
-        (source, target),
-        &mut Halt::by(stop),
-    )
+    shared.search(chosen, &by_head, (source, target), &mut Halt::by(stop))
 }
 
 /// The best code and the route, or the status that says why there are none.
 pub(crate) fn find(
-    alloc: Global,
     chosen: AlgebraChoice,
     shared: &mut SharedGraph,
     stop: &Option<Stop>,
@@ -137,7 +117,7 @@ pub(crate) fn find(
     ensures stopped { IfErr result (λ status. status ≡ pos 45 → IsSome stop.now) }
     ensures status { IfErr result (IsOneOf (1 ∷ 3 ∷ 45 ∷ [])) }
 {
-    let Ok(near) = find_near(alloc, chosen, shared, stop, ends) else {
+    let Ok(near) = find_near(chosen, shared, stop, ends) else {
         return Err(MEMORY);
     };
     let Nearby::Decided(found) = near else {
@@ -189,7 +169,6 @@ pub struct RouteRoom<'a> {
 
 /// Finds a route by the chosen algebra and writes it.
 fn answer(
-    alloc: Global,
     chosen: AlgebraChoice,
     shared: &mut SharedGraph,
     stop: &Option<Stop>,
@@ -204,7 +183,7 @@ fn answer(
     ensures stopped { result ≡ pos 45 → IsSome stop.now }
     ensures status { IsOneOf (0 ∷ 1 ∷ 2 ∷ 3 ∷ 45 ∷ []) result }
 {
-    match find(alloc, chosen, shared, stop, ends) {
+    match find(chosen, shared, stop, ends) {
         Ok(found) => {
             *room.code = found.code;
             *room.hops = found.hops;
@@ -218,7 +197,6 @@ fn answer(
 /// vertices. A search ends without an answer soon after the stop is set, if there is one.
 #[tactic(auto, using(path_algebra::proofs::Chosen::of_numbered))]
 pub fn answer_route(
-    alloc: Global,
     by: AlgebraNumber,
     shared: &mut SharedGraph,
     stop: &Option<Stop>,
@@ -241,5 +219,5 @@ pub fn answer_route(
     let Some(chosen) = AlgebraChoice::numbered(by.algebra, by.limit) else {
         return NO_ALGEBRA;
     };
-    answer(alloc, chosen, shared, stop, ends, room)
+    answer(chosen, shared, stop, ends, room)
 }

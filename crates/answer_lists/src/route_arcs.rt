@@ -16,7 +16,6 @@ use arc_numbers::ArcNumbers;
 use path_algebra::{AlgebraChoice, with_algebra};
 use path_plain::Stop;
 use road_graph::{OutGraph, Vertex};
-use std::alloc::Global;
 
 /// Writes the numbers of the arcs of a route that was found by the chosen algebra.
 fn write_arcs(
@@ -81,7 +80,6 @@ pub struct RouteArcsRoom<'a> {
 
 /// Finds a route by the chosen algebra, and writes it and the numbers of its arcs.
 fn answer_arcs(
-    alloc: Global,
     chosen: AlgebraChoice,
     shared: &mut SharedGraph,
     stop: &Option<Stop>,
@@ -99,7 +97,7 @@ fn answer_arcs(
     ensures stopped { result ≡ pos 45 → IsSome stop.now }
     ensures status { IsOneOf (0 ∷ 1 ∷ 2 ∷ 3 ∷ 45 ∷ []) result }
 {
-    let found = match find(alloc, chosen, shared, stop, ends) {
+    let found = match find(chosen, shared, stop, ends) {
         Ok(found) => found,
         Err(status) => return status,
     };
@@ -125,7 +123,6 @@ fn answer_arcs(
 /// answer soon after the stop is set, if there is one.
 #[tactic(auto, using(path_algebra::proofs::Chosen::of_numbered))]
 pub fn answer_route_arcs(
-    alloc: Global,
     by: AlgebraNumber,
     shared: &mut SharedGraph,
     stop: &Option<Stop>,
@@ -151,5 +148,5 @@ pub fn answer_route_arcs(
     let Some(chosen) = AlgebraChoice::numbered(by.algebra, by.limit) else {
         return NO_ALGEBRA;
     };
-    answer_arcs(alloc, chosen, shared, stop, ends, room)
+    answer_arcs(chosen, shared, stop, ends, room)
 }

@@ -13,7 +13,7 @@ use crate::factored_graph::FactoredGraph;
 use crate::kept_searcher::KeptSearcher;
 use crate::kept_tree::KeptTree;
 use factor_routes::{RoadFactors, Unfactored};
-use path_algebra::{Cost, PathAlgebra};
+use path_algebra::{AlgebraChoice, Cost, PathAlgebra, with_algebra};
 use road_graph::{InGraph, Memory, OutGraph};
 use std::alloc::{AllocError, Global};
 use std::marker::Model;
@@ -24,6 +24,7 @@ use std::sync::Arc;
 /// other owner has.
 #[derive(Drop)]
 pub struct SharedGraph {
+    alloc: Global,
     graph: Arc<OutGraph>,
     by_head: Option<Arc<InGraph>>,
     by_weights: Option<FactoredGraph>,
@@ -69,6 +70,7 @@ impl SharedGraph {
     {
         let graph = Arc::new(alloc, graph).map_err(AllocError::from)?;
         Ok(SharedGraph {
+            alloc,
             graph,
             by_head: None,
             by_weights: None,
@@ -90,6 +92,7 @@ impl SharedGraph {
         let by_weights = again(&self.by_weights)?;
         let by_arcs = again(&self.by_arcs)?;
         Ok(SharedGraph {
+            alloc: self.alloc,
             graph,
             by_head,
             by_weights,
@@ -97,6 +100,11 @@ impl SharedGraph {
             searcher: None,
             tree: None,
         })
+    }
+
+    /// The allocator of what is made of the graph.
+    pub(crate) fn alloc(&self) -> Global {
+        self.alloc
     }
 
     /// The graph.
@@ -107,14 +115,15 @@ impl SharedGraph {
     }
 
     /// The graph by heads, which is made at the first call and kept.
-    pub fn by_head(&mut self, alloc: Global) -> Result<Arc<InGraph>, Memory>
+    pub fn by_head(&mut self) -> Result<Arc<InGraph>, Memory>
         ensures kept { self.new ≡ self.old }
         ensures by_head { IfOk result (λ r. arc_value r ≡ self.old) }
     {
         if let Some(by_head) = &self.by_head {
             return Ok(Arc::try_clone(by_head)?);
         }
-        let by_head = Arc::new(alloc, InGraph::of(alloc, &self.graph)?).map_err(AllocError::from)?;
+        let by_head = InGraph::of(self.alloc, &self.graph)?;
+        let by_head = Arc::new(self.alloc, by_head).map_err(AllocError::from)?;
         let again = Arc::try_clone(&by_head)?;
         self.by_head = Some(by_head);
         Ok(again)
@@ -131,14 +140,9 @@ impl SharedGraph {
         }
     }
 
-    /// Whether it is factored for some algebra.
-    pub(crate) fn has_factors(&self) -> bool {
-        self.by_weights.is_some() || self.by_arcs.is_some()
-    }
-
-    /// Whether it is factored for an algebra.
-    pub(crate) fn is_factored_for<A: PathAlgebra>(&self, algebra: A) -> bool {
-        match algebra.cost() {
+    /// Whether it is factored for the chosen algebra.
+    pub(crate) fn is_factored_for(&self, chosen: AlgebraChoice) -> bool {
+        match with_algebra!(chosen, |algebra| algebra.cost()) {
             Some(cost) => self.factored(cost).is_some(),
             None => false,
         }
@@ -183,7 +187,7 @@ impl SharedGraph {
     ///
     /// # Errors
     /// `Heavy` only if no number of low bits leaves room for both the hops and the sums.
-    pub(crate) fn factor(&mut self, alloc: Global, cost: Cost) -> Result<(), Unfactored>
+    pub(crate) fn factor(&mut self, cost: Cost) -> Result<(), Unfactored>
         ensures kept { self.new ≡ self.old }
         ensures heavy { IfErr result (λ e. e ≡ Heavy → (k : ℕ) → CountsFit self.old (cost_of cost) k →
             ⊥) }
@@ -193,14 +197,14 @@ impl SharedGraph {
         if self.factored(cost).is_some() {
             return Ok(());
         }
-        let Ok(by_head) = self.by_head(alloc) else {
+        let Ok(by_head) = self.by_head() else {
             return Err(Unfactored::Memory);
         };
-        let factors = match RoadFactors::of(alloc, cost, &self.graph, &by_head) {
+        let factors = match RoadFactors::of(self.alloc, cost, &self.graph, &by_head) {
             Ok(factors) => factors,
             Err(why) => return Err(why),
         };
-        let Ok(factored) = FactoredGraph::of(alloc, factors) else {
+        let Ok(factored) = FactoredGraph::of(self.alloc, factors) else {
             return Err(Unfactored::Memory);
         };
         self.put_factored(factored);

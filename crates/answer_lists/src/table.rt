@@ -10,11 +10,10 @@ use crate::algebra_number::AlgebraNumber;
 use crate::shared_graph::SharedGraph;
 use crate::sources::are_vertices;
 use crate::status::{DONE, MEMORY, NO_ALGEBRA, NO_ROOM, NO_VERTEX, STOPPED};
-use crate::table_rows::row;
+use crate::table_rows::{RowEnds, row};
 use path_algebra::{AlgebraChoice, PathAlgebra, with_algebra};
 use path_plain::Stop;
 use road_graph::{Memory, Vertex};
-use std::alloc::Global;
 
 /// The sources and the targets of a table, as a caller lends them.
 #[derive(Clone, Copy)]
@@ -25,7 +24,6 @@ pub struct TableEnds<'t> {
 
 /// The codes from each source, one row after the other; none if the stop is set before.
 fn table<A: PathAlgebra>(
-    alloc: Global,
     algebra: A,
     shared: &mut SharedGraph,
     stop: &Option<Stop>,
@@ -38,20 +36,14 @@ fn table<A: PathAlgebra>(
         shared.old ends.now.sources.now ends.now.targets.now codes.items)) }
     ensures stopped { IfOk result (λ codes. codes ≡ None → IsSome stop.now) }
 {
-    let mut codes = Vec::new(alloc);
+    let mut codes = Vec::new(shared.alloc());
     let mut kept = None;
     for source in ends.sources {
-        let source = Vertex(*source);
-        let Some(row) = row(
-            alloc,
-            algebra,
-            shared,
-            &mut kept,
-            stop,
-            source,
-            ends.targets,
-        )?
-        else {
+        let row_ends = RowEnds {
+            source: Vertex(*source),
+            targets: ends.targets,
+        };
+        let Some(row) = row(algebra, shared, &mut kept, stop, &row_ends)? else {
             return Ok(None);
         };
         codes.extend_from_slice(&row)?;
@@ -61,7 +53,6 @@ fn table<A: PathAlgebra>(
 
 /// Finds a table and writes it.
 fn answer<A: PathAlgebra>(
-    alloc: Global,
     algebra: A,
     shared: &mut SharedGraph,
     stop: &Option<Stop>,
@@ -78,7 +69,7 @@ fn answer<A: PathAlgebra>(
     ensures stopped { result ≡ pos 45 → IsSome stop.now }
     ensures status { IsOneOf (0 ∷ 3 ∷ 45 ∷ []) result }
 {
-    match table(alloc, algebra, shared, stop, ends) {
+    match table(algebra, shared, stop, ends) {
         Ok(Some(list)) => {
             codes.copy_from_slice(&list);
             DONE
@@ -90,7 +81,6 @@ fn answer<A: PathAlgebra>(
 
 /// Finds a table by the chosen algebra and writes it.
 fn answer_chosen(
-    alloc: Global,
     chosen: AlgebraChoice,
     shared: &mut SharedGraph,
     stop: &Option<Stop>,
@@ -106,10 +96,7 @@ fn answer_chosen(
     ensures stopped { result ≡ pos 45 → IsSome stop.now }
     ensures status { IsOneOf (0 ∷ 3 ∷ 45 ∷ []) result }
 {
-    with_algebra!(
-        chosen,
-        |algebra| answer(alloc, algebra, shared, stop, ends, codes)
-    )
+    with_algebra!(chosen, |algebra| answer(algebra, shared, stop, ends, codes))
 }
 
 /// Whether a list has just one place for each pair of a source and a target.
@@ -127,7 +114,6 @@ fn has_places(sources: usize, targets: usize, places: usize) -> bool
 /// without an answer soon after the stop is set, if there is one.
 #[tactic(auto, using(path_algebra::proofs::Chosen::of_numbered))]
 pub fn answer_table(
-    alloc: Global,
     by: AlgebraNumber,
     shared: &mut SharedGraph,
     stop: &Option<Stop>,
@@ -153,5 +139,5 @@ pub fn answer_table(
     let Some(chosen) = AlgebraChoice::numbered(by.algebra, by.limit) else {
         return NO_ALGEBRA;
     };
-    answer_chosen(alloc, chosen, shared, stop, ends, codes)
+    answer_chosen(chosen, shared, stop, ends, codes)
 }

@@ -3,6 +3,7 @@
 ghost use Rattle.std.specs.Prelude.{◌≡◌, IfOk, IfSome, IsSome, None, OnOk};
 ghost use Rattle.std.specs.List.{All};
 ghost use Rattle.road_graph.specs.GraphData.{HasVertex};
+ghost use Rattle.path_plain.specs.Searcher.{IsOfSameGraph};
 ghost use Rattle.route_tree.specs.Searchers.{IsSearcherOf};
 ghost use Rattle.answer_lists.specs.Table.{AreRowCodes, IsTableCode};
 ghost use Rattle.answer_lists.specs.Tree.{HasLowCodes};
@@ -13,44 +14,49 @@ use crate::stopping::is_stopped;
 use path_algebra::{PathAlgebra, laws_hold};
 use path_plain::{Halt, Searcher, Stop};
 use road_graph::{Memory, OutGraph, Vertex};
-use std::alloc::Global;
+
+/// The source of a row, and the targets of its table.
+#[derive(Clone, Copy)]
+pub(crate) struct RowEnds<'t> {
+    pub(crate) source: Vertex,
+    pub(crate) targets: &'t [u32],
+}
 
 /// The searcher of the row before, or a new one if there is none.
 fn take_searcher<A: PathAlgebra>(
-    alloc: Global,
     algebra: A,
-    graph: &OutGraph,
+    shared: &SharedGraph,
     kept: &mut Option<Searcher<A>>,
 ) -> Result<Searcher<A>, Memory>
-    requires { IfSome kept.old (IsSearcherOf algebra graph.now) }
-    ensures searcher { IfOk result (IsSearcherOf algebra graph.now) }
+    requires { IfSome kept.old (IsSearcherOf algebra shared.now) }
+    ensures searcher { IfOk result (IsSearcherOf algebra shared.now) }
     ensures taken { kept.new ≡ None }
 {
     match kept.take() {
         Some(searcher) => Ok(searcher),
-        None => Searcher::new(alloc, algebra, graph),
+        None => Searcher::new(shared.alloc(), algebra, shared.graph()),
     }
 }
 
 /// The code of a target, by a search that goes on as far as it needs; none if the stop is set
 /// before.
 fn searched_code<A: PathAlgebra>(
-    algebra: A,
     graph: &OutGraph,
     searcher: &mut Searcher<A>,
     stop: &Option<Stop>,
     source: Vertex,
     target: Vertex,
 ) -> Result<Option<u64>, Memory>
-    requires low { HasLowCodes (A.meaning algebra) }
-    requires searcher { IsSearcherOf algebra graph.now searcher.old }
+    requires low { HasLowCodes (A.meaning searcher.old.algebra) }
+    requires searcher { searcher.old.roads ≡ graph.now }
     requires source { HasVertex graph.now source }
     requires target { HasVertex graph.now target }
-    ensures searcher { IsSearcherOf algebra graph.now searcher.new }
-    ensures code { IfOk result (λ code. IfSome code (IsTableCode (A.meaning algebra) graph.now source
-        target)) }
+    ensures searcher { IsOfSameGraph searcher.old searcher.new }
+    ensures code { IfOk result (λ code. IfSome code (IsTableCode (A.meaning searcher.old.algebra)
+        graph.now source target)) }
     ensures stopped { IfOk result (λ code. code ≡ None → IsSome stop.now) }
 {
+    let algebra = searcher.algebra();
     graph.holds();
     laws_hold(algebra);
     if is_stopped(stop) {
@@ -66,28 +72,27 @@ fn searched_code<A: PathAlgebra>(
 /// The codes from one source, by a search: for each target it goes on as far as it needs. One that
 /// is kept from a row of the same source goes on too. None if the stop is set before.
 fn searched_row<A: PathAlgebra>(
-    alloc: Global,
     algebra: A,
-    graph: &OutGraph,
+    shared: &SharedGraph,
     kept: &mut Option<Searcher<A>>,
     stop: &Option<Stop>,
-    source: Vertex,
-    targets: &[u32],
+    ends: &RowEnds<'_>,
 ) -> Result<Option<Vec<u64>>, Memory>
     requires low { HasLowCodes (A.meaning algebra) }
-    requires kept { IfSome kept.old (IsSearcherOf algebra graph.now) }
-    requires source { HasVertex graph.now source }
-    requires targets { All (HasVertex graph.now) targets.now }
-    ensures kept { OnOk result (IfSome kept.new (IsSearcherOf algebra graph.now)) }
+    requires kept { IfSome kept.old (IsSearcherOf algebra shared.now) }
+    requires source { HasVertex shared.now ends.now.source }
+    requires targets { All (HasVertex shared.now) ends.now.targets.now }
+    ensures kept { OnOk result (IfSome kept.new (IsSearcherOf algebra shared.now)) }
     ensures row { IfOk result (λ row. IfSome row (λ row. AreRowCodes (A.meaning algebra)
-        graph.now targets.now source row.items)) }
+        shared.now ends.now.targets.now ends.now.source row.items)) }
     ensures stopped { IfOk result (λ row. row ≡ None → IsSome stop.now) }
 {
-    let mut searcher = take_searcher(alloc, algebra, graph, kept)?;
-    let mut row = Vec::with_capacity(alloc, targets.len())?;
-    for target in targets {
+    let (graph, source) = (shared.graph(), ends.source);
+    let mut searcher = take_searcher(algebra, shared, kept)?;
+    let mut row = Vec::with_capacity(shared.alloc(), ends.targets.len())?;
+    for target in ends.targets {
         let target = Vertex(*target);
-        let Some(code) = searched_code(algebra, graph, &mut searcher, stop, source, target)? else {
+        let Some(code) = searched_code(graph, &mut searcher, stop, source, target)? else {
             return Ok(None);
         };
         push_code(&mut row, code)?;
@@ -98,28 +103,26 @@ fn searched_row<A: PathAlgebra>(
 
 /// The codes from one source; none if the stop is set before.
 pub(crate) fn row<A: PathAlgebra>(
-    alloc: Global,
     algebra: A,
     shared: &mut SharedGraph,
     kept: &mut Option<Searcher<A>>,
     stop: &Option<Stop>,
-    source: Vertex,
-    targets: &[u32],
+    ends: &RowEnds<'_>,
 ) -> Result<Option<Vec<u64>>, Memory>
     requires low { HasLowCodes (A.meaning algebra) }
     requires kept { IfSome kept.old (IsSearcherOf algebra shared.old) }
-    requires source { HasVertex shared.old source }
-    requires targets { All (HasVertex shared.old) targets.now }
+    requires source { HasVertex shared.old ends.now.source }
+    requires targets { All (HasVertex shared.old) ends.now.targets.now }
     ensures graph { shared.new ≡ shared.old }
     ensures kept { OnOk result (IfSome kept.new (IsSearcherOf algebra shared.old)) }
     ensures row { IfOk result (λ row. IfSome row (λ row. AreRowCodes (A.meaning algebra)
-        shared.old targets.now source row.items)) }
+        shared.old ends.now.targets.now ends.now.source row.items)) }
     ensures stopped { IfOk result (λ row. row ≡ None → IsSome stop.now) }
 {
     let Some(mut factored) = shared.take_factored(algebra) else {
-        return searched_row(alloc, algebra, shared.graph(), kept, stop, source, targets);
+        return searched_row(algebra, shared, kept, stop, ends);
     };
-    let row = factored.row(alloc, algebra, stop, source, targets);
+    let row = factored.row(algebra, stop, ends);
     shared.put_factored(factored);
     row
 }

@@ -18,17 +18,15 @@ use crate::shared_graph::SharedGraph;
 use crate::sources::{are_vertices, vertices_of};
 use crate::status::{DONE, MEMORY, NO_ALGEBRA, NO_ROOM, NO_VERTEX, STOPPED};
 use crate::stopping::is_stopped;
-use crate::tree_lists::{TreeLists, write_found, write_lists};
+use crate::tree_lists::{Solution, TreeLists, write_found, write_lists};
 use path_algebra::{AlgebraChoice, Labels, PathAlgebra, with_algebra};
 use path_plain::{Halt, Stop};
 use road_graph::{Memory, OutGraph, Vertex};
 use route_tree::Tree;
-use std::alloc::Global;
 use tree_search::solve_with_tree;
 
 /// The labels from some sources, and their tree.
 fn solve<A: PathAlgebra>(
-    alloc: Global,
     algebra: A,
     shared: &mut SharedGraph,
     sources: &[Vertex],
@@ -39,10 +37,10 @@ fn solve<A: PathAlgebra>(
     ensures tree { IfOk result (λ s. IsTree (A.meaning algebra) shared.old sources.now s.1) }
 {
     let Some(factored) = shared.take_factored(algebra) else {
-        return solve_with_tree(alloc, algebra, shared.graph(), sources);
+        return solve_with_tree(shared.alloc(), algebra, shared.graph(), sources);
     };
-    let found = match shared.by_head(alloc) {
-        Ok(by_head) => factored.tree(alloc, algebra, &by_head, sources),
+    let found = match shared.by_head() {
+        Ok(by_head) => factored.tree(algebra, &by_head, sources),
         Err(Memory) => Err(Memory),
     };
     shared.put_factored(factored);
@@ -52,7 +50,6 @@ fn solve<A: PathAlgebra>(
 /// Finds a tree and writes it: by the factors, if there are any, or by a search that does not give
 /// up.
 fn answer<A: PathAlgebra>(
-    alloc: Global,
     algebra: A,
     shared: &mut SharedGraph,
     sources: &[Vertex],
@@ -67,10 +64,10 @@ fn answer<A: PathAlgebra>(
     ensures kept { (result ≡ pos 0 → ⊥) → AreUnwritten lists.old lists.new }
     ensures status { IsOneOf (0 ∷ 3 ∷ []) result }
 {
-    match solve(alloc, algebra, shared, sources) {
+    match solve(algebra, shared, sources) {
         Ok((labels, tree)) => {
-            let graph = shared.graph();
-            write_lists(algebra, graph, sources, &labels, &tree, lists);
+            let solution = Solution { labels, tree };
+            write_lists(algebra, shared.graph(), sources, &solution, lists);
             DONE
         }
         Err(Memory) => MEMORY,
@@ -80,7 +77,6 @@ fn answer<A: PathAlgebra>(
 /// Finds a tree by a search with the kept searcher and writes it, unless the search is to give up
 /// before. Whether it is written.
 fn answer_searched(
-    alloc: Global,
     chosen: AlgebraChoice,
     shared: &mut SharedGraph,
     sources: &[Vertex],
@@ -96,7 +92,7 @@ fn answer_searched(
     ensures kept { (result ≡ Ok true → ⊥) → AreUnwritten lists.old lists.new }
     ensures halts { result ≡ Ok false → CanHalt halt.old }
 {
-    let (kept, is_found) = search(alloc, chosen, shared, sources, halt)?;
+    let (kept, is_found) = search(chosen, shared, sources, halt)?;
     if is_found {
         let graph = shared.graph();
         with_algebra!(
@@ -115,15 +111,9 @@ fn few_entries(graph: &OutGraph) -> u32 {
     500 + graph.vertices() / 64
 }
 
-/// Whether the graph is factored for the chosen algebra.
-fn is_factored(chosen: AlgebraChoice, shared: &SharedGraph) -> bool {
-    with_algebra!(chosen, |algebra| shared.is_factored_for(algebra))
-}
-
 /// Finds a tree by the chosen algebra and writes it: on a factored graph by a search if that ends
 /// soon, and with a stop by one that looks at it.
 fn answer_chosen(
-    alloc: Global,
     chosen: AlgebraChoice,
     shared: &mut SharedGraph,
     stop: &Option<Stop>,
@@ -140,12 +130,12 @@ fn answer_chosen(
     ensures stopped { result ≡ pos 45 → IsSome stop.now }
     ensures status { IsOneOf (0 ∷ 3 ∷ 45 ∷ []) result }
 {
-    let Ok(list) = vertices_of(alloc, sources) else {
+    let Ok(list) = vertices_of(shared.alloc(), sources) else {
         return MEMORY;
     };
-    if is_factored(chosen, shared) {
+    if shared.is_factored_for(chosen) {
         let mut few = Halt::After(few_entries(shared.graph()));
-        let written = answer_searched(alloc, chosen, shared, &list, &mut few, lists);
+        let written = answer_searched(chosen, shared, &list, &mut few, lists);
         if let Ok(true) = written {
             return DONE;
         }
@@ -154,16 +144,13 @@ fn answer_chosen(
         }
     } else if stop.is_some() {
         let mut halt = Halt::by(stop);
-        return match answer_searched(alloc, chosen, shared, &list, &mut halt, lists) {
+        return match answer_searched(chosen, shared, &list, &mut halt, lists) {
             Ok(true) => DONE,
             Ok(false) => STOPPED,
             Err(Memory) => MEMORY,
         };
     }
-    with_algebra!(
-        chosen,
-        |algebra| answer(alloc, algebra, shared, &list, lists)
-    )
+    with_algebra!(chosen, |algebra| answer(algebra, shared, &list, lists))
 }
 
 /// Whether so many places are one for each of n vertices, or none.
@@ -187,7 +174,6 @@ fn have_places_or_none(n: usize, lists: &TreeLists<'_>) -> bool
 /// soon after the stop is set, if there is one.
 #[tactic(auto, using(path_algebra::proofs::Chosen::of_numbered))]
 pub fn answer_tree(
-    alloc: Global,
     by: AlgebraNumber,
     shared: &mut SharedGraph,
     stop: &Option<Stop>,
@@ -214,5 +200,5 @@ pub fn answer_tree(
     let Some(chosen) = AlgebraChoice::numbered(by.algebra, by.limit) else {
         return NO_ALGEBRA;
     };
-    answer_chosen(alloc, chosen, shared, stop, sources, lists)
+    answer_chosen(chosen, shared, stop, sources, lists)
 }

@@ -24,6 +24,13 @@ pub struct TreeLists<'a> {
     pub parents: &'a mut [u32],
 }
 
+/// The best values of the vertices from some sources, and their tree.
+#[derive(Drop)]
+pub(crate) struct Solution<V: Copy> {
+    pub(crate) labels: Labels<V>,
+    pub(crate) tree: Tree,
+}
+
 pub(crate) fn hops_for(hops: Option<u32>) -> u32
     ensures { result ≡ number_for hops }
 {
@@ -47,14 +54,13 @@ fn numbers_of<A: PathAlgebra>(
     algebra: A,
     graph: &OutGraph,
     sources: &[Vertex],
-    labels: &Labels<A::Value>,
-    tree: &Tree,
+    solution: &Solution<A::Value>,
     v: Vertex,
 ) -> (u64, u32, u32)
     requires low { HasLowCodes (A.meaning algebra) }
     requires vertex { HasVertex graph.now v }
-    requires best { AreBest (A.meaning algebra) graph.now sources.now labels.now }
-    requires tree { IsTree (A.meaning algebra) graph.now sources.now tree.now }
+    requires best { AreBest (A.meaning algebra) graph.now sources.now solution.now.labels }
+    requires tree { IsTree (A.meaning algebra) graph.now sources.now solution.now.tree }
     ensures { IsVertexLine (A.meaning algebra) graph.now sources.now v
         (line_of result.0 result.1 result.2) }
 {
@@ -62,9 +68,9 @@ fn numbers_of<A: PathAlgebra>(
     laws_hold(algebra);
     labels_and_trees_agree(algebra);
     (
-        code_for(algebra, labels.of(v)),
-        hops_for(tree.hops(v)),
-        parent_for(tree.parent(v)),
+        code_for(algebra, solution.labels.of(v)),
+        hops_for(solution.tree.hops(v)),
+        parent_for(solution.tree.parent(v)),
     )
 }
 
@@ -82,21 +88,20 @@ pub(crate) fn write_lists<A: PathAlgebra>(
     algebra: A,
     graph: &OutGraph,
     sources: &[Vertex],
-    labels: &Labels<A::Value>,
-    tree: &Tree,
+    solution: &Solution<A::Value>,
     lists: &mut TreeLists<'_>,
 )
     requires low { HasLowCodes (A.meaning algebra) }
     requires places { HavePlacesOrNone graph.now.vertices lists.old }
-    requires best { AreBest (A.meaning algebra) graph.now sources.now labels.now }
-    requires tree { IsTree (A.meaning algebra) graph.now sources.now tree.now }
+    requires best { AreBest (A.meaning algebra) graph.now sources.now solution.now.labels }
+    requires tree { IsTree (A.meaning algebra) graph.now sources.now solution.now.tree }
     ensures same { AreSameLists lists.old lists.new }
     ensures tree { HaveTree (A.meaning algebra) graph.now sources.now lists.new }
 {
     graph.holds();
     for i in 0..graph.vertices() as usize {
         let v = Vertex(i as u32 + 1);
-        let (code, near, parent) = numbers_of(algebra, graph, sources, labels, tree, v);
+        let (code, near, parent) = numbers_of(algebra, graph, sources, solution, v);
         put(lists.codes, i, code);
         put(lists.hops, i, near);
         put(lists.parents, i, parent);

@@ -32,7 +32,7 @@ pub extern "C" fn diffuse_graph_factor(
     let Some(mut owner) = take(alloc, handle) else {
         return CLOSED;
     };
-    let status = factor_graph(alloc, algebra, &mut owner.shared);
+    let status = factor_graph(algebra, &mut owner.shared);
     put(handle, owner);
     status
 }

@@ -60,7 +60,7 @@ pub extern "C" fn diffuse_graph_near(
         parents,
         count,
     };
-    let status = answer_near(alloc, by, shared, stop, sources, &mut lists);
+    let status = answer_near(by, shared, stop, sources, &mut lists);
     put(handle, owner);
     status
 }

@@ -129,7 +129,7 @@ pub extern "C" fn diffuse_graph_route_arcs(
         numbers,
         arcs,
     };
-    let status = answer_route_arcs(alloc, by, &mut parts.shared, stop, ends, &mut lent);
+    let status = answer_route_arcs(by, &mut parts.shared, stop, ends, &mut lent);
     put(handle, owner);
     status
 }

@@ -62,7 +62,7 @@ pub(crate) fn try_clone(
     ensures stop { IfOk result (λ b. b.value.stop ≡ None) }
     ensures numbers { IfOk result (λ b. b.value.numbers ≡ numbers.now) }
 {
-    let _by_head = shared.by_head(alloc)?;
+    let _by_head = shared.by_head()?;
     let second = shared.try_clone()?;
     let numbers = numbers_again(numbers)?;
     let mut owner = boxed(alloc, second)?;

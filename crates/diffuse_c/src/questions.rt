@@ -57,7 +57,7 @@ pub extern "C" fn diffuse_graph_route(
         hops,
         vertices: room,
     };
-    let status = answer_route(alloc, by, shared, stop, ends, &mut lent);
+    let status = answer_route(by, shared, stop, ends, &mut lent);
     put(handle, owner);
     status
 }
@@ -100,7 +100,7 @@ pub extern "C" fn diffuse_graph_tree(
         hops,
         parents,
     };
-    let status = answer_tree(alloc, by, shared, stop, sources, &mut lists);
+    let status = answer_tree(by, shared, stop, sources, &mut lists);
     put(handle, owner);
     status
 }
@@ -145,7 +145,7 @@ pub extern "C" fn diffuse_graph_check(
         parents,
     };
     let mut first = FirstRefuted { vertex, reason };
-    let status = check_tree(alloc, by, &mut owner.shared, sources, &tree, &mut first);
+    let status = check_tree(by, &mut owner.shared, sources, &tree, &mut first);
     put(handle, owner);
     status
 }

@@ -32,7 +32,7 @@ fn owner_reweighed(
     ensures fault { IfErr result (IsReweighFault first.now arcs.now) }
 {
     let graph = graph_of(alloc, first.graph().vertices(), arcs)?;
-    let second = match reweigh_graph(alloc, first, graph) {
+    let second = match reweigh_graph(first, graph) {
         Ok(second) => second,
         Err(status) => return Err(status),
     };

@@ -44,7 +44,7 @@ pub extern "C" fn diffuse_graph_table(
     let Owner { shared, stop, .. } = &mut *owner;
     let by = AlgebraNumber { algebra, limit };
     let ends = TableEnds { sources, targets };
-    let status = answer_table(alloc, by, shared, stop, &ends, codes);
+    let status = answer_table(by, shared, stop, &ends, codes);
     put(handle, owner);
     status
 }

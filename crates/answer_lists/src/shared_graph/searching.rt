@@ -16,15 +16,11 @@ use path_algebra::AlgebraChoice;
 use path_plain::Halt;
 use road_graph::{InGraph, Memory, Vertex};
 use route_tree::Nearby;
-use std::alloc::{AllocError, Global};
+use std::alloc::AllocError;
 
 impl SharedGraph {
     /// Takes the searcher out if it serves this algebra. Else it is freed, and another is made.
-    fn take_searcher(
-        &mut self,
-        alloc: Global,
-        chosen: AlgebraChoice,
-    ) -> Result<Box<KeptSearcher>, Memory>
+    fn take_searcher(&mut self, chosen: AlgebraChoice) -> Result<Box<KeptSearcher>, Memory>
         ensures kept { self.new ≡ self.old }
         ensures searcher { IfOk result (λ k. IsKeptFor chosen self.old k.value) }
     {
@@ -33,8 +29,8 @@ impl SharedGraph {
                 return Ok(searcher);
             }
         }
-        let searcher = KeptSearcher::new(alloc, chosen, &self.graph)?;
-        Ok(Box::new(alloc, searcher).map_err(AllocError::from)?)
+        let searcher = KeptSearcher::new(self.alloc, chosen, &self.graph)?;
+        Ok(Box::new(self.alloc, searcher).map_err(AllocError::from)?)
     }
 
     /// Searches for the best code and the route, none if no walk to the target has a value; or
@@ -42,7 +38,6 @@ impl SharedGraph {
     /// search from the same source goes on.
     pub(crate) fn search(
         &mut self,
-        alloc: Global,
         chosen: AlgebraChoice,
         by_head: &InGraph,
         ends: (Vertex, Vertex),
@@ -54,7 +49,7 @@ impl SharedGraph {
         ensures found { Under chosen (λ V A. IfOk result (IsFoundIfNear A self.old ends.0 ends.1)) }
         ensures halts { IfOk result (λ near. near ≡ Undecided → CanHalt halt.old) }
     {
-        let mut searcher = self.take_searcher(alloc, chosen)?;
+        let mut searcher = self.take_searcher(chosen)?;
         let found = searcher.route(&self.graph, by_head, ends, halt);
         self.searcher = Some(searcher);
         found
@@ -62,11 +57,7 @@ impl SharedGraph {
 
     /// Takes the searcher for trees out if it serves this algebra. Else it is freed, and another is
     /// made.
-    pub(crate) fn take_tree(
-        &mut self,
-        alloc: Global,
-        chosen: AlgebraChoice,
-    ) -> Result<KeptTree, Memory>
+    pub(crate) fn take_tree(&mut self, chosen: AlgebraChoice) -> Result<KeptTree, Memory>
         ensures kept { self.new ≡ self.old }
         ensures tree { IfOk result (IsTreeKeptFor chosen self.old) }
     {
@@ -75,7 +66,7 @@ impl SharedGraph {
                 return Ok(tree);
             }
         }
-        KeptTree::new(alloc, chosen, &self.graph)
+        KeptTree::new(self.alloc, chosen, &self.graph)
     }
 
     /// Puts a searcher for trees in.

@@ -5,6 +5,6 @@ use Rattle.answer_lists.proofs.factored_graph.FactoredGraph.ask_row.Given as goa
 abbrev pub invariant-loop-target : goal.invariant-loop-target
 invariant-loop-target g l = record {
   same : l.asker.factors ≡ l.self;
-  source : l.asker.sources ≡ l.fn.source ∷ [];
-  row : AreRowCodes (g.A.PathAlgebra.meaning l.algebra) l.self.roads (take l.target-index l.targets) l.fn.source l.row.items;
+  source : l.asker.sources ≡ l.ends.source ∷ [];
+  row : AreRowCodes (g.A.PathAlgebra.meaning l.algebra) l.self.roads (take l.target-index l.ends.targets.now) l.ends.source l.row.items;
 }

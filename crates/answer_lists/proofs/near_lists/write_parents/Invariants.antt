@@ -2,7 +2,7 @@ use Rattle.std.proofs.Common.{◌≡◌, length, take, drop}
 use Rattle.std.specs.Prelude.{map}
 use Rattle.answer_lists.specs.KeptTree.{tree_in, vertices_in}
 use Rattle.answer_lists.specs.Near.{parent_at}
-use Rattle.answer_lists.proofs.near_lists.fill_parents.Given as goal
+use Rattle.answer_lists.proofs.near_lists.write_parents.Given as goal
 
 abbrev pub invariant-loop-i : goal.invariant-loop-i
 invariant-loop-i l = record {

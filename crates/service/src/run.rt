@@ -6,13 +6,12 @@ ghost use Rattle.road_files.specs.Asked.{Asked};
 ghost use Rattle.batch_run.specs.Causes.{number_of};
 ghost use Rattle.batch_settings.specs.Choice.{without_diffusions};
 ghost use Rattle.batch_run.specs.Factored.{HasFactorsOf, is_by_factors};
-ghost use Rattle.batch_settings.specs.InRange.{AreInRange};
 ghost use Rattle.batch_inputs.specs.Orders.{HasReadOrdered, IsOrderedFile, IsRunFile};
 ghost use Rattle.batch_inputs.specs.Spelled.{IsReadAs};
 ghost use Rattle.batch_inputs.specs.InputFaults.{IsNumberOf};
 ghost use Rattle.batch_run.specs.Solvers.{IsSameSolver, graph_of, is_without_diffusions};
 ghost use Rattle.batch_run.specs.Unsuited.{IsRefusedUnsuited};
-ghost use Rattle.service.specs.Answering.{MayAnswer};
+ghost use Rattle.service.specs.Giving.{MayGiveOver};
 ghost use Rattle.service.specs.GraphInput.{HasReadGraphOrdered, IsGraphFile};
 ghost use Rattle.service.specs.Over.{RanOver, fault_of_stop};
 ghost use Rattle.service.specs.Reading.{ToldOfService, ToldReads};
@@ -124,27 +123,24 @@ fn serve_over<
     T: Gate,
     O: ReadWatcher<Q, W>,
 >(
-    run: &Run<'_, R, T>,
-    algebra: A,
+    answers: &BatchAnswers<'_, A, R, T>,
     solver: &mut Solver<A>,
     requests_in: &mut Q,
     out: &mut W,
     watcher: &mut O,
 ) -> Result<(), RunFault>
-    requires in_range { AreInRange run.now.settings.now }
-    requires kind { is_without_diffusions solver.old ≡ without_diffusions run.now.settings.now }
-    requires factors { is_by_factors solver.old ≡ run.now.settings.now.factors }
-    ensures ran { RanOver (A.meaning algebra) run.now.settings.now (T.may_answer run.now.gate.now)
-        (graph_of solver.old) (Q.seen requests_in.old) (Q.seen requests_in.new) (W.seen out.old)
-        (W.seen out.new) result }
-    ensures told { ToldReads (MayAnswer (A.meaning algebra) run.now.settings.now
-        (T.may_answer run.now.gate.now) (graph_of solver.old)) (graph_of solver.old).vertices
-        O.may_become watcher.old watcher.new (Q.seen requests_in.old) (Q.seen requests_in.new)
-        (W.seen out.old) }
+    requires kind { is_without_diffusions solver.old ≡
+        without_diffusions answers.now.run.now.settings.now }
+    requires factors { is_by_factors solver.old ≡ answers.now.run.now.settings.now.factors }
+    ensures ran { RanOver (A.meaning answers.now.algebra) answers.now.run.now.settings.now
+        (T.may_answer answers.now.run.now.gate.now) (graph_of solver.old) (Q.seen requests_in.old)
+        (Q.seen requests_in.new) (W.seen out.old) (W.seen out.new) result }
+    ensures told { ToldReads (MayGiveOver A.meaning T.may_answer answers.now (graph_of solver.old))
+        (graph_of solver.old).vertices O.may_become watcher.old watcher.new
+        (Q.seen requests_in.old) (Q.seen requests_in.new) (W.seen out.old) }
 {
-    factor_graph(run, algebra, solver)?;
-    let answers = BatchAnswers { run, algebra };
-    match serve(&answers, solver, requests_in, out, watcher) {
+    factor_graph(answers.run, answers.algebra, solver)?;
+    match serve(answers, solver, requests_in, out, watcher) {
         Ok(()) => Ok(()),
         Err(stop) => Err(fault_of_stop(stop)),
     }
@@ -229,8 +225,9 @@ pub fn run_service_watched<
     if !run.settings.suit(algebra) {
         return Err(fault_of_run(SETTINGS));
     }
+    let answers = BatchAnswers { run, algebra };
     match read_solver(run, graph_in, order_in) {
-        Ok(mut solver) => serve_over(run, algebra, &mut solver, requests_in, out, watcher),
+        Ok(mut solver) => serve_over(&answers, &mut solver, requests_in, out, watcher),
         Err(fault) => Err(fault),
     }
 }

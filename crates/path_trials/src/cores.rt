@@ -3,7 +3,7 @@
 
 ghost use Rattle.std.specs.Prelude.{◌≡◌};
 
-use crate::graphs::{graph_of, push_both};
+use crate::graphs::graph_of;
 use path_algebra::{PathAlgebra, Shortest};
 use road_graph::{ArcNo, Graph, Vertex};
 use scholten_core::{Core, Event, Token};
@@ -29,6 +29,10 @@ struct Trial<'g, A: PathAlgebra> {
     ghost same: { core.diffusion.roads ≡ graph.now },
 }
 
+/// What a core shows of a vertex: its label, the arc that engages it, and how many arcs out of it are
+/// busy.
+type Shown<V> = (Option<V>, Option<ArcNo>, u32);
+
 impl<'g, A: PathAlgebra> Trial<'g, A> {
     /// A fresh core with source 1.
     fn open(rt: &(impl Abort + AllocGlobal), algebra: A, graph: &'g Graph) -> Self {
@@ -37,19 +41,14 @@ impl<'g, A: PathAlgebra> Trial<'g, A> {
         Trial { graph, core }
     }
 
-    fn label(&self, rt: &impl Abort, v: u32) -> Option<A::Value> {
-        assert!(rt; self.graph.has(Vertex(v)));
-        self.core.label(Vertex(v))
-    }
-
-    fn engager(&self, rt: &impl Abort, v: u32) -> Option<ArcNo> {
-        assert!(rt; self.graph.has(Vertex(v)));
-        self.core.engager(Vertex(v))
-    }
-
-    fn deficit(&self, rt: &impl Abort, v: u32) -> u32 {
-        assert!(rt; self.graph.has(Vertex(v)));
-        self.core.deficit(Vertex(v))
+    fn shown(&self, rt: &impl Abort, v: u32) -> Shown<A::Value> {
+        let v = Vertex(v);
+        assert!(rt; self.graph.has(v));
+        (
+            self.core.label(v),
+            self.core.engager(v),
+            self.core.deficit(v),
+        )
     }
 
     fn token(&self, rt: &impl Abort, a: u32) -> Token<A::Value> {
@@ -57,39 +56,35 @@ impl<'g, A: PathAlgebra> Trial<'g, A> {
         self.core.token(ArcNo(a))
     }
 
-    /// Makes the event of an arc, if one is enabled.
-    fn step(&mut self, a: u32) {
-        if self.core.deliver(ArcNo(a)).is_err() {
-            let _none = self.core.accept(ArcNo(a));
-        }
-    }
-
-    /// Goes over all arcs, round after round, until the diffusion has ended.
-    fn run_to_the_end(&mut self, rt: &impl Abort, arcs: u32) {
+    /// Goes over all arcs, round after round, until the diffusion has ended, and says whether it has.
+    fn ends(&mut self, arcs: u32) -> bool {
         for _round in 0..10_000 {
             for a in 0..arcs {
-                self.step(a);
+                if self.core.deliver(ArcNo(a)).is_err() {
+                    let _none = self.core.accept(ArcNo(a));
+                }
             }
             if self.core.ended() {
-                return;
+                return true;
             }
         }
-        assert!(rt; self.core.ended());
+        false
     }
 }
 
-/// An event, and whether it was enabled; or what is to be seen of a core.
+/// An event, and whether it was enabled; events, and how many were; or what is to be seen of a core.
 #[derive(Clone, Copy)]
 enum Step {
     Deliver(u32, bool),
     Accept(u32, bool),
+    /// The events of `TWICE`.
+    Twice(usize),
+    /// Goes over so many arcs until the diffusion has ended.
+    ToTheEnd(u32),
     /// What is on an arc.
     OnArc(u32, Token<u64>),
-    Label(u32, Option<u64>),
-    /// The arc that engages a vertex.
-    Engager(u32, Option<ArcNo>),
-    /// How many arcs out of a vertex are busy.
-    Deficit(u32, u32),
+    /// What is shown of a vertex.
+    Shows(u32, Shown<u64>),
     /// Whether the diffusion has ended, with every arc idle.
     Ended(bool),
 }
@@ -103,43 +98,42 @@ fn is_right<A: PathAlgebra<Value = u64>>(
     match step {
         Step::Deliver(a, had) => trial.core.deliver(ArcNo(a)).is_ok() == had,
         Step::Accept(a, had) => trial.core.accept(ArcNo(a)).is_ok() == had,
+        Step::Twice(enabled) => trial.core.run(&TWICE) == enabled,
+        Step::ToTheEnd(arcs) => trial.ends(arcs),
         Step::OnArc(a, wanted) => trial.token(rt, a) == wanted,
-        Step::Label(v, wanted) => trial.label(rt, v) == wanted,
-        Step::Engager(v, wanted) => trial.engager(rt, v) == wanted,
-        Step::Deficit(v, wanted) => trial.deficit(rt, v) == wanted,
+        Step::Shows(v, wanted) => trial.shown(rt, v) == wanted,
         Step::Ended(wanted) => (trial.core.ended(), trial.core.quiet()) == (wanted, wanted),
     }
 }
 
-/// Asserts steps, one after the other.
+/// Asserts steps from the opening, one after the other.
 fn assert_steps<A: PathAlgebra<Value = u64>>(
-    rt: &impl Abort,
-    trial: &mut Trial<'_, A>,
+    rt: &(impl Abort + AllocGlobal),
+    algebra: A,
+    graph: &Graph,
     steps: &[Step],
 ) {
+    let mut trial = Trial::open(rt, algebra, graph);
     for (i, step) in steps.iter().enumerate() {
-        assert!(rt; is_right(rt, trial, *step), "step {i}");
+        assert!(rt; is_right(rt, &mut trial, *step), "step {i}");
     }
 }
 
 /// One arc of weight 7, from its first message to its last signal; arcs that are none have neither.
-const STEP_BY_STEP: [Step; 22] = [
+const STEP_BY_STEP: [Step; 19] = [
     Step::OnArc(0, Token::Message(0)),
     Step::Deliver(1, false),
     Step::Deliver(0, true),
-    Step::Label(1, Some(0)),
-    Step::Engager(1, Some(ArcNo(0))),
+    Step::Shows(1, (Some(0), Some(ArcNo(0)), 1)),
     Step::OnArc(0, Token::Held),
     Step::OnArc(1, Token::Message(7)),
-    Step::Deficit(1, 1),
     Step::Accept(0, false),
     Step::Deliver(1, true),
-    Step::Label(2, Some(7)),
-    Step::Engager(2, None),
+    Step::Shows(2, (Some(7), None, 0)),
     Step::OnArc(1, Token::Signal),
     Step::Accept(1, true),
     Step::OnArc(1, Token::Idle),
-    Step::Engager(1, None),
+    Step::Shows(1, (Some(0), None, 0)),
     Step::OnArc(0, Token::Signal),
     Step::Ended(false),
     Step::Accept(0, true),
@@ -148,31 +142,30 @@ const STEP_BY_STEP: [Step; 22] = [
     Step::Accept(4_000_000_000, false),
 ];
 
-#[test]
-fn core_step_by_step(rt: HostRuntime) {
-    let graph = graph_of(&rt, 2, &[(1, 2, 7)]);
-    let mut trial = Trial::open(&rt, Shortest, &graph);
-    assert_steps(&rt, &mut trial, &STEP_BY_STEP);
-}
+/// Only what is enabled is counted.
+const COUNTED: [Step; 2] = [Step::Twice(4), Step::Ended(true)];
 
 #[test]
-fn events_are_counted_once(rt: HostRuntime) {
+fn one_arc_step_by_step(rt: HostRuntime) {
     let graph = graph_of(&rt, 2, &[(1, 2, 7)]);
-    let mut trial = Trial::open(&rt, Shortest, &graph);
-    assert!(rt; trial.core.run(&TWICE) == 4);
-    assert!(rt; trial.core.ended());
+    assert_steps(&rt, Shortest, &graph, &STEP_BY_STEP);
+    assert_steps(&rt, Shortest, &graph, &COUNTED);
 }
+
+/// The labels of the hub of a star and of a leaf, once it has ended.
+const OF_A_STAR: [Step; 3] = [
+    Step::ToTheEnd(80_001),
+    Step::Shows(1, (Some(0), None, 0)),
+    Step::Shows(40_001, (Some(5), None, 0)),
+];
 
 /// A hub with 40,000 leaves, each joined to it both ways.
 #[test]
 fn star_of_forty_thousand_leaves(rt: HostRuntime) {
     let mut arcs = Vec::new(rt.alloc());
     for leaf in 2..40_002 {
-        push_both(&rt, &mut arcs, (1, leaf), (5, 5));
+        arcs.push((1, leaf, 5)).expect(&rt, "memory");
+        arcs.push((leaf, 1, 5)).expect(&rt, "memory");
     }
-    let graph = graph_of(&rt, 40_001, &arcs);
-    let mut trial = Trial::open(&rt, Shortest, &graph);
-    trial.run_to_the_end(&rt, 80_001);
-    let ends = [Step::Label(1, Some(0)), Step::Label(40_001, Some(5))];
-    assert_steps(&rt, &mut trial, &ends);
+    assert_steps(&rt, Shortest, &graph_of(&rt, 40_001, &arcs), &OF_A_STAR);
 }

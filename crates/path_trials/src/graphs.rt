@@ -8,17 +8,6 @@ pub(crate) fn graph_of(rt: &(impl Abort + AllocGlobal), n: u32, arcs: &[(u32, u3
     made(rt.alloc(), n, arcs).expect(rt, "refused")
 }
 
-/// Adds an arc from one vertex to another, and one back.
-pub(crate) fn push_both(
-    rt: &impl Abort,
-    arcs: &mut Vec<(u32, u32, u32)>,
-    (tail, head): (u32, u32),
-    (there, back): (u32, u32),
-) {
-    arcs.push((tail, head, there)).expect(rt, "memory");
-    arcs.push((head, tail, back)).expect(rt, "memory");
-}
-
 /// The first arc with an end that is no vertex is reported, and the arcs come back.
 #[test]
 fn refusals_hand_back(rt: HostRuntime) {

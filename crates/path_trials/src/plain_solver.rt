@@ -5,7 +5,7 @@ use crate::graphs::graph_of;
 use crate::samples::FIVE;
 use path_algebra::{Labels, Shortest};
 use path_plain::{best_values_exist, labels_serve_nearer_targets, solve_outgoing, solve_to};
-use road_graph::Vertex;
+use road_graph::{OutGraph, Vertex};
 use std::process::Abort;
 
 /// Asserts the labels, vertex by vertex.
@@ -18,6 +18,19 @@ fn assert_labels(rt: &impl Abort, labels: &Labels<u64>, wanted: &[Option<u64>]) 
     }
 }
 
+/// Asserts the labels from vertex 1 of a search as far as a target.
+fn assert_to(
+    rt: &(impl Abort + AllocGlobal),
+    graph: &OutGraph,
+    target: u32,
+    wanted: &[Option<u64>],
+) {
+    let (source, target) = (Vertex(1), Vertex(target));
+    assert!(rt; graph.has(source) && graph.has(target));
+    let labels = solve_to(rt.alloc(), Shortest, graph, &[source], target);
+    assert_labels(rt, &labels.expect(rt, "memory"), wanted);
+}
+
 // The search to 3 stops before 2 is settled, by which 4 has 8; the one to 5, which no walk reaches,
 // goes on to the end.
 #[test]
@@ -25,17 +38,13 @@ fn five_vertices_as_far_as_a_target(rt: HostRuntime) {
     labels_serve_nearer_targets(Shortest);
     best_values_exist(Shortest);
     let graph = graph_of(&rt, 5, &FIVE);
-    let graph = graph.outgoing();
-    for &(target, wanted) in &[
+    for (target, wanted) in &[
         (1, [Some(0), Some(4), Some(1), None, None]),
         (3, [Some(0), Some(3), Some(1), Some(9), None]),
         (2, [Some(0), Some(3), Some(1), Some(8), None]),
         (5, [Some(0), Some(3), Some(1), Some(8), None]),
     ] {
-        let (source, target) = (Vertex(1), Vertex(target));
-        assert!(rt; graph.has(source) && graph.has(target));
-        let labels = solve_to(rt.alloc(), Shortest, graph, &[source], target);
-        assert_labels(&rt, &labels.expect(&rt, "memory"), &wanted);
+        assert_to(&rt, graph.outgoing(), *target, wanted);
     }
 }
 

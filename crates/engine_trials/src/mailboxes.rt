@@ -3,7 +3,7 @@ ghost use Rattle.std.specs.Prelude.{◌≡◌, ◌≢◌, ◌<◌, IsTrue, map};
 ghost use Rattle.shard_part.specs.Weights.{All};
 ghost use Rattle.post_floor.specs.Data.{IsAt, seat_of};
 
-use crate::graphs::{Ground, two_vertices};
+use crate::graphs::{Ground, TWO, ground_of};
 use crate::parts::parts_of;
 use path_algebra::{PathAlgebra, Shortest};
 use post_floor::{Floor, Seat};
@@ -122,7 +122,7 @@ fn announce<A: PathAlgebra>(floor: &Floor<A>, seat: &mut Seat<A>, part: &Part<'_
 }
 
 /// Claims the next mailbox to a shard and the next one from it, and ends the claims in the order in
-/// which they were made.
+/// which they were made. If nothing is to be read, the first claim stays open.
 fn swap<A: PathAlgebra>(
     floor: &Floor<A>,
     seat: &mut Seat<A>,
@@ -146,19 +146,6 @@ fn swap<A: PathAlgebra>(
     true
 }
 
-/// Claims the next mailbox to a shard, and leaves it open.
-fn claim<A: PathAlgebra>(
-    floor: &Floor<A>,
-    seat: &mut Seat<A>,
-    part: &Part<'_, A>,
-    other: Shard,
-) -> bool
-    requires { IsAt A.meaning floor.now seat.old part.now }
-    ensures { IsAt A.meaning floor.now seat.new part.now }
-{
-    is_other(seat, part, other) && floor.try_fill(seat, part, other)
-}
-
 /// What a place does at a floor of two shards, with the result that is wanted.
 #[derive(Clone, Copy)]
 enum Step {
@@ -168,21 +155,14 @@ enum Step {
     Send(bool),
     /// It fetches a batch, if a mailbox is full.
     Fetch(bool),
-    /// It sends a batch and fetches one at once, if it can do both.
+    /// It sends a batch and fetches one at once, if it can do both; else its claim stays open.
     Swap(bool),
-    /// It claims a mailbox to fill, if one is free, and leaves it open.
-    Claim(bool),
     /// It announces the end, which its part knows.
     Announce,
     /// It looks whether the other announced the end.
     Look(bool),
     /// It shows the label of a vertex.
     Show(u32, Option<u64>),
-}
-
-/// Whether a vertex of a part has this label.
-fn shows<A: PathAlgebra<Value = u64>>(part: &Part<'_, A>, v: Vertex, label: Option<u64>) -> bool {
-    part.holds(v) && part.label(v) == label
 }
 
 /// Takes a step, and says whether its result is the wanted one.
@@ -205,10 +185,9 @@ fn comes_of<A: PathAlgebra<Value = u64>>(
         Step::Send(free) => send(floor, seat, part, other) == *free,
         Step::Fetch(full) => fetch(floor, seat, part, other) == *full,
         Step::Swap(both) => swap(floor, seat, part, other) == *both,
-        Step::Claim(free) => claim(floor, seat, part, other) == *free,
         Step::Announce => announce(floor, seat, part),
         Step::Look(told) => floor.look(seat, part) == *told,
-        Step::Show(v, label) => shows(part, Vertex(*v), *label),
+        Step::Show(v, label) => part.holds(Vertex(*v)) && part.label(Vertex(*v)) == *label,
     }
 }
 
@@ -228,26 +207,17 @@ fn assert_steps<A: PathAlgebra<Value = u64>>(
     }
 }
 
-/// Asserts that a floor is closed by both of its seats, and not by one alone.
+/// Asserts that a floor is closed by these seats.
 fn assert_closes<A: PathAlgebra>(
     rt: &(impl Abort + AllocGlobal),
     floor: Floor<A>,
-    first: Place<'_, A>,
-    second: Place<'_, A>,
+    first: Seat<A>,
+    second: Seat<A>,
 )
-    requires first { IsAt A.meaning floor first.0 first.1 }
-    requires second { IsAt A.meaning floor second.0 second.1 }
+    requires first { first.floor ≡ floor.id }
+    requires second { second.floor ≡ floor.id }
 {
-    let (seat_0, _part_0) = first;
-    let (seat_1, _part_1) = second;
-    assert!(rt; seat_0.shard() == Shard(0));
-    assert!(rt; seat_1.shard() == Shard(1));
-    let seats = vec![in rt.alloc(); seat_0].expect(rt, "memory");
-    let Err((floor, mut seats)) = floor.close(seats) else {
-        panic!(rt; "closed with a seat missing")
-    };
-    assert!(rt; seats.len() == 1);
-    seats.push(seat_1).expect(rt, "memory");
+    let seats = vec![in rt.alloc(); first, second].expect(rt, "memory");
     assert!(rt; floor.close(seats).is_ok());
 }
 
@@ -266,54 +236,53 @@ fn assert_turns<A: PathAlgebra<Value = u64>>(
         next = other;
         other = (seat, part);
     }
-    assert_closes(rt, floor, next, other);
+    assert_closes(rt, floor, next.0, other.0);
 }
 
-#[test]
-fn four_slots_then_full(rt: HostRuntime) {
-    let turns: [&[Step]; 4] = [
-        &[
-            Step::Send(true),
-            Step::Send(true),
-            Step::Send(true),
-            Step::Send(true),
-            Step::Send(false),
-        ],
-        &[Step::Fetch(true)],
-        &[Step::Send(true)],
-        &[Step::Look(false)],
-    ];
-    assert_turns(&rt, Shortest, &two_vertices(&rt), &turns);
-}
+/// The fifth batch finds no mailbox free until one has been fetched.
+const FOUR_SLOTS: [&[Step]; 4] = [
+    &[
+        Step::Send(true),
+        Step::Send(true),
+        Step::Send(true),
+        Step::Send(true),
+        Step::Send(false),
+    ],
+    &[Step::Fetch(true)],
+    &[Step::Send(true)],
+    &[Step::Look(false)],
+];
+
+/// A message goes over, and a signal comes back.
+const TO_THE_END: [&[Step]; 4] = [
+    &[Step::Work(1), Step::Send(true)],
+    &[
+        Step::Fetch(true),
+        Step::Work(1),
+        Step::Send(true),
+        Step::Look(false),
+    ],
+    &[Step::Fetch(true), Step::Work(2), Step::Announce],
+    &[Step::Look(true)],
+];
+
+/// Two claims at once, and one that is open to the end.
+const TWO_CLAIMS: [&[Step]; 4] = [
+    &[Step::Work(1)],
+    &[Step::Send(true)],
+    &[Step::Swap(true)],
+    &[
+        Step::Fetch(true),
+        Step::Work(1),
+        Step::Show(2, Some(7)),
+        Step::Swap(false),
+    ],
+];
 
 #[test]
-fn announce_and_look(rt: HostRuntime) {
-    let turns: [&[Step]; 4] = [
-        &[Step::Work(1), Step::Send(true)],
-        &[
-            Step::Fetch(true),
-            Step::Work(1),
-            Step::Send(true),
-            Step::Look(false),
-        ],
-        &[Step::Fetch(true), Step::Work(2), Step::Announce],
-        &[Step::Look(true)],
-    ];
-    assert_turns(&rt, Shortest, &two_vertices(&rt), &turns);
-}
-
-#[test]
-fn two_claims_at_once(rt: HostRuntime) {
-    let turns: [&[Step]; 4] = [
-        &[Step::Work(1)],
-        &[Step::Send(true)],
-        &[Step::Swap(true)],
-        &[
-            Step::Fetch(true),
-            Step::Work(1),
-            Step::Show(2, Some(7)),
-            Step::Claim(true),
-        ],
-    ];
-    assert_turns(&rt, Shortest, &two_vertices(&rt), &turns);
+fn batches_between_two_parts(rt: HostRuntime) {
+    let ground = ground_of(&rt, 2, &TWO, 2);
+    for turns in &[FOUR_SLOTS, TO_THE_END, TWO_CLAIMS] {
+        assert_turns(&rt, Shortest, &ground, turns);
+    }
 }

@@ -1,7 +1,7 @@
 //! Plans, counters, and parts worked out by hand.
 ghost use Rattle.post_floor.specs.Data.{IsFresh};
 
-use crate::graphs::{Ground, ORDERS, blocks_of, chain_of, ground_of, two_vertices};
+use crate::graphs::{Ground, ORDERS, TWO, blocks_of, ground_of};
 use path_algebra::{PathAlgebra, Shortest};
 use road_graph::{ArcNo, Vertex};
 use shard_part::{Batch, Part, Plan, PlanFault, QueueOrder, Shard, Tally};
@@ -48,28 +48,6 @@ pub fn assert_counts(rt: &impl Abort, tally: Tally, wanted: [u64; 4]) {
     assert!(rt; tally == wanted);
 }
 
-/// What a part has sent to another shard.
-fn taken_out<A: PathAlgebra>(
-    rt: &(impl Abort + AllocGlobal),
-    from: &mut Part<'_, A>,
-    to: u8,
-) -> Batch<A::Value> {
-    assert!(rt; from.is_other(Shard(to)));
-    let mut batch = Batch::empty(rt.alloc(), from.capacity(Shard(to))).expect(rt, "memory");
-    from.swap_outbox(Shard(to), &mut batch);
-    batch
-}
-
-/// A batch comes to the part that it leads to.
-fn put_in<A: PathAlgebra>(rt: &impl Abort, part: &mut Part<'_, A>, mut batch: Batch<A::Value>) {
-    assert!(rt; part.fits(&batch));
-    assert!(rt; batch.len() <= part.room());
-    let capacity = batch.capacity();
-    part.receive(&mut batch);
-    assert!(rt; batch.len() == 0);
-    assert!(rt; batch.capacity() == capacity);
-}
-
 /// Asserts the shard of each vertex, from vertex 1 on.
 fn assert_shards(rt: &impl Abort, plan: &Plan, wanted: &[u8]) {
     assert!(rt; plan.vertices() as usize == wanted.len());
@@ -110,17 +88,6 @@ fn refusals_hand_back(rt: HostRuntime) {
 }
 
 #[test]
-fn counter_stops_at_its_top(rt: HostRuntime) {
-    let mut tally = Tally::new();
-    let top = u64::MAX;
-    for (more, sent, full) in [(top - 1, top - 1, false), (1, top, true), (1, top, true)] {
-        tally.add_sent(more);
-        assert!(rt; tally.sent == sent);
-        assert!(rt; tally.full == full);
-    }
-}
-
-#[test]
 fn tallies_are_joined(rt: HostRuntime) {
     let mut one = Tally::new();
     one.add_sent(4);
@@ -133,61 +100,84 @@ fn tallies_are_joined(rt: HostRuntime) {
     assert_counts(&rt, one, [5, 3, 2, 1]);
 }
 
-/// What a part shows of a vertex: its label, the arc that engages it, and how many arcs out of it are
-/// busy.
-fn shown<A: PathAlgebra>(
+/// Asserts how many items wait at a part, for how many more there is room, whether it has ended, and
+/// its counts.
+fn assert_state<A: PathAlgebra>(
     rt: &impl Abort,
     part: &Part<'_, A>,
-    v: u32,
-) -> (Option<A::Value>, Option<ArcNo>, u32) {
-    let v = Vertex(v);
+    wanted: (usize, usize, bool),
+    counts: [u64; 4],
+) {
+    assert!(rt; (part.queued(), part.room(), part.ended()) == wanted);
+    assert_counts(rt, part.tally(), counts);
+}
+
+/// Asserts that a part handles an item, and what it shows of a vertex afterwards: its label, the arc
+/// that engages it, and how many arcs out of it are busy.
+fn assert_handles<A: PathAlgebra<Value = u64>>(
+    rt: &impl Abort,
+    part: &mut Part<'_, A>,
+    v: Vertex,
+    wanted: (Option<u64>, Option<ArcNo>, u32),
+) {
+    assert!(rt; part.handle(1) == 1);
     assert!(rt; part.holds(v));
-    (part.label(v), part.engager(v), part.deficit(v))
+    assert!(rt; (part.label(v), part.engager(v), part.deficit(v)) == wanted);
+}
+
+/// Asserts that there is one item in a batch.
+fn assert_one<V: Copy>(rt: &impl Abort, batch: &Batch<V>) {
+    assert!(rt; (batch.len(), batch.capacity()) == (1, 1));
+    assert!(rt; batch.get(0).is_some() && batch.get(1).is_none());
 }
 
 /// Asserts that a part has sent one item to another shard, which comes to the part of that shard.
 fn pass<A: PathAlgebra>(
     rt: &(impl Abort + AllocGlobal),
     from: &mut Part<'_, A>,
-    to: u8,
+    to: Shard,
     into: &mut Part<'_, A>,
 ) {
-    let batch = taken_out(rt, from, to);
-    assert!(rt; (batch.len(), batch.capacity()) == (1, 1));
-    assert!(rt; batch.get(0).is_some() && batch.get(1).is_none());
-    assert!(rt; !from.fits(&batch));
-    put_in(rt, into, batch);
+    assert!(rt; from.is_other(to));
+    let mut batch = Batch::empty(rt.alloc(), from.capacity(to)).expect(rt, "memory");
+    from.swap_outbox(to, &mut batch);
+    assert_one(rt, &batch);
+    assert!(rt; !from.fits(&batch) && into.fits(&batch) && batch.len() <= into.room());
+    into.receive(&mut batch);
+    assert!(rt; batch.len() == 0);
 }
 
 /// Asserts what two parts do by hand, step by step: a message goes over, and a signal comes back.
 fn assert_by_hand<A: PathAlgebra<Value = u64>>(
     rt: &(impl Abort + AllocGlobal),
+    first: &mut Part<'_, A>,
+    second: &mut Part<'_, A>,
+) {
+    assert_state(rt, first, (1, 1, false), [1, 0, 0, 0]);
+    assert_state(rt, second, (0, 1, false), [0, 0, 0, 0]);
+    assert_handles(rt, first, Vertex(1), (Some(0), Some(ArcNo(0)), 1));
+    pass(rt, first, Shard(1), second);
+    assert_handles(rt, second, Vertex(2), (Some(7), None, 0));
+    pass(rt, second, Shard(0), first);
+    assert!(rt; first.handle(5) == 2);
+    assert_state(rt, first, (0, 2, true), [2, 1, 1, 2]);
+    assert_state(rt, second, (0, 1, false), [0, 1, 1, 0]);
+}
+
+/// The same for the first two of these parts.
+fn assert_two_by_hand<A: PathAlgebra<Value = u64>>(
+    rt: &(impl Abort + AllocGlobal),
     parts: &mut [Part<'_, A>],
 ) {
     let (first, rest) = parts.split_first_mut().expect(rt, "two parts");
-    let second = rest.first_mut().expect(rt, "two parts");
-    assert!(rt; (first.queued(), first.room(), first.ended()) == (1, 1, false));
-    assert!(rt; (second.queued(), second.room(), second.ended()) == (0, 1, false));
-    assert!(rt; first.holds(Vertex(1)) && !first.holds(Vertex(2)) && !first.holds(Vertex(3)));
-    assert_counts(rt, first.tally(), [1, 0, 0, 0]);
-    assert_counts(rt, second.tally(), [0, 0, 0, 0]);
-    assert!(rt; first.handle(1) == 1);
-    assert!(rt; shown(rt, first, 1) == (Some(0), Some(ArcNo(0)), 1));
-    pass(rt, first, 1, second);
-    assert!(rt; second.handle(1) == 1);
-    assert!(rt; shown(rt, second, 2) == (Some(7), None, 0));
-    pass(rt, second, 0, first);
-    assert!(rt; first.handle(5) == 2);
-    assert!(rt; first.ended() && !second.ended());
-    assert_counts(rt, first.tally(), [2, 1, 1, 2]);
-    assert_counts(rt, second.tally(), [0, 1, 1, 0]);
+    assert_by_hand(rt, first, rest.first_mut().expect(rt, "two parts"));
 }
 
 #[test]
 fn two_parts_by_hand(rt: HostRuntime) {
-    let ground = two_vertices(&rt);
+    let ground = ground_of(&rt, 2, &TWO, 2);
     for order in ORDERS {
-        assert_by_hand(&rt, &mut parts_of(&rt, Shortest, &ground, order));
+        assert_two_by_hand(&rt, &mut parts_of(&rt, Shortest, &ground, order));
     }
 }
 
@@ -202,27 +192,32 @@ fn rings_of<A: PathAlgebra>(part: &Part<'_, A>, shards: u8) -> usize {
     sum
 }
 
-/// How many items the queues and the outboxes of all parts of a chain have room for.
-fn rings_of_chain<A: PathAlgebra>(
+/// Asserts how many items the queues and the outboxes of all parts have room for.
+fn assert_rings<A: PathAlgebra>(
     rt: &(impl Abort + AllocGlobal),
     algebra: A,
-    n: u32,
-    shards: u8,
+    ground: &Ground,
     order: QueueOrder,
-) -> usize {
-    let ground = ground_of(rt, chain_of(rt, n, 1), shards);
+    wanted: usize,
+) {
     let mut sum: usize = 0;
-    for part in &parts_of(rt, algebra, &ground, order) {
-        sum = sum.saturating_add(rings_of(part, shards));
+    for part in &parts_of(rt, algebra, ground, order) {
+        sum = sum.saturating_add(rings_of(part, ground.plan.shards()));
     }
-    sum
+    assert!(rt; sum == wanted);
 }
 
 #[test]
 fn parts_reserve_for_their_own(rt: HostRuntime) {
+    let mut chain = Vec::new(rt.alloc());
+    for tail in 1..100_000 {
+        chain.push((tail, tail + 1, 1)).expect(&rt, "memory");
+    }
     // An item on each of 99,999 arcs and on arc 0; 63 arcs lead from one shard to the next.
-    for order in ORDERS {
-        assert!(rt; rings_of_chain(&rt, Shortest, 100_000, 1, order) == 100_000);
-        assert!(rt; rings_of_chain(&rt, Shortest, 100_000, 64, order) == 100_000 + 3 * 63);
+    for &(shards, wanted) in &[(1, 100_000), (64, 100_000 + 3 * 63)] {
+        let ground = ground_of(&rt, 100_000, &chain, shards);
+        for order in ORDERS {
+            assert_rings(&rt, Shortest, &ground, order, wanted);
+        }
     }
 }

@@ -1,4 +1,5 @@
 mod Placing
 mod OrderLines
 mod OrderFaults
+mod EachVertex
 mod WrittenPlaces

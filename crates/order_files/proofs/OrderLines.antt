@@ -1,5 +1,5 @@
 -- A line of an order and the end, as the parser takes them.
-use Rattle.std.proofs.Common.{◌≡◌, ℕ, ◌+◌, ◌-◌, ◌<◌, ◌≤◌, List, ◌∷◌, length, map, get_or, Bool, Result, Ok, Err, Vec, ◌∙◌, sym, ap, refl, subst, arith, lit<}
+use Rattle.std.proofs.Common.{◌≡◌, ℕ, ◌+◌, ◌-◌, ◌<◌, ◌≤◌, List, ◌∷◌, length, map, Bool, Result, Ok, Err, Vec, ◌∙◌, sym, ap, refl, subst, arith, lit<}
 use Rattle.std.specs.declared.alloc.Global.{Global}
 use Rattle.std.specs.Result.{OnOk, IfOk}
 use Rattle.std.specs.List.{range_with_len}

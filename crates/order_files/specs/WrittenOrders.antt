@@ -22,9 +22,9 @@ abbrev pub places_text : List ℕ → List ℕ
 places_text places = text_of (map place_words places)
 
 -- the places of the vertices of an order of n were written, each of the n places once; or a prefix
--- of them, and then a write failed; or nothing
+-- of them, and then a write failed; or nothing, as of a list that does not have each vertex
 abbrev pub WritesOrder : {A X : Type 0} → Output X → Output X → ℕ → List ℕ → Result A Unwritten → Type 0
 WritesOrder old new n order (Ok _) = WrotePrefix old new (places_text (places_of n order)) [] × HasEachVertex n (places_of n order)
-WritesOrder old new n order (Err NoOrder) = new ≡ old
+WritesOrder old new n order (Err NoOrder) = (new ≡ old) × (HasEachVertex n order → ⊥)
 WritesOrder old new n order (Err Memory) = new ≡ old
 WritesOrder old new n order (Err Write) = FailedAfterPrefix old new (places_text (places_of n order)) × HasEachVertex n (places_of n order)

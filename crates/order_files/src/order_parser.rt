@@ -1,5 +1,5 @@
 //! Parses the lines of a file of an order.
-ghost use Rattle.std.specs.Prelude.{◌≡◌, ℕ, ◌<◌, ◌≤◌, ◌^◌, [], List, length, map, refl, IfOk};
+ghost use Rattle.std.specs.Prelude.{◌≡◌, ◌≢◌, ℕ, ◌<◌, ◌≤◌, ◌^◌, [], List, length, map, refl, Err, IfOk};
 ghost use Rattle.text_lines.specs.Slots.{word_in};
 ghost use Rattle.order_files.specs.OrderFiles.{place_taken, order_line};
 
@@ -47,6 +47,7 @@ impl OrderParser {
         requires place { place < self.old.vertices }
         ensures taken { (places : List ℕ) → HasNoted self.old places → Takes
             (place_taken places place) self.new result }
+        ensures memory { result ≢ Err LineFault.Memory }
         ensures vertices { self.new.vertices ≡ self.old.vertices }
     {
         let i = place as usize;

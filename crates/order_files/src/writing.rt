@@ -1,5 +1,5 @@
 //! Writes orders, each in its one spelling.
-ghost use Rattle.std.specs.Prelude.{◌≡◌, IfOk, IfSome, map};
+ghost use Rattle.std.specs.Prelude.{◌≡◌, IfOk, IfNone, IfSome, map};
 ghost use Rattle.path_factors.specs.Factors.{HasEachVertex};
 ghost use Rattle.text_lines.specs.Texts.{spelled, text_of};
 ghost use Rattle.text_lines.specs.Written.{WritesText};
@@ -26,6 +26,7 @@ fn places_of(alloc: Global, n: u32, order: &[Vertex]) -> Result<Option<Vec<Verte
     ensures places { IfOk result (λ found. IfSome found (λ places.
         places.items ≡ places_of n order.now)) }
     ensures each { IfOk result (λ found. IfSome found (λ places. HasEachVertex n places.items)) }
+    ensures none { IfOk result (λ found. IfNone found (HasEachVertex n order.now → ⊥)) }
 {
     if order.len() != n as usize {
         return Ok(None);

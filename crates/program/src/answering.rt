@@ -14,7 +14,7 @@ ghost use Rattle.service.specs.Served.{RanService};
 ghost use Rattle.program.specs.Runs.{gate_is_open};
 ghost use Rattle.program.specs.Watching.{EndsAccounts, EndsWatched, outcome_of};
 
-use crate::task::Task;
+use crate::method::Method;
 use crate::watch::CommandWatcher;
 use batch_run::{
     BatchInput, OpenGate, OrderedInput, PairInput, Run, RunFault, WRITE, Watcher, fault_of_run,
@@ -30,56 +30,58 @@ use text_lines::{RoadRead, RoadWrite};
 
 /// Answers the questions of an input over its graph, under the chosen algebra, before a watcher.
 fn run_chosen<R: Threads + Wait + Sync, I: BatchInput, W: RoadWrite, O: Watcher>(
-    task: &Task<'_, R>,
+    method: &Method<'_, R>,
     input: &mut I,
     out: &mut W,
     watcher: &mut O,
 ) -> Result<(), RunFault>
-    ensures run { Under task.now.chosen (λ V A. Ran A task.now.settings.now gate_is_open
+    ensures run { Under method.now.chosen (λ V A. Ran A method.now.settings.now gate_is_open
         (I.is_read input.old) I.is_own (W.seen out.old) (W.seen out.new) result) }
-    ensures suited { IsRefusedUnsuited (arc_cost_of task.now.chosen) task.now.settings.now result }
-    ensures stopped { OfChosen task.now.chosen (λ S V meaning algebra. Stopped meaning algebra
-        task.now.settings.now gate_is_open (I.is_read input.old) result) }
+    ensures suited { IsRefusedUnsuited (arc_cost_of method.now.chosen) method.now.settings.now
+        result }
+    ensures stopped { OfChosen method.now.chosen (λ S V meaning algebra. Stopped meaning algebra
+        method.now.settings.now gate_is_open (I.is_read input.old) result) }
     ensures read { I.has_read input.old input.new result }
-    ensures watched { Under task.now.chosen (λ V A. Watched A task.now.settings.now
+    ensures watched { Under method.now.chosen (λ V A. Watched A method.now.settings.now
         (I.is_read input.old) O.may_become watcher.old watcher.new (W.seen out.old)
         (W.seen out.new) result) }
 {
     let gate = OpenGate;
     let run = Run {
-        rt: task.rt,
-        alloc: task.alloc,
-        settings: task.settings,
+        rt: method.rt,
+        alloc: method.alloc,
+        settings: method.settings,
         gate: &gate,
     };
     with_algebra!(
-        task.chosen,
+        method.chosen,
         |algebra| run_batch(&run, algebra, input, out, watcher)
     )
 }
 
 /// The same for an input whose graph is factored by the order of a further input, if there is one.
 fn run_ordered<R: Threads + Wait + Sync, I: BatchInput, O: RoadRead, W: RoadWrite, V: Watcher>(
-    task: &Task<'_, R>,
+    method: &Method<'_, R>,
     input: &mut I,
     order: &mut Option<O>,
     out: &mut W,
     watcher: &mut V,
 ) -> Result<(), RunFault>
-    ensures run { Under task.now.chosen (λ V A. Ran A task.now.settings.now gate_is_open
+    ensures run { Under method.now.chosen (λ V A. Ran A method.now.settings.now gate_is_open
         (I.is_read input.old) (IsOrderedFile I.is_own) (W.seen out.old) (W.seen out.new) result) }
-    ensures suited { IsRefusedUnsuited (arc_cost_of task.now.chosen) task.now.settings.now result }
-    ensures stopped { OfChosen task.now.chosen (λ S V meaning algebra. Stopped meaning algebra
-        task.now.settings.now gate_is_open (I.is_read input.old) result) }
+    ensures suited { IsRefusedUnsuited (arc_cost_of method.now.chosen) method.now.settings.now
+        result }
+    ensures stopped { OfChosen method.now.chosen (λ S V meaning algebra. Stopped meaning algebra
+        method.now.settings.now gate_is_open (I.is_read input.old) result) }
     ensures read { HasReadOrdered (I.is_read input.old) I.is_own IsRunFile
         (I.has_read input.old input.new) (option_map O.seen order.old)
         (option_map O.seen order.new) result }
-    ensures watched { Under task.now.chosen (λ X A. Watched A task.now.settings.now
+    ensures watched { Under method.now.chosen (λ X A. Watched A method.now.settings.now
         (I.is_read input.old) V.may_become watcher.old watcher.new (W.seen out.old) (W.seen out.new)
         result) }
 {
     let mut ordered = OrderedInput { input, order };
-    run_chosen(task, &mut ordered, out, watcher)
+    run_chosen(method, &mut ordered, out, watcher)
 }
 
 /// Replies to the requests of one input over the graph of another, to each as soon as it is whole,
@@ -91,27 +93,28 @@ pub(crate) fn serve_chosen<
     Q: RoadRead,
     W: RoadWrite,
 >(
-    task: &Task<'_, R>,
+    method: &Method<'_, R>,
     graph: &mut G,
     order: &mut Option<O>,
     requests: &mut Q,
     out: &mut W,
 ) -> Result<(), RunFault>
-    ensures run { Under task.now.chosen (λ V A. RanService A task.now.settings.now gate_is_open
+    ensures run { Under method.now.chosen (λ V A. RanService A method.now.settings.now gate_is_open
         (G.seen graph.old) (G.seen graph.new) (option_map O.seen order.old)
         (option_map O.seen order.new) (Q.seen requests.old) (Q.seen requests.new) (W.seen out.old)
         (W.seen out.new) result) }
-    ensures suited { IsRefusedUnsuited (arc_cost_of task.now.chosen) task.now.settings.now result }
+    ensures suited { IsRefusedUnsuited (arc_cost_of method.now.chosen) method.now.settings.now
+        result }
 {
     let gate = OpenGate;
     let run = Run {
-        rt: task.rt,
-        alloc: task.alloc,
-        settings: task.settings,
+        rt: method.rt,
+        alloc: method.alloc,
+        settings: method.settings,
         gate: &gate,
     };
     with_algebra!(
-        task.chosen,
+        method.chosen,
         |algebra| run_service(&run, algebra, graph, order, requests, out)
     )
 }
@@ -152,7 +155,7 @@ fn answer_to<
     A: RoadWrite,
     E: RoadWrite,
 >(
-    task: &Task<'_, R>,
+    method: &Method<'_, R>,
     files: &P,
     input: &mut I,
     order: &mut Option<O>,
@@ -160,7 +163,7 @@ fn answer_to<
     watching: &mut Watching<A>,
     errors: &mut E,
 ) -> u8
-    ensures { EndsWatched task.now.chosen task.now.settings.now watching.old.progress
+    ensures { EndsWatched method.now.chosen method.now.settings.now watching.old.progress
         (I.is_read input.old) (IsOrderedFile I.is_own) (HasReadOrdered (I.is_read input.old)
         I.is_own IsRunFile (I.has_read input.old input.new) (option_map O.seen order.old)
         (option_map O.seen order.new)) (W.seen out.old) (W.seen out.new)
@@ -168,7 +171,7 @@ fn answer_to<
         (E.seen errors.old) (E.seen errors.new) result }
 {
     let mut watch = CommandWatcher {
-        name: task.chosen.name(),
+        name: method.chosen.name(),
         accounts: &mut watching.accounts,
         lost: false,
         progress: watching.progress,
@@ -176,7 +179,7 @@ fn answer_to<
         errors: &mut *errors,
         files,
     };
-    let batch = run_ordered(task, input, order, out, &mut watch);
+    let batch = run_ordered(method, input, order, out, &mut watch);
     usual_turns_are_enough();
     let lost = watch.lost;
     let kept = end_accounts(&mut watching.accounts, lost);
@@ -193,14 +196,14 @@ pub(crate) fn answer<
     A: RoadWrite,
     E: RoadWrite,
 >(
-    task: &Task<'_, R>,
+    method: &Method<'_, R>,
     input: &mut I,
     order: &mut Option<O>,
     host: &mut Host<P, W, E>,
     watching: &mut Watching<A>,
 ) -> u8
     ensures files { host.new.files ≡ host.old.files }
-    ensures ends { EndsWatched task.now.chosen task.now.settings.now watching.old.progress
+    ensures ends { EndsWatched method.now.chosen method.now.settings.now watching.old.progress
         (I.is_read input.old) (IsOrderedFile I.is_own) (HasReadOrdered (I.is_read input.old)
         I.is_own IsRunFile (I.has_read input.old input.new) (option_map O.seen order.old)
         (option_map O.seen order.new)) (W.seen host.old.out) (W.seen host.new.out)
@@ -208,7 +211,7 @@ pub(crate) fn answer<
         (E.seen host.old.errors) (E.seen host.new.errors) result }
 {
     answer_to(
-        task,
+        method,
         &host.files,
         input,
         order,
@@ -229,7 +232,7 @@ pub(crate) fn answer_pair<
     A: RoadWrite,
     E: RoadWrite,
 >(
-    task: &Task<'_, R>,
+    method: &Method<'_, R>,
     graph: &mut G,
     questions: &mut Q,
     order: &mut Option<O>,
@@ -237,8 +240,8 @@ pub(crate) fn answer_pair<
     watching: &mut Watching<A>,
 ) -> u8
     ensures files { host.new.files ≡ host.old.files }
-    ensures ends { EndsWatched task.now.chosen task.now.settings.now watching.old.progress (IsPairOf
-        (G.seen graph.old).left (Q.seen questions.old).left) (IsOrderedFile IsPairFile)
+    ensures ends { EndsWatched method.now.chosen method.now.settings.now watching.old.progress
+        (IsPairOf (G.seen graph.old).left (Q.seen questions.old).left) (IsOrderedFile IsPairFile)
         (HasReadOrdered (IsPairOf (G.seen graph.old).left (Q.seen questions.old).left) IsPairFile
         IsRunFile (HasReadPair (G.seen graph.old) (G.seen graph.new) (Q.seen questions.old)
         (Q.seen questions.new)) (option_map O.seen order.old) (option_map O.seen order.new))
@@ -247,5 +250,5 @@ pub(crate) fn answer_pair<
         result }
 {
     let mut input = PairInput { graph, questions };
-    answer(task, &mut input, order, host, watching)
+    answer(method, &mut input, order, host, watching)
 }

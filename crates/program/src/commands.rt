@@ -6,8 +6,8 @@ ghost use Rattle.program.specs.Ordering.{DoesOrder};
 
 use crate::answering::{answer, answer_pair, serve_chosen};
 use crate::judging::{end_check, judge};
+use crate::method::Method;
 use crate::ordering::order_input;
-use crate::task::Task;
 use batch_run::BundleInput;
 use command_args::{BundleArgs, CheckArgs, OrderArgs, ServeArgs, SolveArgs};
 use command_files::{
@@ -44,14 +44,14 @@ pub fn solve<'t, R: AllocGlobal + Threads + Wait + Sync, P: FileSystem, W: RoadW
         Ok(watching) => watching,
         Err(refusal) => return refuse(&mut host.errors, refusal),
     };
-    let task = Task {
+    let method = Method {
         rt,
         alloc: rt.alloc(),
         settings: &args.options.settings,
         chosen,
     };
     let status = answer_pair(
-        &task,
+        &method,
         &mut graph,
         &mut questions,
         &mut order,
@@ -88,14 +88,14 @@ pub fn bundle<
         Ok(watching) => watching,
         Err(refusal) => return refuse(&mut host.errors, refusal),
     };
-    let task = Task {
+    let method = Method {
         rt,
         alloc: rt.alloc(),
         settings: &args.options.settings,
         chosen,
     };
     let mut input = BundleInput { bundle: &mut text };
-    let status = answer(&task, &mut input, &mut order, host, &mut watching);
+    let status = answer(&method, &mut input, &mut order, host, &mut watching);
     show_times(host, args.watching.times, status);
     status
 }
@@ -118,13 +118,19 @@ pub fn serve<'t, R: AllocGlobal + Threads + Wait + Sync, P: FileSystem, W: RoadW
         Ok(opened) => opened,
         Err(refusal) => return refuse(&mut host.errors, refusal),
     };
-    let task = Task {
+    let method = Method {
         rt,
         alloc: rt.alloc(),
         settings: &args.options.settings,
         chosen,
     };
-    let outcome = serve_chosen(&task, &mut graph, &mut order, &mut requests, &mut host.out);
+    let outcome = serve_chosen(
+        &method,
+        &mut graph,
+        &mut order,
+        &mut requests,
+        &mut host.out,
+    );
     end_with(&mut host.errors, outcome)
 }
 

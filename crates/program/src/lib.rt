@@ -6,9 +6,9 @@ mod answering;
 mod command_line;
 mod commands;
 mod judging;
+mod method;
 mod ordering;
 mod streams;
-mod task;
 mod watch;
 
 pub use command_args::{
@@ -22,4 +22,4 @@ pub use command_line::{run, run_command_line};
 pub use commands::{bundle, check, order, serve, solve};
 pub use fault_reports::{FaultRow, all_faults, explain, report_fault};
 pub use judging::{judge, write_verdict};
-pub use task::Task;
+pub use method::Method;

@@ -1,4 +1,5 @@
 //! An order of elimination of a graph is found and written.
+ghost use Rattle.path_factors.specs.Factors.{HasEachVertex};
 ghost use Rattle.program.specs.Ordering.{RanOrder, WritesPlaces};
 
 use batch_run::{File, RunFault, WRITE, fault_in, fault_of_run};
@@ -19,6 +20,7 @@ fn write_places<W: RoadWrite>(
     n: u32,
     order: &[Vertex],
 ) -> Result<(), RunFault>
+    requires { HasEachVertex n order.now }
     ensures { WritesPlaces n (W.seen out.old) (W.seen out.new) result }
 {
     match write_order(alloc, out, n, order) {
@@ -28,7 +30,7 @@ fn write_places<W: RoadWrite>(
         },
         Err(Unwritten::Write) => Err(fault_of_run(WRITE)),
         Err(Unwritten::Memory) => Err(fault_of_run(MEMORY)),
-        Err(Unwritten::NoOrder) => Err(fault_of_run(TOO_DENSE)),
+        Err(Unwritten::NoOrder) => unreachable!(),
     }
 }
 

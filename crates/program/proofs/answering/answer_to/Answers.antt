@@ -16,7 +16,7 @@ use Rattle.program.proofs.answering.answer_to.Goals as goal
 
 pub shape_of-watching : goal.shape_of-watching
 shape_of-watching g c =
-    let told = under_told c.args.task.now.chosen c.args.task.now.settings.now (g.I.BatchInput.is_read c.args.input.now)
+    let told = under_told c.args.method.now.chosen c.args.method.now.settings.now (g.I.BatchInput.is_read c.args.input.now)
     (Notes g.A.RoadWrite.seen g.E.RoadWrite.seen) _ _ _ _ c.run_ordered-batch.result
     c.run_ordered-batch.ensures.watched in
     let noted = noted_all g.A.RoadWrite.seen g.E.RoadWrite.seen told.0.0 _ _ told.0.1 in
@@ -24,8 +24,8 @@ shape_of-watching g c =
 
 pub returns : goal.returns
 returns g c =
-    let chosen = c.args.task.now.chosen in
-    let how = c.args.task.now.settings.now in
+    let chosen = c.args.method.now.chosen in
+    let how = c.args.method.now.settings.now in
     let told = under_told chosen how (g.I.BatchInput.is_read c.args.input.now)
     (Notes g.A.RoadWrite.seen g.E.RoadWrite.seen) _ _ _ _ c.run_ordered-batch.result
     c.run_ordered-batch.ensures.watched in

@@ -5,7 +5,7 @@ use std::alloc::Global;
 
 /// How questions are answered, and under which algebra.
 #[derive(Drop)]
-pub struct Task<'t, R> {
+pub struct Method<'t, R> {
     /// Starts threads.
     pub rt: &'t R,
     /// Gives memory.

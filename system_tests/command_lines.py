@@ -156,11 +156,14 @@ GIVEN = [
     ("serve g --algebra hops", FROM_ONE, HOPS, "", 0),
     ("serve g --algebra within --limit 3 --plain", FROM_ONE, WITHIN_FIVE, "", 0),
     ("serve g --turns 0", FROM_ONE, "p ans ss 1 shortest\nf 40 0\n", "", 0),
+    ("serve g --turns 0 --workers 1", FROM_ONE + "p aux sp ss 0\n" + FROM_ONE,
+     "p ans ss 1 shortest\nf 40 0\np ans ss 0 shortest\np ans ss 1 shortest\nf 40 0\n", "", 0),
+    ("serve g --algebra widest --plain", FROM_ONE, WIDEST, "", 0),
     ("serve ./-", FROM_ONE, "", fault("12 graph line 1"), 3),
     ("serve none", FROM_ONE, "", fault("1 graph"), 3),
     ("serve none --limit 5", FROM_ONE, "", fault("43"), 2),
     ("serve -", FIVE, "", STDIN_TWICE, 2),
-    ("serve g --factors --order downward", FROM_ONE * 2, SHORTEST * 2, "", 0),
+    *((f"serve g --factors --order {order}", FROM_ONE * 2, SHORTEST * 2, "", 0) for order in ("upward", "downward")),
     ("serve --factors g --order o20", FROM_ONE, "", fault("20 order line 3"), 3),
     ("serve --factors q --order o20", FROM_ONE, "", fault("12 graph line 1"), 3),
     ("serve --factors g --order none", FROM_ONE, "", fault("1 order"), 3),
@@ -192,13 +195,34 @@ GIVEN = [
         ("p sp 1 0\na 1 1 0\n", "18 bundle line 2"), ("p sp 1 1\n", "19 bundle line 2"))),
 ]
 
-# What is reported while a command runs, if it is asked to show it.
+# Requests to a service with `--plain`, and its replies: no question is answered by the header; ends of the input; faults, each of which ends its reply.
+ONE, ONE_REPLY = "p aux sp p2p 1\nq 1 4\n", "p ans p2p 1 shortest\nq 1 4\nd 8 3\nr 1 3 2 4\n"
+SERVED = [
+    *((f"p aux sp {kind} 0\n" + ONE, f"p ans {kind} 0 shortest\n" + ONE_REPLY) for kind in ("ss", "p2p", "ms")),
+    ("", ""), ("c nothing\n\n", ""), (ONE[:-1], ONE_REPLY), (ONE + "q 1 4\nq 1 4\n" + ONE, ONE_REPLY + "f 10 3\n" + ONE_REPLY),
+    ("p aux sp p2p 2\nq 1 4\n", "f 19 3\n"), ("p aux sp p2p 2\nq 1 4", "f 19 3\n"), ("p aux sp p2p 1", "f 19 2\n"),
+    ("p aux sp p2p 1\nq 1 6\nq 1 4\n", "f 17 2\n"),
+    *((fault + ONE, "".join(f"f {place}\n" for place in places) + ONE_REPLY) for fault, *places in (
+        ("q 1 4\n", "10 1"), ("s 1\nm 1 2\nx\n", "10 1"), ("m 1\n", "10 1"), ("x 1\ny\n", "13 1"), ("p aux sp p2p\nq 1 4\n", "12 1"),
+        ("p sp 5 7\na 1 2 4\n", "12 1"), ("p aux sp abc 1\n", "12 1"), ("p aux sp p2p x\nq 1 4\n", "15 1"), ("p aux sp p2p 1048577\n", "16 1"),
+        ("p aux sp p2p 1\n\ns 1\n", "13 3"), ("p aux sp p2p 1\nq 1\n", "14 2"), ("p aux sp p2p 1\nq 1 a\n", "15 2"),
+        ("p aux sp p2p 2\nq 1 4\nq 1 6\n", "17 3"), ("p aux sp ms 1\nm 0 1\n", "17 2"), ("p aux sp p2p 2\nq 1 4\n", "19 3"),
+        ("p aux sp p2p 2\nq 1 4\np aux sp\n", "19 3", "12 3"), ("p aux sp p2p 1\nq 1 6\nq 1 7\np x\n", "17 2", "12 4"))),
+]
+GIVEN += [("serve --plain g", requests, replies, "", 0) for requests, replies in SERVED]
+
+# What is reported while a command runs, if it is asked to show it. In any order in which a vertex of least degree is next there are as many links as
+# pairs of vertices that arcs join, six, and as many triangles as there are of them, two.
+FACTORED = "diffuse: an order was found (6 links, 2 triangles)\ndiffuse: the graph is factored\n"
+THREE_PAIRS = "p ans p2p 3 shortest\nq 1 4\nd 8 3\nr 1 3 2 4\nq 4 1\nu\nq 5 5\nd 0 0\nr 5\n"
 SHOWN = "diffuse: 1 of 1 questions answered\n"
 PROGRESS = [
     ("solve g q --progress", SHORTEST, SHOWN, 0),
     ("solve g q --plain --progress", SHORTEST, SHOWN, 0),
-    ("solve g q --factors --progress", SHORTEST, "diffuse: an order was found (6 links, 2 triangles)\ndiffuse: the graph is factored\n" + SHOWN, 0),
+    ("solve g q --factors --progress", SHORTEST, FACTORED + SHOWN, 0),
     ("solve g q --factors --order upward --progress", SHORTEST, "diffuse: the graph is factored\n" + SHOWN, 0),
+    ("solve g three --factors --progress", THREE_PAIRS, FACTORED + "".join(f"diffuse: {k} of 3 questions answered\n" for k in (1, 2, 3)), 0),
+    ("solve g none.ss --factors --algebra hops --progress", "p ans ss 0 hops\n", FACTORED, 0),
     ("solve g q --accounts a", SHORTEST, "", 0),
     ("solve g q --accounts a --progress", SHORTEST, SHOWN, 0),
     ("solve g q --accounts none/a", "", fault("42"), 5),
@@ -216,7 +240,7 @@ ACCOUNTS = [
       for width in ("", "--width 2", "--width 64")),
     ("solve g three --algebra reach", "p tally 3 reach\nt 1 1 7 7 7 7\nt 2 4 2 2 2 2\nt 3 5 8 8 8 8\n"),
     ("solve g pairs --algebra reach", "p tally 2 reach\nt 1 4 2 2 2 2\nt 2 1 7 7 7 7\n"),
-    ("solve g lists --algebra reach --width 3", "p tally 3 reach\nt 1 5 8 8 8 8\nt 1 4 2 2 2 2\nt 2 1 7 7 7 7\n"),
+    *((f"solve g lists --algebra reach --width {width}", "p tally 3 reach\nt 1 5 8 8 8 8\nt 1 4 2 2 2 2\nt 2 1 7 7 7 7\n") for width in (1, 3)),
     ("solve g none.ss --algebra reach", "p tally 0 reach\n"),
     ("solve g q --workers 1 --shards 1 --budget 1", "p tally 1 shortest\nt 1 1 9 9 9 9\n"),
 ]

@@ -1,83 +1,47 @@
-//! What a batch does beside what the built program shows (`system_tests/worked`): gates, turns,
-//! watchers, failing readers and writers, and an algebra of a caller's own.
-mod dealing;
-mod factors;
-mod faults;
-mod gates;
-mod orders;
-mod reports;
-mod stops;
-mod turns;
-mod workers;
-
-use crate::texts::joined;
-use crate::tolls::Tolls;
-use batch_run::{
-    BatchInput, BatchRead, Gate, OpenGate, PairInput, Run, RunFault, Settings, Unwatched,
-    run_bundle, run_pair,
+//! What a batch does beside what the built program shows (`system_tests`): gates, which count turns,
+//! and an algebra of a caller's own.
+use crate::gates::{Closed, Counted, Counting, Meeting};
+use crate::texts::{
+    ALL_OF_THREE, FIVE, FROM_ONE, HEADER, NEAREST, NONE_OF_THREE, ONE_OF_THREE, PAIRS, ROUTES,
+    SEVERAL, SHORTEST, THRICE,
 };
+use crate::tolls::Tolls;
+use batch_run::{Dealing, Gate, OpenGate, Run, Settings, Unwatched, run_bundle};
+use crossbeam_utils::CachePadded;
 use path_algebra::{PathAlgebra, Shortest};
-use road_graph::Graph;
-use std::alloc::Global;
 use std::process::Abort;
 use std::sync::Wait;
+use std::sync::atomic::{AtomicU64, Ordering};
 use std::thread::Threads;
 use text_lines::Plain;
 
-/// Five vertices, of which the last is reached from nowhere.
-const FIVE: &str = "p sp 5 7\na 1 2 4\na 1 3 1\na 3 2 2\na 2 4 5\na 3 4 8\na 4 4 0\na 5 1 3\n";
+/// One worker, one shard, one item a turn.
+const SLOW: Settings = Settings {
+    workers: 1,
+    shards: 1,
+    width: 1,
+    budget: 1,
+    turns: 1_000_000,
+    plain: false,
+    factors: false,
+    best_first: false,
+    ahead: None,
+    dealing: Dealing::Shards,
+};
 
-/// One question, from the first vertex.
-const FROM_ONE: &str = "p aux sp ss 1\ns 1\n";
-
-/// What `FROM_ONE` over `FIVE` is answered under the least sum of weights.
-const SHORTEST: &str =
-    "p ans ss 1 shortest\ns 1\nd 1 0 0 0\nd 2 3 2 3\nd 3 1 1 1\nd 4 8 3 2\nu 5\n";
-
-/// Pairs: one with a route, one with none, and one of a vertex with itself.
-const PAIRS: &str = "p aux sp p2p 3\nq 1 4\nq 4 1\nq 5 5\n";
-
-/// Three questions, all from the first vertex.
-const THRICE: &str = "p aux sp ss 3\ns 1\ns 1\ns 1\n";
-
-/// What `THRICE` over `FIVE` is answered.
-const SHORTEST_THRICE: &str =
-    "p ans ss 3 shortest\ns 1\nd 1 0 0 0\nd 2 3 2 3\nd 3 1 1 1\nd 4 8 3 2\nu 5\ns 1\nd 1 0 0 0\nd 2 3 2 3\nd 3 1 1 1\nd 4 8 3 2\nu 5\ns 1\nd 1 0 0 0\nd 2 3 2 3\nd 3 1 1 1\nd 4 8 3 2\nu 5\n";
-
-/// How two inputs end, and what they have written.
-fn run_two<A: PathAlgebra, R: Threads + Wait + Sync>(
-    rt: &R,
-    alloc: Global,
+/// Asserts with which fault a bundle ends at a gate, 0 for none, and what it has written.
+fn assert_ends<A: PathAlgebra, T: Gate>(
+    rt: &(impl Abort + AllocGlobal + Threads + Wait + Sync),
     algebra: A,
-    graph: &str,
-    questions: &str,
-    settings: &Settings,
-) -> (Result<(), RunFault>, Vec<u8>) {
-    let mut out = Plain::new(Vec::new(alloc));
-    let mut first = Plain::new(graph.as_bytes());
-    let mut second = Plain::new(questions.as_bytes());
-    let run = Run {
-        rt,
-        alloc,
-        settings,
-        gate: &OpenGate,
-    };
-    let (graph, questions) = (&mut first, &mut second);
-    let ended = run_pair(&run, algebra, graph, questions, &mut out, &mut Unwatched);
-    (ended, out.into_inner())
-}
-
-/// How a bundle ends at a gate, and what it has written.
-fn run_at<A: PathAlgebra, R: Threads + Wait + Sync, T: Gate>(
-    rt: &R,
-    alloc: Global,
-    algebra: A,
-    text: &str,
+    text: &[&str],
     settings: &Settings,
     gate: &T,
-) -> (Result<(), RunFault>, Vec<u8>) {
-    let mut out = Plain::new(Vec::new(alloc));
+    (number, written): (u8, &str),
+) {
+    let alloc = rt.alloc();
+    let text = text.concat(alloc).expect(rt, "memory");
     let mut input = Plain::new(text.as_bytes());
+    let mut out = Plain::new(Vec::new(alloc));
     let run = Run {
         rt,
         alloc,
@@ -85,56 +49,177 @@ fn run_at<A: PathAlgebra, R: Threads + Wait + Sync, T: Gate>(
         gate,
     };
     let ended = run_bundle(&run, algebra, &mut input, &mut out, &mut Unwatched);
-    (ended, out.into_inner())
-}
-
-/// Asserts how a batch ended, and what it has written.
-fn assert_ended(
-    rt: &impl Abort,
-    ended: (Result<(), RunFault>, Vec<u8>),
-    wanted: Result<(), RunFault>,
-    written: &str,
-) {
-    assert_eq!(rt; ended.0, wanted);
-    assert_eq!(rt; ended.1.as_slice(), written.as_bytes());
-}
-
-/// Asserts that questions over a graph have this answer, as two inputs and as one.
-fn assert_answered<A: PathAlgebra>(
-    rt: &(impl Abort + AllocGlobal + Threads + Wait + Sync),
-    algebra: A,
-    settings: &Settings,
-    graph: &str,
-    questions: &str,
-    wanted: &str,
-) {
-    let alloc = rt.alloc();
-    let of_two = run_two(rt, alloc, algebra, graph, questions, settings);
-    assert_ended(rt, of_two, Ok(()), wanted);
-    let text = joined(rt, &[graph, questions]);
-    let of_one = run_at(rt, alloc, algebra, text.as_str(), settings, &OpenGate);
-    assert_ended(rt, of_one, Ok(()), wanted);
-}
-
-#[test]
-fn two_inputs_are_read(rt: HostRuntime) {
-    let mut pair = PairInput {
-        graph: &mut Plain::new(FIVE.as_bytes()),
-        questions: &mut Plain::new(THRICE.as_bytes()),
-    };
-    let read: Result<BatchRead<Graph>, RunFault> = pair.read(rt.alloc());
-    match read {
-        Ok(read) => {
-            assert_eq!(rt; (read.graph.vertices(), read.graph.arcs()), (5, 7));
-            assert_eq!(rt; read.questions.len(), 3);
-            assert!(rt; read.order.is_none());
-        }
-        Err(_) => panic!(rt; "a fault"),
-    }
+    assert_eq!(rt; ended.map_or_else(|fault| fault.number, |()| 0), number);
+    assert_eq!(rt; out.into_inner().as_slice(), written.as_bytes());
 }
 
 #[test]
 fn own_algebra_tolls(rt: HostRuntime) {
     let wanted = "p ans ss 1 own\ns 1\nd 1 0 0 0\nd 2 6 2 3\nd 3 2 1 1\nd 4 16 3 2\nu 5\n";
-    assert_answered(&rt, Tolls, &Settings::default(), FIVE, FROM_ONE, wanted);
+    let settings = Settings::default();
+    assert_ends(
+        &rt,
+        Tolls,
+        &[FIVE, FROM_ONE],
+        &settings,
+        &OpenGate,
+        (0, wanted),
+    );
+}
+
+/// Asserts how questions over `FIVE` end if the gate is closed so; gives what it has counted.
+fn counted(
+    rt: &(impl Abort + AllocGlobal + Threads + Wait + Sync),
+    questions: &str,
+    settings: Settings,
+    closed: Closed,
+    wanted: (u8, &str),
+) -> Counted {
+    let gate = Counting::new(closed);
+    assert_ends(rt, Shortest, &[FIVE, questions], &settings, &gate, wanted);
+    gate.counted()
+}
+
+#[test]
+fn a_gate_that_closes(rt: HostRuntime) {
+    for shards in [1, 3] {
+        let settings = Settings { shards, ..SLOW };
+        for turn in 1..=18 {
+            counted(&rt, FROM_ONE, settings, Closed::AtTurn(turn), (41, HEADER));
+        }
+    }
+    counted(&rt, FROM_ONE, SLOW, Closed::AtTurn(19), (0, SHORTEST));
+    for workers in [1, 2, 64] {
+        let settings = Settings {
+            workers,
+            ..Settings::default()
+        };
+        counted(&rt, THRICE, settings, Closed::Always, (41, NONE_OF_THREE));
+    }
+}
+
+/// Three questions of 18 turns each: the one in whose turn the gate answers `false` is not
+/// answered, and the gate is not asked again.
+#[test]
+fn a_gate_that_answers_false_once(rt: HostRuntime) {
+    for &(after, number, written, asked) in &[
+        (0, 41, NONE_OF_THREE, 1),
+        (17, 41, NONE_OF_THREE, 18),
+        (18, 41, ONE_OF_THREE, 19),
+        (35, 41, ONE_OF_THREE, 36),
+        (54, 0, ALL_OF_THREE, 54),
+    ] {
+        let seen = counted(&rt, THRICE, SLOW, Closed::After(after), (number, written));
+        assert_eq!(rt; seen.asked, asked);
+    }
+}
+
+#[test]
+fn the_least_worker_that_stopped(rt: HostRuntime) {
+    let settings = Settings {
+        workers: 2,
+        shards: 2,
+        turns: 1,
+        ..Settings::default()
+    };
+    for &(worker, number) in &[(0, 41), (1, 40)] {
+        counted(
+            &rt,
+            FROM_ONE,
+            settings,
+            Closed::ToWorker(worker),
+            (number, HEADER),
+        );
+    }
+}
+
+/// With one item a turn a question takes as many turns as messages and signals: 18 from 1, 20 from 5,
+/// 6 from 2 and 4 from 4. Those of a group of diffusions are made by one worker in one go.
+#[test]
+fn gates_are_asked_once_a_turn(rt: HostRuntime) {
+    for &(questions, answers, width, asked, turn) in &[
+        (THRICE, ALL_OF_THREE, 1, 54, 18),
+        (THRICE, ALL_OF_THREE, 2, 54, 36),
+        (PAIRS, ROUTES, 1, 56, 20),
+        (PAIRS, ROUTES, 2, 56, 36),
+        (PAIRS, ROUTES, 3, 56, 56),
+        (SEVERAL, NEAREST, 1, 50, 20),
+        (SEVERAL, NEAREST, 2, 50, 26),
+        (SEVERAL, NEAREST, 4, 50, 50),
+    ] {
+        let settings = Settings { width, ..SLOW };
+        let seen = counted(&rt, questions, settings, Closed::Never, (0, answers));
+        assert_eq!(rt; (seen.asked, seen.turn), (asked, turn));
+    }
+}
+
+#[test]
+fn budgets_are_kept(rt: HostRuntime) {
+    for &(budget, turns) in &[(1, 18), (2, 9), (5, 4), (1024, 1)] {
+        let settings = Settings { budget, ..SLOW };
+        let seen = counted(&rt, FROM_ONE, settings, Closed::Never, (0, SHORTEST));
+        assert_eq!(rt; seen.asked, turns);
+    }
+}
+
+/// The greatest worker that makes a turn: one shard of three questions is one worker's by shards, and
+/// three workers' by questions. The plain solver asks no gate.
+#[test]
+fn workers_that_ask(rt: HostRuntime) {
+    let wide = Settings {
+        workers: 5,
+        width: 3,
+        ..SLOW
+    };
+    for &(questions, answers, settings, worker) in &[
+        (FROM_ONE, SHORTEST, Settings { shards: 5, ..wide }, 4),
+        (THRICE, ALL_OF_THREE, wide, 0),
+        (
+            THRICE,
+            ALL_OF_THREE,
+            Settings {
+                dealing: Dealing::Questions,
+                ..wide
+            },
+            2,
+        ),
+    ] {
+        let seen = counted(&rt, questions, settings, Closed::Never, (0, answers));
+        assert_eq!(rt; seen.worker, worker);
+    }
+    let plain = Settings {
+        plain: true,
+        turns: 0,
+        ..SLOW
+    };
+    counted(&rt, FROM_ONE, plain, Closed::Always, (0, SHORTEST));
+}
+
+/// Asserts that each of two workers has made its mark.
+fn assert_marked(rt: &impl Abort, marks: &[CachePadded<AtomicU64>; 2]) {
+    for mark in marks {
+        assert_eq!(rt; mark.load(Ordering::SeqCst), 1);
+    }
+}
+
+#[test]
+fn two_workers_meet(rt: HostRuntime) {
+    let gate = Meeting::new(1_000_000_000);
+    let settings = Settings {
+        workers: 2,
+        shards: 2,
+        turns: 1_000_000_000,
+        ..Settings::default()
+    };
+    assert_ends(
+        &rt,
+        Shortest,
+        &[FIVE, FROM_ONE],
+        &settings,
+        &gate,
+        (0, SHORTEST),
+    );
+    assert_marked(&rt, &gate.marks);
+    assert_marked(&rt, &gate.seconds);
+    assert_eq!(rt; gate.refused.load(Ordering::SeqCst), 0);
 }

@@ -1,119 +1,73 @@
-//! Gates that count, close, or look for each other.
-ghost use Rattle.std.specs.Prelude.{◌≡◌, true, false};
-
+//! Gates that count and may be closed, and one at which two workers look for each other.
 use batch_run::Gate;
 use crossbeam_utils::CachePadded;
 use std::sync::atomic::{AtomicU64, Ordering};
 
-/// Counts how often it is asked, and keeps the greatest turn.
+/// When a gate answers `false`.
+#[derive(Clone, Copy)]
+pub enum Closed {
+    Never,
+    Always,
+    /// Before this turn of each worker.
+    AtTurn(u64),
+    /// To this worker.
+    ToWorker(u64),
+    /// Once, after it was asked so many times.
+    After(u64),
+}
+
+/// Counts how often it is asked, and keeps the greatest turn and the greatest number of a worker.
 #[derive(Drop)]
 pub struct Counting {
+    closed: Closed,
     asked: AtomicU64,
-    greatest: AtomicU64,
+    turn: AtomicU64,
+    worker: AtomicU64,
 }
 
 impl Gate for Counting {
-    ghost may_answer = { λ _ _ _ answer. answer ≡ true };
+    ghost may_answer = { λ _ _ _ _. Unit {0} };
 
-    fn before(&self, _worker: u64, turn: u64) -> bool {
-        self.asked.fetch_add(1, Ordering::SeqCst);
-        self.greatest.fetch_max(turn, Ordering::SeqCst);
-        true
+    fn before(&self, worker: u64, turn: u64) -> bool {
+        let asked = self.asked.fetch_add(1, Ordering::SeqCst);
+        self.turn.fetch_max(turn, Ordering::SeqCst);
+        self.worker.fetch_max(worker, Ordering::SeqCst);
+        match self.closed {
+            Closed::Never => true,
+            Closed::Always => false,
+            Closed::AtTurn(closed) => turn != closed,
+            Closed::ToWorker(closed) => worker != closed,
+            Closed::After(closed) => asked != closed,
+        }
     }
+}
+
+/// What a gate has counted.
+#[derive(Clone, Copy)]
+pub struct Counted {
+    pub asked: u64,
+    /// The greatest turn.
+    pub turn: u64,
+    /// The greatest number of a worker.
+    pub worker: u64,
 }
 
 impl Counting {
-    pub fn new() -> Counting {
+    pub fn new(closed: Closed) -> Counting {
         Counting {
-            asked: AtomicU64::new(0),
-            greatest: AtomicU64::new(0),
-        }
-    }
-
-    /// How often it was asked, and the greatest turn.
-    pub fn counts(&self) -> (u64, u64) {
-        (
-            self.asked.load(Ordering::SeqCst),
-            self.greatest.load(Ordering::SeqCst),
-        )
-    }
-}
-
-/// Keeps the greatest number of a worker that asks.
-#[derive(Drop)]
-pub struct GreatestWorker(pub AtomicU64);
-
-impl Gate for GreatestWorker {
-    ghost may_answer = { λ _ _ _ answer. answer ≡ true };
-
-    fn before(&self, worker: u64, _turn: u64) -> bool {
-        self.0.fetch_max(worker, Ordering::SeqCst);
-        true
-    }
-}
-
-/// Counts how often it is asked, and answers `false` the time of this number alone.
-#[derive(Drop)]
-pub struct FalseOnce {
-    asked: AtomicU64,
-    closed: u64,
-}
-
-impl Gate for FalseOnce {
-    ghost may_answer = { λ _ _ _ _. Unit {0} };
-
-    fn before(&self, _worker: u64, _turn: u64) -> bool {
-        self.asked.fetch_add(1, Ordering::SeqCst) != self.closed
-    }
-}
-
-impl FalseOnce {
-    /// Answers `false` after so many times, once.
-    pub fn after(closed: u64) -> FalseOnce {
-        FalseOnce {
-            asked: AtomicU64::new(0),
             closed,
+            asked: AtomicU64::new(0),
+            turn: AtomicU64::new(0),
+            worker: AtomicU64::new(0),
         }
     }
 
-    /// How often it was asked.
-    pub fn asked(&self) -> u64 {
-        self.asked.load(Ordering::SeqCst)
-    }
-}
-
-/// Closed to every worker.
-pub struct Closed;
-
-impl Gate for Closed {
-    ghost may_answer = { λ _ _ _ answer. answer ≡ false };
-
-    fn before(&self, _worker: u64, _turn: u64) -> bool {
-        false
-    }
-}
-
-/// Closed to every worker at one turn.
-#[derive(Drop)]
-pub struct ClosedAt(pub u64);
-
-impl Gate for ClosedAt {
-    ghost may_answer = { λ _ _ _ _. Unit {0} };
-
-    fn before(&self, _worker: u64, turn: u64) -> bool {
-        turn != self.0
-    }
-}
-
-/// Closed to one worker.
-#[derive(Drop)]
-pub struct ClosedTo(pub u64);
-
-impl Gate for ClosedTo {
-    ghost may_answer = { λ _ _ _ _. Unit {0} };
-
-    fn before(&self, worker: u64, _turn: u64) -> bool {
-        worker != self.0
+    pub fn counted(&self) -> Counted {
+        Counted {
+            asked: self.asked.load(Ordering::SeqCst),
+            turn: self.turn.load(Ordering::SeqCst),
+            worker: self.worker.load(Ordering::SeqCst),
+        }
     }
 }
 

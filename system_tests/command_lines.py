@@ -222,7 +222,7 @@ PROGRESS = [
     ("solve g q --factors --progress", SHORTEST, FACTORED + SHOWN, 0),
     ("solve g q --factors --order upward --progress", SHORTEST, "diffuse: the graph is factored\n" + SHOWN, 0),
     ("solve g three --factors --progress", THREE_PAIRS, FACTORED + "".join(f"diffuse: {k} of 3 questions answered\n" for k in (1, 2, 3)), 0),
-    ("solve g none.ss --factors --algebra hops --progress", "p ans ss 0 hops\n", FACTORED, 0),
+    ("solve g none.ss --factors --algebra hops --progress", "p ans ss 0 hops\n", "diffuse: 0 of 0 questions answered\n" + FACTORED, 0),
     ("solve g q --accounts a", SHORTEST, "", 0),
     ("solve g q --accounts a --progress", SHORTEST, SHOWN, 0),
     ("solve g q --accounts none/a", "", fault("42"), 5),

@@ -1,14 +1,10 @@
-//! Graphs, requests and replies for the tests of services, and helpers that run a service.
-ghost use Rattle.std.specs.Prelude.{◌<◌};
-
-use batch_run::{Gate, OpenGate, Run, RunFault, Settings};
-use path_algebra::{PathAlgebra, Shortest};
+//! Graphs, requests and replies for the tests of services, and a service over it.
+use batch_run::{Gate, Run, RunFault, Settings};
+use path_algebra::Shortest;
 use service::run_service;
-use std::process::Abort;
 use std::sync::Wait;
 use std::thread::Threads;
 use text_lines::{Plain, RoadRead, RoadWrite};
-use text_trials::Pieces;
 
 /// Five vertices. No arc leads to the last.
 pub(crate) const FIVE: &str =
@@ -34,81 +30,21 @@ pub(crate) fn plain() -> Settings {
     }
 }
 
-/// The settings of a service that factors its graph.
-pub(crate) fn by_factors() -> Settings {
-    Settings {
-        factors: true,
-        ..Settings::default()
-    }
-}
-
-/// How a service over a graph ends.
-pub(crate) fn serve<A: PathAlgebra, Q: RoadRead, W: RoadWrite, R: Threads + Wait + Sync, T: Gate>(
-    run: &Run<'_, R, T>,
-    algebra: A,
-    graph: &str,
-    requests: &mut Q,
-    out: &mut W,
-) -> Result<(), RunFault> {
-    let mut graph = Plain::new(graph.as_bytes());
-    let mut order: Option<Plain<&[u8]>> = None;
-    run_service(run, algebra, &mut graph, &mut order, requests, out)
-}
-
-/// How it ends with these settings and an open gate.
-pub(crate) fn serve_with<
-    A: PathAlgebra,
-    Q: RoadRead,
-    W: RoadWrite,
-    R: AllocGlobal + Threads + Wait + Sync,
->(
+/// How a service over `FIVE` ends.
+pub(crate) fn serve<Q: RoadRead, W: RoadWrite, R: AllocGlobal + Threads + Wait + Sync, T: Gate>(
     rt: &R,
     settings: &Settings,
-    algebra: A,
-    graph: &str,
+    gate: &T,
     requests: &mut Q,
     out: &mut W,
 ) -> Result<(), RunFault> {
+    let mut graph = Plain::new(FIVE.as_bytes());
+    let mut order: Option<Plain<&[u8]>> = None;
     let run = Run {
         rt,
         alloc: rt.alloc(),
         settings,
-        gate: &OpenGate,
+        gate,
     };
-    serve(&run, algebra, graph, requests, out)
-}
-
-/// Asserts the replies to requests over `FIVE` that come in pieces of this size.
-pub(crate) fn assert_pieces(
-    rt: &(impl Abort + AllocGlobal + Threads + Wait + Sync),
-    requests: &str,
-    piece: usize,
-    replies: &str,
-    settings: &Settings,
-)
-    requires { 0 < piece }
-{
-    let mut input = Pieces::new(requests.as_bytes(), piece, false);
-    let mut out = Plain::new(Vec::new(rt.alloc()));
-    let ended = serve_with(rt, settings, Shortest, FIVE, &mut input, &mut out);
-    assert_eq!(rt; ended, Ok(()), "{requests}");
-    assert_eq!(rt;
-        out.into_inner().as_slice(),
-        replies.as_bytes(),
-        "{requests}"
-    );
-}
-
-/// Asserts the replies to requests over `FIVE`.
-pub(crate) fn assert_replies(
-    rt: &(impl Abort + AllocGlobal + Threads + Wait + Sync),
-    requests: &str,
-    replies: &str,
-) {
-    assert_pieces(rt, requests, 65_536, replies, &plain());
-}
-
-/// Texts, one after the other.
-pub(crate) fn joined(rt: &(impl Abort + AllocGlobal), texts: &[&str]) -> String {
-    texts.concat(rt.alloc()).expect(rt, "memory")
+    run_service(&run, Shortest, &mut graph, &mut order, requests, out)
 }

@@ -6,8 +6,6 @@
 #[cfg(test)]
 mod asking;
 #[cfg(test)]
-mod orders;
-#[cfg(test)]
 mod replies;
 #[cfg(test)]
 mod stops;

@@ -1,13 +1,10 @@
 //! What a watcher of a service is told at each read.
-use crate::asking::{FIVE, ONE, ONE_REPLY, joined, plain};
+use crate::asking::{FIVE, ONE_REPLY, plain};
 use batch_run::{OpenGate, Run};
 use path_algebra::Shortest;
 use service::{ReadWatcher, run_service_watched};
 use text_lines::Plain;
 use text_trials::{Pieces, Sheet};
-
-/// The length of the request `ONE`.
-const ONE_BYTES: usize = 21;
 
 /// How many reads there were, and how many bytes had been written before each of the first.
 #[derive(Drop)]
@@ -27,13 +24,13 @@ impl ReadWatcher<Pieces<'_>, Sheet> for Lengths {
     }
 }
 
+/// Two requests of 21 bytes each, in pieces of as many.
 #[test]
 fn a_read_comes_after_the_replies(rt: HostRuntime) {
-    let requests = joined(&rt, &[ONE, ONE]);
-    let replies = joined(&rt, &[ONE_REPLY, ONE_REPLY]);
+    let requests = "p aux sp p2p 1\nq 1 4\np aux sp p2p 1\nq 1 4\n";
     let mut graph = Plain::new(FIVE.as_bytes());
     let mut order: Option<Plain<&[u8]>> = None;
-    let mut input = Pieces::new(requests.as_bytes(), ONE_BYTES, false);
+    let mut input = Pieces::new(requests.as_bytes(), 21, false);
     let mut out = Sheet::new(rt.alloc(), 1_024, true);
     let mut lengths = Lengths {
         reads: 0,
@@ -57,5 +54,8 @@ fn a_read_comes_after_the_replies(rt: HostRuntime) {
     );
     assert_eq!(rt; ended, Ok(()));
     assert_eq!(rt; lengths.reads, 3);
-    assert_eq!(rt; lengths.written, [0, ONE_REPLY.len(), replies.len(), 0]);
+    assert_eq!(rt;
+        lengths.written,
+        [0, ONE_REPLY.len(), 2 * ONE_REPLY.len(), 0]
+    );
 }

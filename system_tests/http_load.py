@@ -13,7 +13,13 @@ from http_faults import ROUTE, Trickle, connect
 from http_requests import FIVE, TOWN
 from http_server import Server, received, replace, soon, statuses, together
 
-TABLE = "/table?sources=" + ",".join(map(str, range(1, 101))) + "&targets=" + ",".join(map(str, range(3901, 4001)))
+
+def table_to(last):
+    """A table from the first hundred vertices to the hundred up to this one."""
+    return "/table?sources=" + ",".join(map(str, range(1, 101))) + "&targets=" + ",".join(map(str, range(last - 99, last + 1)))
+
+
+TABLE = table_to(4000)
 
 
 def beside_the_program(program, asks, *words):
@@ -52,11 +58,13 @@ def over_its_limits():
         yield f"status {server.run.returncode}"
 
 
-def late():
+def late(room):
     """A table that takes longer than the timeout is refused in time, its search stops, and routes go on."""
-    server = Server(TOWN, "--handles", "1", "--timeout", "0.02")
+    path, n = Path(room) / "street.gr", 50_000
+    path.write_text(f"p sp {n} {2 * n - 2}\n" + "".join(f"a {k} {k + 1} 1\na {k + 1} {k} 1\n" for k in range(1, n)))
+    server = Server(path, "--handles", "1", "--timeout", "0.02")
     for _ in range(3):
-        began, (status, reply) = time.monotonic(), server.ask(TABLE)
+        began, (status, reply) = time.monotonic(), server.ask(table_to(n))
         if status != 503 or reply["detail"] != "timed out" or time.monotonic() - began > 2:
             yield f"{status} {reply} after {time.monotonic() - began:.2f} s"
     if not soon(lambda: server.counted("diffuse_searches_running") == 0, 2):

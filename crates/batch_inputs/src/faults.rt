@@ -2,9 +2,9 @@
 ghost use Rattle.std.specs.Prelude.{◌≡◌, Some};
 ghost use Rattle.batch_inputs.specs.FaultTexts.{fault_shown, file_text};
 
-use std::error::Error;
 use std::fmt;
 use text_lines::ReadFault;
+use thiserror::Error;
 
 /// The input that a fault speaks of.
 #[derive(Clone, Copy, Debug, PartialEq, Eq)]
@@ -41,7 +41,7 @@ impl File {
 
 /// Why a batch stopped: the number of the fault, the input, and the line in it (0 if none is
 /// meant).
-#[derive(Clone, Copy, Debug, PartialEq, Eq)]
+#[derive(Clone, Copy, Debug, PartialEq, Eq, Error)]
 pub struct RunFault {
     pub number: u8,
     pub file: File,
@@ -61,8 +61,6 @@ impl fmt::Display for RunFault {
         write!(f, "fault {number}{file} line {line}")
     }
 }
-
-impl Error for RunFault {}
 
 /// A write that failed, took nothing, or was not passed on.
 pub const WRITE: u8 = 42;

@@ -25,7 +25,7 @@ pub struct Counts {
     pub links: u64,
     /// Pairs of links from the same vertex.
     pub triangles: u64,
-    /// Entries of lists that were looked at.
+    /// Entries of lists that were looked at, and vertices that flows came to.
     pub work: u64,
 }
 
@@ -46,11 +46,17 @@ impl Counts {
         self.triangles = self.triangles.saturating_add(triangles);
     }
 
-    /// So many more entries are looked at.
+    /// So much more work is done.
     #[inline]
     pub(crate) fn add_work(&mut self, entries: usize) {
         self.work = self.work.saturating_add(entries as u64);
     }
+}
+
+/// Half of the work that an order of a graph of so many vertices and arcs may take. Flows may take
+/// that: road networks need two thirds of it at most, a large mesh is cut into a few pieces by it.
+pub(crate) fn half_of_work(vertices: u32, arcs: u32) -> u64 {
+    WORK_AN_ENTRY / 2 * (u64::from(vertices) + u64::from(arcs))
 }
 
 /// Whether a graph of so many vertices and arcs is too dense by these counts.

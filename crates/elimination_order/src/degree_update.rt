@@ -91,7 +91,7 @@ impl Elimination {
         let count = kept.end.saturating_sub(vertices.start);
         let middle = kept.end;
         self.keep_elements(*pivot, node.elements(), &mut kept);
-        if kept.degree == 0 {
+        if kept.degree == 0 && self.levels.is_present(v) {
             pivot.eliminated = pivot.eliminated.saturating_add(node.size);
             pivot.degree = pivot.degree.saturating_sub(node.size);
             return self.merge(v, pivot.vertex);

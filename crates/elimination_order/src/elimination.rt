@@ -1,9 +1,10 @@
 //! The elimination: one vertex after the other becomes an element.
 
 use crate::assembly_tree::TreeNode;
-use crate::counts::{Counts, is_too_dense};
-use crate::degree_lists::DegreeLists;
+use crate::counts::{Counts, half_of_work, is_too_dense};
+use crate::degree_lists::{DegreeLists, Turn};
 use crate::hash_buckets::HashBuckets;
+use crate::levels::Levels;
 use crate::lists::stored;
 use crate::neighbours::Neighbours;
 use crate::pivot::Pivot;
@@ -16,6 +17,7 @@ use std::alloc::{AllocError, Global};
 pub(crate) struct Elimination {
     pub(crate) graph: QuotientGraph,
     pub(crate) degrees: DegreeLists,
+    pub(crate) levels: Levels,
     pub(crate) buckets: HashBuckets,
     pub(crate) counts: Counts,
     /// How many arcs the graph has.
@@ -30,12 +32,12 @@ pub(crate) struct Elimination {
 
 impl Elimination {
     /// Nothing is eliminated yet.
-    pub(crate) fn open(alloc: Global, graph: &OutGraph) -> Result<Self, Memory> {
+    pub(crate) fn open(alloc: Global, graph: &OutGraph, turn: Turn) -> Result<Self, Memory> {
         let neighbours = Neighbours::of(alloc, graph)?;
         let arcs = stored(graph.arcs());
         let graph = QuotientGraph::open(alloc, neighbours)?;
         let n = graph.vertices();
-        let mut degrees = DegreeLists::new(alloc, n as usize)?;
+        let mut degrees = DegreeLists::new(alloc, n as usize, turn)?;
         let mut left = 0u32;
         for v in 0..n {
             let node = graph.node(v);
@@ -44,16 +46,35 @@ impl Elimination {
                 left = left.saturating_add(1);
             }
         }
-        Ok(Elimination {
+        let mut elimination = Elimination {
             graph,
             degrees,
+            levels: Levels::one(alloc),
             buckets: HashBuckets::new(alloc, n as usize)?,
             counts: Counts::new(),
             arcs,
             eliminated: Vec::with_capacity(alloc, n as usize)?,
             tree: vec![in alloc; TreeNode::new(); n as usize]?,
             left,
-        })
+        };
+        elimination.count_dense();
+        Ok(elimination)
+    }
+
+    /// Puts a vertex into the list of its degree, if it is of the present level.
+    #[inline]
+    pub(crate) fn enter(&mut self, v: u32, degree: u32) {
+        if self.levels.is_present(v) {
+            self.degrees.insert(v, degree);
+        }
+    }
+
+    /// Takes a vertex out of the list of its degree, if it is of the present level.
+    #[inline]
+    pub(crate) fn leave(&mut self, v: u32, degree: u32) {
+        if self.levels.is_present(v) {
+            self.degrees.remove(v, degree);
+        }
     }
 
     /// Lets a vertex go with another, which stands for it too.
@@ -111,9 +132,14 @@ impl Elimination {
         is_too_dense(self.graph.vertices(), self.arcs, self.counts)
     }
 
-    /// Eliminates each vertex whose row is not dense, unless the graph is too dense.
-    pub(crate) fn run(&mut self) -> Result<(), Memory> {
-        self.count_dense();
+    /// The work that flows may take.
+    pub(crate) fn work_of_flows(&self) -> u64 {
+        half_of_work(self.graph.vertices(), self.arcs)
+    }
+
+    /// Eliminates each vertex of the present level that comes to a degree up to the most, unless
+    /// the graph is too dense.
+    pub(crate) fn run(&mut self, most: u32) -> Result<(), Memory> {
         for _ in 0..self.left {
             if self.left == 0 || self.is_too_dense() {
                 return Ok(());
@@ -121,6 +147,9 @@ impl Elimination {
             let Some(vertex) = self.degrees.first() else {
                 return Ok(());
             };
+            if self.graph.node(vertex).degree > most {
+                return Ok(());
+            }
             self.eliminate(vertex)?;
         }
         Ok(())

@@ -28,6 +28,25 @@ pub(crate) fn put(list: &mut [u32], i: usize, x: u32) {
     }
 }
 
+/// Adds one to a number of a list.
+#[inline]
+pub(crate) fn count(counts: &mut [u32], i: u32) {
+    if let Some(number) = counts.get_mut(i as usize) {
+        *number = number.saturating_add(1);
+    }
+}
+
+/// Puts the sum of the numbers before it in place of each. Says what the sum of all is.
+pub(crate) fn take_starts(counts: &mut [u32]) -> u32 {
+    let mut total = 0u32;
+    for start in counts.iter_mut() {
+        let count = *start;
+        *start = total;
+        total = total.saturating_add(count);
+    }
+    total
+}
+
 /// A part of a list.
 #[derive(Clone, Copy)]
 pub(crate) struct Span {

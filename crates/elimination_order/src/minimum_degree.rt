@@ -3,22 +3,12 @@ ghost use Rattle.std.specs.Prelude.{IfOk, IfNone, IfSome, length};
 ghost use Rattle.elimination_order.specs.Bounds.{AreWithinBounds, IsTooDense};
 ghost use Rattle.elimination_order.specs.Orders.{HasEachVertex};
 
-use crate::counts::{Counts, is_too_dense};
+use crate::degree_lists::Turn;
 use crate::elimination::Elimination;
-use crate::postorder::in_postorder;
-use road_graph::{Memory, OutGraph, Vertex};
+use crate::lists::NONE;
+use crate::order::{Ordered, order_of};
+use road_graph::{Memory, OutGraph};
 use std::alloc::Global;
-
-/// An order of elimination, and what it makes.
-#[derive(Drop)]
-pub struct Ordered {
-    /// The vertices in the order in which they are eliminated; none if the graph is too dense to
-    /// factor.
-    pub order: Option<Vec<Vertex>>,
-    /// What the elimination makes, if each dense row is a neighbour of every vertex; what it had
-    /// made when it was given up, if there is no order.
-    pub counts: Counts,
-}
 
 /// An order of the vertices of a graph by approximate minimum degree; none if the graph is too
 /// dense to factor.
@@ -35,19 +25,7 @@ pub fn approximate_minimum_degree(alloc: Global, graph: &OutGraph) -> Result<Ord
     ensures dense { IfOk result (λ found. IfNone found.order
         (IsTooDense graph.now.vertices (length graph.now.arcs) found.counts)) }
 {
-    graph.holds();
-    let mut elimination = Elimination::open(alloc, graph)?;
-    elimination.run()?;
-    let counts = elimination.counts;
-    if is_too_dense(graph.vertices(), graph.arcs() as u32, counts) {
-        return Ok(Ordered {
-            order: None,
-            counts,
-        });
-    }
-    let order = in_postorder(alloc, graph.vertices(), &elimination)?;
-    Ok(Ordered {
-        order: Some(order),
-        counts,
-    })
+    let mut elimination = Elimination::open(alloc, graph, Turn::Newest)?;
+    elimination.run(NONE)?;
+    order_of(alloc, graph, &elimination)
 }

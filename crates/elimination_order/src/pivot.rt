@@ -31,7 +31,7 @@ impl Elimination {
                 node.mark = mark;
                 degree = degree.saturating_add(node.size);
                 let old = node.degree;
-                self.degrees.remove(v, old);
+                self.leave(v, old);
                 self.graph.lists.push(v).map_err(AllocError::from)?;
             }
         }
@@ -43,7 +43,7 @@ impl Elimination {
     pub(crate) fn begin(&mut self, vertex: u32) -> Result<Pivot, Memory> {
         let mark = self.graph.new_mark();
         let node = self.graph.node(vertex);
-        self.degrees.remove(vertex, node.degree);
+        self.leave(vertex, node.degree);
         let pivot = self.graph.node_mut(vertex);
         pivot.size = 0;
         pivot.mark = mark;
@@ -79,7 +79,7 @@ impl Elimination {
         let most = node.degree.saturating_add(pivot.degree).min(left);
         node.degree = most.saturating_sub(node.size);
         let degree = node.degree;
-        self.degrees.insert(v, degree);
+        self.enter(v, degree);
     }
 
     /// Ends with the members that are left.
@@ -114,7 +114,7 @@ impl Elimination {
         let most = left.saturating_sub(node.size);
         node.degree = node.degree.saturating_sub(pivot.eliminated).min(most);
         let degree = node.degree;
-        self.degrees.insert(v, degree);
+        self.enter(v, degree);
         self.graph.lists.truncate(start);
         self.absorb(pivot.vertex, v);
         self.eliminated

@@ -44,7 +44,7 @@ impl Elimination {
             }
             self.counts.add_work(1);
             let other = self.graph.node(u);
-            if other.size > 0 && node.may_equal(other) {
+            if other.size > 0 && node.may_equal(other) && self.levels.are_alike(u, v) {
                 let marked = match mark {
                     Some(marked) => marked,
                     None => self.mark(node),

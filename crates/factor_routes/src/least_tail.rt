@@ -1,5 +1,5 @@
 //! One step back along a route.
-ghost use Rattle.std.specs.Prelude.{◌≡◌, ℕ, ◌<◌, List, Option, IfOk, IfSome};
+ghost use Rattle.std.specs.Prelude.{◌≡◌, ℕ, ◌<◌, List, Option, IfOk, IfSome, IsTrue};
 ghost use Rattle.road_graph.specs.GraphData.{HasVertex};
 ghost use Rattle.path_algebra.specs.Counted.{AreBestInto, cost_of};
 ghost use Rattle.path_algebra.specs.Walks.{IsBestLabel};
@@ -18,6 +18,16 @@ fn lesser(a: Option<(Vertex, u64)>, b: Option<(Vertex, u64)>) -> Option<(Vertex,
         (Some(x), Some(y)) => Some(if x.0.0 <= y.0.0 { x } else { y }),
         (None, y) => y,
         (x, None) => x,
+    }
+}
+
+/// Whether there is a tail, and it is no greater than a vertex.
+fn is_settled(least: &Option<(Vertex, u64)>, v: Vertex) -> bool
+    ensures { IsTrue result → (other : Option (ℕ × ℕ)) → IfSome other (λ tail. tail.0 ≡ v) → lesser least.now other ≡ least.now }
+{
+    match least {
+        Some(found) => found.0.0 <= v.0,
+        None => false,
     }
 }
 
@@ -52,6 +62,34 @@ impl RoadFactors {
         }
     }
 
+    /// The lesser of a tail and that of an arc, if it has one as in `tail_if`. An arc from no lesser
+    /// vertex is not looked at.
+    fn lesser_tail<N: BestNumbers>(
+        &self,
+        numbers: &mut N,
+        least: Option<(Vertex, u64)>,
+        road: OutRoad,
+        y: u64,
+    ) -> Result<Option<(Vertex, u64)>, Memory>
+        requires tail { HasVertex self.now.roads road.head }
+        requires known { (sources : List ℕ) × N.are_best numbers.old self.now sources }
+        requires inside { IfSome least (λ tail. HasVertex self.now.roads tail.0 × (tail.1 < y)) }
+        ensures kept { (sources : List ℕ) → N.are_best numbers.old self.now sources → N.are_best
+            numbers.new self.now sources }
+        ensures inside { IfOk result (λ found. IfSome found (λ tail.
+            HasVertex self.now.roads tail.0 × (tail.1 < y))) }
+        ensures lesser { IfOk result (λ found. (sources : List ℕ) (number : Option ℕ) →
+            N.are_best numbers.old self.now sources →
+            IsBestLabel (numbers_of self.now) self.now.roads sources road.head number →
+            found ≡ lesser least (adding_up (cost_of self.now.algebra.cost) self.now.algebra.bits y road number)) }
+    {
+        if is_settled(&least, road.head) {
+            return Ok(least);
+        }
+        let tail = self.tail_if(numbers, road, y)?;
+        Ok(lesser(least, tail))
+    }
+
     /// The least vertex from which an arc adds up to the number y of v, and its number; none if
     /// there is no such vertex.
     pub(crate) fn least_tail<N: BestNumbers>(
@@ -76,7 +114,7 @@ impl RoadFactors {
         self.holds();
         let mut least = None;
         for road in by_head.roads_into(v) {
-            least = lesser(least, self.tail_if(numbers, *road, y)?);
+            least = self.lesser_tail(numbers, least, *road, y)?;
         }
         Ok(least)
     }

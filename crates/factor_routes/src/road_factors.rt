@@ -8,7 +8,7 @@ ghost use Rattle.path_factors.specs.Factors.{HasEachVertex};
 ghost use Rattle.factor_routes.specs.declared.road_factors.Unfactored.TheVariants.{Dense, Heavy};
 
 use crate::fitting::fitting_sums;
-use elimination_order::{Counts, Ordered, approximate_minimum_degree};
+use elimination_order::{Care, Counts, Ordered, approximate_minimum_degree, nested_dissection};
 use path_algebra::{Cost, CountedSums};
 use path_factors::{Asker, Factors};
 use road_graph::{InGraph, Memory, OutGraph, Vertex};
@@ -53,7 +53,8 @@ impl Model for RoadFactors {
 
 impl RoadFactors {
     /// An order of elimination for factors of a graph, and the counts of what it makes; that they
-    /// are those of this order is not claimed. `by_head` is the same graph, with its arcs by head.
+    /// are those of this order is not claimed. It is by nested dissection with this care, or else by
+    /// approximate minimum degree. `by_head` is the same graph, with its arcs by head.
     ///
     /// # Errors
     /// As of `of`.
@@ -62,6 +63,7 @@ impl RoadFactors {
         cost: Cost,
         graph: &OutGraph,
         by_head: &InGraph,
+        care: Option<Care>,
     ) -> Result<(Vec<Vertex>, Counts), Unfactored>
         requires { by_head.now ≡ graph.now }
         ensures each { IfOk result (λ found. HasEachVertex graph.now.vertices found.0.items) }
@@ -76,7 +78,11 @@ impl RoadFactors {
         let Some(_) = fitting_sums(cost, by_head) else {
             return Err(Unfactored::Heavy);
         };
-        let Ok(Ordered { order, counts }) = approximate_minimum_degree(alloc, graph) else {
+        let ordered = match care {
+            Some(care) => nested_dissection(alloc, graph, care),
+            None => approximate_minimum_degree(alloc, graph),
+        };
+        let Ok(Ordered { order, counts }) = ordered else {
             return Err(Unfactored::Memory);
         };
         match order {
@@ -115,8 +121,8 @@ impl RoadFactors {
         }
     }
 
-    /// The factors of a graph for the sums of these costs, by an order that is found. `by_head` is
-    /// the same graph, with its arcs by head.
+    /// The factors of a graph for the sums of these costs, by an order that nested dissection finds
+    /// fast. `by_head` is the same graph, with its arcs by head.
     ///
     /// # Errors
     /// `Heavy` only if no number of low bits leaves room for both the hops and the sums; `Dense`
@@ -136,7 +142,7 @@ impl RoadFactors {
         ensures bounds { IfErr result (λ e. (c : Counts) → e ≡ Dense c →
             IsTooDense graph.now.vertices (length graph.now.arcs) c) }
     {
-        let (order, _) = RoadFactors::seek_order(alloc, cost, graph, by_head)?;
+        let (order, _) = RoadFactors::seek_order(alloc, cost, graph, by_head, Some(Care::Fast))?;
         RoadFactors::by_order(alloc, cost, graph, by_head, &order)
     }
 

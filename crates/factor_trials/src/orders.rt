@@ -1,7 +1,8 @@
-//! Orders by approximate minimum degree: what they make of graphs that are counted by hand.
-//! `system_tests/factors` has larger ones, and those that are too dense.
-use elimination_order::approximate_minimum_degree;
+//! Orders by approximate minimum degree and by nested dissection: what they make of graphs that are
+//! counted by hand. `system_tests/factors` has larger ones, and those that are too dense.
+use elimination_order::{Care, approximate_minimum_degree, nested_dissection};
 use path_trials::made;
+use std::alloc::{AllocError, Global};
 use std::process::Abort;
 
 /// Asserts how many links and triangles the order of a graph makes.
@@ -41,4 +42,35 @@ fn links_and_triangles_by_hand(rt: HostRuntime) {
     assert_counts(&rt, (2, &twice), 1, 0);
     assert_counts(&rt, (6, &WHEEL[..5]), 5, 0);
     assert_counts(&rt, (6, &WHEEL), 12, 10);
+}
+
+/// Two complete graphs of 60 vertices, with vertex 121 joined to three of each.
+fn two_cliques(alloc: Global) -> Result<Vec<(u32, u32, u32)>, AllocError> {
+    let mut arcs = Vec::new(alloc);
+    for clique in 0..2u32 {
+        for v in 1..=60u32 {
+            for w in 1..v {
+                arcs.push((60 * clique + v, 60 * clique + w, 1))?;
+            }
+            if v <= 3 {
+                arcs.push((60 * clique + v, 121, 1))?;
+            }
+        }
+    }
+    Ok(arcs)
+}
+
+/// A vertex that cuts a graph goes last: 57 vertices of each complete graph have 59 to 3 links, and
+/// then the three beside the cut 3 to 1. By its degree it would go first, and the three would have
+/// three more links each to those on the other side.
+#[test]
+fn a_cut_goes_last(rt: HostRuntime) {
+    let arcs = two_cliques(rt.alloc()).expect(&rt, "memory");
+    assert_counts(&rt, (121, &arcs), 3555, 68473);
+    let graph = made(rt.alloc(), 121, &arcs).expect(&rt, "refused");
+    for care in [Care::Fast, Care::Careful] {
+        let found = nested_dissection(rt.alloc(), graph.outgoing(), care).expect(&rt, "memory");
+        assert!(rt; found.order.is_some());
+        assert!(rt; found.counts.links == 3546 && found.counts.triangles == 68446);
+    }
 }

@@ -31,3 +31,6 @@ pub record IsComposition {V W : Type 0} (A : Algebra V) (C : Composition V W) : 
   -- where the worse walk extends a value the better one does too, to a value no worse
   pub better_walk : (v : V) (a b : W) (y : V) → IsTrue (A.is_value v) → IsTrue (C.no_worse a b) →
       C.apply v b ≡ Some y → (x : V) × (C.apply v a ≡ Some x) × IsTrue (A.no_worse x y)
+  -- a walk that extends the worse value extends the better one too, to a value no worse
+  pub monotone : (u v : V) (a : W) (y : V) → IsTrue (A.is_value u) → IsTrue (A.is_value v) → IsTrue (A.no_worse u v) →
+      C.apply v a ≡ Some y → (x : V) × (C.apply u a ≡ Some x) × IsTrue (A.no_worse x y)

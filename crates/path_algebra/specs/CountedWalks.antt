@@ -61,6 +61,13 @@ module _ (name : AlgebraName) (cost : ℕ → ℕ) (limit : ℕ) (fits : limit <
         let less = leb-true a b h in
         let t : nat_le (v + a) limit ≡ true = le-leb (v + a) limit (omega (arith, less, sum, below)) in
         (v + a, rw t refl, le-leb (v + a) y (omega (arith, less, sum)));
+    monotone = λ u v a y hu hv h e.
+        let kept = coded_below limit (v + a) y e in
+        let sum = kept.1 in
+        let below = leb-true y limit kept.0 in
+        let less = leb-true u v h in
+        let t : nat_le (u + a) limit ≡ true = le-leb (u + a) limit (omega (arith, less, sum, below)) in
+        (u + a, rw t refl, le-leb (u + a) y (omega (arith, less, sum)));
   }
 
 -- the walks of sums that carry hops

@@ -11,7 +11,8 @@ use Rattle.path_algebra.specs.Composition.{Composition, IsComposition}
 use Rattle.path_algebra.specs.Walks.{IsBestLabel}
 use Rattle.path_factors.specs.Factors.{FactorData, IsFactor, place_of}
 use Rattle.path_factors.specs.Substituting.{at, IsForward}
-use Rattle.path_factors.specs.Edges.{AreAligned}
+use Rattle.path_factors.specs.Heads.{AreHeads}
+use Rattle.path_factors.specs.Tree.{AreAtHeads}
 use Rattle.path_factors.specs.Asking.{is_on, IsBackRun, Agree, IsAsking, IsAboveSource, AreOnlyUp, AreAllUnknownUp, AreFound, IsExtended}
 use Rattle.path_factors.proofs.Places.{at_none, origins_none}
 use Rattle.path_factors.proofs.Sweeps.{forward_starts, forward_ends}
@@ -25,15 +26,15 @@ off_none (suc n) zero = refl
 off_none (suc n) (suc i) = off_none n i
 
 module _ {V W : Type 0} (A : Algebra V) (lawful : IsLawful A) (C : Composition V W) (composes : IsComposition A C)
-    (g : GraphData) (roads : IsGraph g) (F : FactorData W) (factor : IsFactor A C g F) where
+    (g : GraphData) (roads : IsGraph g) (F : FactorData W) (factor : IsFactor A C g F) (heads : List (List ℕ)) (are : AreHeads g.vertices heads) where
   -- before the first source
-  pub asking_none : IsAsking A C g F [] (replicate g.vertices None) (replicate g.vertices false) []
+  pub asking_none : IsAsking A C g F heads [] (replicate g.vertices None) (replicate g.vertices false) []
   asking_none =
       let labels : List (Option V) = replicate g.vertices None in
       let count : length labels ≡ g.vertices = length-replicate g.vertices None in
       let origins = origins_none A g F factor.ordering labels count (λ i. at_none g.vertices i) in
       let start = forward_starts A lawful C composes g roads F factor [] labels (λ i x lt. absurd (omega (arith, lt))) origins in
-      let whole = forward_skips A lawful C composes g roads F factor [] 0 g.vertices labels start (λ x high less. at_none g.vertices x) in
+      let whole = forward_skips A lawful C composes g roads F factor heads are [] 0 g.vertices labels start (λ x high less. at_none g.vertices x) in
       let made = run_exists A C g F factor.links labels count in
       record {
         inside = λ i x lt. absurd (omega (arith, lt));
@@ -55,8 +56,8 @@ module _ {V W : Type 0} (A : Algebra V) (lawful : IsLawful A) (C : Composition V
 
   -- after forward substitution from a source
   pub asking_begun : (s : ℕ) → HasVertex g s → (labels : List (Option V)) (known : List Bool) → length labels ≡ g.vertices → length known ≡ g.vertices →
-      ((j : ℕ) → is_on known j ≡ false) → AreOnlyUp F.leaving g.vertices (place_of F s) labels → IsForward A C g F (s ∷ []) labels →
-      IsAsking A C g F (s ∷ []) labels known []
+      ((j : ℕ) → is_on known j ≡ false) → AreOnlyUp heads g.vertices (place_of F s) labels → IsForward A C g F (s ∷ []) labels →
+      IsAsking A C g F heads (s ∷ []) labels known []
   asking_begun s in_s labels known n m off up forward =
       let made = run_exists A C g F factor.links labels n in
       record {
@@ -84,9 +85,9 @@ module _ {V W : Type 0} (A : Algebra V) (lawful : IsLawful A) (C : Composition V
       one_inside zero x lt = in_s
       one_inside (suc i) x lt = absurd (omega (arith, lt))
 
-  module _ (sources : List ℕ) (labels : List (Option V)) (known : List Bool) (asked : List ℕ) (is : IsAsking A C g F sources labels known asked) where
+  module _ (sources : List ℕ) (labels : List (Option V)) (known : List Bool) (asked : List ℕ) (is : IsAsking A C g F heads sources labels known asked) where
     -- more places are listed
-    pub asking_extended : (more : List ℕ) → IsExtended g.vertices asked more → IsAsking A C g F sources labels known more
+    pub asking_extended : (more : List ℕ) → IsExtended g.vertices asked more → IsAsking A C g F heads sources labels known more
     asking_extended more extended = record {
       inside = is.inside;
       labels_count = is.labels_count;
@@ -105,7 +106,7 @@ module _ {V W : Type 0} (A : Algebra V) (lawful : IsLawful A) (C : Composition V
     -- their labels are found
     pub asking_found : (list : List ℕ) → All (λ i. i < g.vertices) list → (more : List ℕ) → more ≡ asked ++ list →
         (found : List (Option V)) (marks : List Bool) →
-        AreFound F.leaving g.vertices is.before is.all known list found marks → IsAsking A C g F sources found marks more
+        AreFound heads g.vertices is.before is.all known list found marks → IsAsking A C g F heads sources found marks more
     asking_found list inside more listed found marks done = record {
       inside = is.inside;
       labels_count = done.labels_count;
@@ -146,21 +147,21 @@ module _ {V W : Type 0} (A : Algebra V) (lawful : IsLawful A) (C : Composition V
         ]
 
     -- so after the unknown ancestors of a place are found
-    module _ (t : ℕ) (list : List ℕ) (unknown : AreAllUnknownUp F.leaving g.vertices known t list) (found : List (Option V)) (marks : List Bool)
+    module _ (t : ℕ) (list : List ℕ) (unknown : AreAllUnknownUp heads g.vertices known t list) (found : List (Option V)) (marks : List Bool)
         (made : (before all : List (Option V)) → IsBackRun A C g.vertices F before all → Agree g.vertices before all labels known →
-        AreFound F.leaving g.vertices before all known list found marks) where
-      pub asking_after : (more : List ℕ) → more ≡ asked ++ list → IsAsking A C g F sources found marks more
+        AreFound heads g.vertices before all known list found marks) where
+      pub asking_after : (more : List ℕ) → more ≡ asked ++ list → IsAsking A C g F heads sources found marks more
       asking_after more listed =
-          let inside = unknown_inside F.leaving g.vertices known t list unknown.0 unknown.1 in
+          let inside = unknown_inside heads g.vertices known t list unknown.0 unknown.1 in
           asking_found list inside more listed found marks (made is.before is.all is.run is.agree)
 
-      pub target_known : AreAligned F.leaving F.entering → t < g.vertices → is_on marks t ≡ true
-      target_known aligned in_t =
-          target_found A C g F factor aligned known t list unknown is.before is.all is.run in_t found marks (made is.before is.all is.run is.agree)
+      pub target_known : AreAtHeads heads F → t < g.vertices → is_on marks t ≡ true
+      target_known at_heads in_t =
+          target_found A C g F factor heads are at_heads known t list unknown is.before is.all is.run in_t found marks (made is.before is.all is.run is.agree)
 
     -- what is left when the known places are forgotten
     pub forgotten_up : (fewer : List (Option V)) → ((j : ℕ) → (at fewer j ≡ None) ⊎ ((is_on known j ≡ false) × (at fewer j ≡ at labels j))) →
-        (j : ℕ) → (at fewer j ≡ None) ⊎ IsAboveSource g.vertices F sources j
+        (j : ℕ) → (at fewer j ≡ None) ⊎ IsAboveSource g.vertices F heads sources j
     forgotten_up fewer forgotten j = elim (forgotten j) [
       | inl none ↦ inl none
       | inr kept ↦ elim (is.labelled j) [

@@ -9,33 +9,33 @@ use Rattle.path_algebra.specs.Composition.{Composition, IsComposition}
 use Rattle.path_factors.specs.declared.link.Link.{Link}
 use Rattle.path_factors.specs.Factors.{FactorData, IsFactor, row_of}
 use Rattle.path_factors.specs.Substituting.{at, IsForwardTo, offered_from}
-use Rattle.path_factors.specs.Edges.{AreAligned}
-use Rattle.path_factors.specs.Tree.{IsAbove, IsTreeParent, IsUp, IsAncestor}
+use Rattle.path_factors.specs.Heads.{AreHeads, IsHead}
+use Rattle.path_factors.specs.Tree.{AreAtHeads, IsTreeParent, IsUp, IsAncestor}
 use Rattle.path_factors.specs.Asking.{is_on, AreOnlyUp}
 use Rattle.path_factors.proofs.Offers.{offered_other, offered_is_one}
 use Rattle.path_factors.proofs.Sweeps.{forward_goes_on}
-use Rattle.path_factors.proofs.Trees.{above_inside, parent_inside, above_nested, ancestor_more, ancestor_less}
+use Rattle.path_factors.proofs.Trees.{parent_inside, ancestor_more, ancestor_less}
 
 none_or : {V : Type 0} (o : Option V) → (o ≡ None) ⊎ ((z : V) × (o ≡ Some z))
 none_or None = inl refl
 none_or (Some z) = inr (z, refl)
 
 -- the places below v are done, and the labels from there on are those of v and of places above it
-pub record IsClimbedTo {V W : Type 0} (rows : List (List (Link W))) (n s v : ℕ) (labels : List (Option V)) : Type 0 where
-  pub below : (j : ℕ) → j < v → (at labels j ≡ None) ⊎ IsAncestor rows n s j
-  pub above : (j : ℕ) → v ≤ j → (at labels j ≡ None) ⊎ ((j ≡ v) ⊎ IsAbove rows v j)
-  pub on : IsAncestor rows n s v
+pub record IsClimbedTo {V : Type 0} (heads : List (List ℕ)) (n s v : ℕ) (labels : List (Option V)) : Type 0 where
+  pub below : (j : ℕ) → j < v → (at labels j ≡ None) ⊎ IsAncestor heads n s j
+  pub above : (j : ℕ) → v ≤ j → (at labels j ≡ None) ⊎ ((j ≡ v) ⊎ IsHead heads v j)
+  pub on : IsAncestor heads n s v
 
-pub climb_begins : {V W : Type 0} (rows : List (List (Link W))) (n s : ℕ) (labels : List (Option V)) →
-    ((j : ℕ) → (j ≡ s → ⊥) → at labels j ≡ None) → IsClimbedTo rows n s s labels
-climb_begins rows n s labels alone = record {
+pub climb_begins : {V : Type 0} (heads : List (List ℕ)) (n s : ℕ) (labels : List (Option V)) →
+    ((j : ℕ) → (j ≡ s → ⊥) → at labels j ≡ None) → IsClimbedTo heads n s s labels
+climb_begins heads n s labels alone = record {
   below = λ j less. inl (alone j (λ e. omega (arith, less, e)));
   above = λ j high. elim (cases_eq j s) [ inl is ↦ inr (inl is) | inr other ↦ inl (alone j other) ];
   on = (0, refl);
 }
 
 module _ {V W : Type 0} (A : Algebra V) (lawful : IsLawful A) (C : Composition V W) (composes : IsComposition A C)
-    (g : GraphData) (roads : IsGraph g) (F : FactorData W) (factor : IsFactor A C g F) where
+    (g : GraphData) (roads : IsGraph g) (F : FactorData W) (factor : IsFactor A C g F) (heads : List (List ℕ)) (are : AreHeads g.vertices heads) where
   -- places without labels are passed over
   pub forward_skips : (sources : List ℕ) (k m : ℕ) (labels : List (Option V)) → IsForwardTo A C g F sources k labels →
       ((x : ℕ) → k ≤ x → x < m → at labels x ≡ None) → IsForwardTo A C g F sources m labels
@@ -56,7 +56,7 @@ module _ {V W : Type 0} (A : Algebra V) (lawful : IsLawful A) (C : Composition V
   forward_starts_at sources s labels alone done =
       forward_skips sources 0 s labels done (λ x high less. alone x (λ e. omega (arith, less, e)))
 
-  module _ (aligned : AreAligned F.leaving F.entering) (v p : ℕ) (low : v < g.vertices) (parent : IsTreeParent F.leaving g.vertices v p)
+  module _ (at_heads : AreAtHeads heads F) (v p : ℕ) (low : v < g.vertices) (parent : IsTreeParent heads g.vertices v p)
       (labels next : List (Option V)) (count : length labels ≡ g.vertices)
       (step : next ≡ offered_from A C (at labels v) labels (row_of F.leaving v)) where
     inside : (k : Link W) → Contains (row_of F.leaving v) k → (v < k.place) × (k.place < g.vertices)
@@ -71,16 +71,16 @@ module _ {V W : Type 0} (A : Algebra V) (lawful : IsLawful A) (C : Composition V
     unchanged i le = ap (λ (l : List (Option V)). at l i) step ∙ unchanged_by (at labels v) i le
 
     offered_by : (l : Option V) (i : ℕ) (z : V) → at (offered_from A C l labels (row_of F.leaving v)) i ≡ Some z →
-        (at labels i ≡ Some z) ⊎ IsAbove F.leaving v i
+        (at labels i ≡ Some z) ⊎ IsHead heads v i
     offered_by None i z e = inl e
     offered_by (Some x) i z e =
         elim (offered_is_one A lawful C x (row_of F.leaving v) labels (λ k h. let r = inside k h in omega (arith, r.1, count)) i z e) [
           | inl old ↦ inl old
-          | inr by ↦ inr (by.0.walk, subst (λ (u : ℕ). Contains (row_of F.leaving v) (record { place = u; walk = by.0.walk })) by.2 by.1)
+          | inr by ↦ inr (subst (λ (u : ℕ). IsHead heads v u) by.2 (at_heads.rising v by.0.place by.0.walk by.1))
         ]
 
-    module _ (s : ℕ) (done : IsClimbedTo F.leaving g.vertices s v labels) where
-      labelled : (j : ℕ) → v < j → (at next j ≡ None) ⊎ IsAbove F.leaving v j
+    module _ (s : ℕ) (done : IsClimbedTo heads g.vertices s v labels) where
+      labelled : (j : ℕ) → v < j → (at next j ≡ None) ⊎ IsHead heads v j
       labelled j less = elim (none_or (at next j)) [
         | inl none ↦ inl none
         | inr some ↦ elim (offered_by (at labels v) j some.0 (sym (ap (λ (l : List (Option V)). at l j) step) ∙ some.1)) [
@@ -95,9 +95,9 @@ module _ {V W : Type 0} (A : Algebra V) (lawful : IsLawful A) (C : Composition V
         ]
       ]
 
-      pub climbs_on : IsClimbedTo F.leaving g.vertices s p next
+      pub climbs_on : IsClimbedTo heads g.vertices s p next
       climbs_on =
-          let up = parent_inside A C g F factor.links v p low parent in
+          let up = parent_inside g.vertices heads are v p low parent in
           record {
             below = λ j less. elim (cases_lt j v) [
               | inl before ↦ elim (done.below j before) [
@@ -105,7 +105,7 @@ module _ {V W : Type 0} (A : Algebra V) (lawful : IsLawful A) (C : Composition V
                 | inr on ↦ inr on
               ]
               | inr not_before ↦ elim (cases_eq j v) [
-                | inl is ↦ inr (subst (λ (u : ℕ). IsAncestor F.leaving g.vertices s u) (sym is) done.on)
+                | inl is ↦ inr (subst (λ (u : ℕ). IsAncestor heads g.vertices s u) (sym is) done.on)
                 | inr other ↦ elim (labelled j (omega (arith, not_before, other))) [
                   | inl none ↦ inl none
                   | inr above ↦ let le = parent.least j above in absurd (omega (arith, le, less))
@@ -118,14 +118,14 @@ module _ {V W : Type 0} (A : Algebra V) (lawful : IsLawful A) (C : Composition V
                 | inl is ↦ inr (inl is)
                 | inr other ↦ elim parent.one [
                   | inl none ↦
-                      let r = above_inside A C g F factor.links v j above in
+                      let r = are.rising v j above in
                       absurd (omega (arith, none, high, r.1))
                   | inr first ↦
-                      inr (inr (above_nested A C g F factor.links aligned factor.closed v p j first above (omega (arith, high, other))))
+                      inr (inr (are.nested v p j first above (omega (arith, high, other))))
                 ]
               ]
             ];
-            on = ancestor_more A C g F factor.links s v p done.on low parent;
+            on = ancestor_more g.vertices heads are s v p done.on low parent;
           }
 
       pub forward_climbs : (sources : List ℕ) → IsForwardTo A C g F sources v labels → IsForwardTo A C g F sources p next
@@ -138,34 +138,34 @@ module _ {V W : Type 0} (A : Algebra V) (lawful : IsLawful A) (C : Composition V
           ])
 
   pub climb_ends : (s v : ℕ) (labels : List (Option V)) → length labels ≡ g.vertices → v ≡ g.vertices →
-      IsClimbedTo F.leaving g.vertices s v labels → AreOnlyUp F.leaving g.vertices s labels
+      IsClimbedTo heads g.vertices s v labels → AreOnlyUp heads g.vertices s labels
   climb_ends s v labels count is done = λ j. elim (cases_lt j v) [
     | inl before ↦ done.below j before
     | inr past ↦ inl (get_or_past labels j None (omega (arith, past, is, count)))
   ]
 
   -- a label was taken away
-  pub clear_more : (v p : ℕ) → v < g.vertices → IsTreeParent F.leaving g.vertices v p → (labels : List (Option V)) → length labels ≡ g.vertices →
-      AreOnlyUp F.leaving g.vertices v labels → AreOnlyUp F.leaving g.vertices p (set labels v None)
+  pub clear_more : (v p : ℕ) → v < g.vertices → IsTreeParent heads g.vertices v p → (labels : List (Option V)) → length labels ≡ g.vertices →
+      AreOnlyUp heads g.vertices v labels → AreOnlyUp heads g.vertices p (set labels v None)
   clear_more v p low parent labels count done = λ j. elim (cases_eq j v) [
     | inl is ↦ inl (ap (at (set labels v None)) is ∙ get_or-set_same labels v None None (omega (arith, low, count)))
     | inr other ↦ elim (done j) [
       | inl none ↦ inl (get_or-set_other labels v j None None other ∙ none)
-      | inr on ↦ elim (ancestor_less A C g F factor.links v p j parent on) [
+      | inr on ↦ elim (ancestor_less g.vertices heads are v p j parent on) [
         | inl is ↦ absurd (other (sym is))
         | inr up ↦ inr up
       ]
     ]
   ]
 
-  pub clear_ends : (v : ℕ) (labels : List (Option V)) → length labels ≡ g.vertices → v ≡ g.vertices → AreOnlyUp F.leaving g.vertices v labels →
+  pub clear_ends : (v : ℕ) (labels : List (Option V)) → length labels ≡ g.vertices → v ≡ g.vertices → AreOnlyUp heads g.vertices v labels →
       (j : ℕ) → at labels j ≡ None
   clear_ends v labels count is done j = elim (done j) [
     | inl none ↦ none
     | inr on ↦ above on.0 on.1
   ]
     where
-      above : (k : ℕ) → IsUp F.leaving g.vertices k v j → at labels j ≡ None
+      above : (k : ℕ) → IsUp heads g.vertices k v j → at labels j ≡ None
       above zero e = get_or_past labels j None (omega (arith, e, is, count))
       above (suc k) up = let low = up.0 in absurd (omega (arith, low, is))
 

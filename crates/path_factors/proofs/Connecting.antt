@@ -236,11 +236,3 @@ module _ {V W : Type 0} (C : Composition V W) (ordered : IsOrder C.no_worse) whe
     pub both_improve : (least : ℕ) → least ≤ x → Improves C least F whole
     both_improve least h =
         improves_more least F half whole (up_improves A g F begun x y there onward less low rows.leaving improved.leaving least h) (second least h)
-
-    pub both_there : LeadsNoWorse C whole x y there
-    both_there =
-        still_leads 0 half whole (second 0 (omega arith)) x y there
-        (up_leads A g F begun x y there onward less low rows.leaving improved.leaving)
-
-    pub both_back : LeadsNoWorse C whole y x back
-    both_back = down_leads A g half half_begun y x back homeward less low rows.entering improved.entering

@@ -9,11 +9,11 @@ use Rattle.path_algebra.specs.Composition.{Composition}
 use Rattle.path_factors.specs.declared.link.Link.{Link}
 use Rattle.path_factors.specs.Factors.{FactorData, IsFactor, AreLinks, row_of}
 use Rattle.path_factors.specs.Substituting.{at, best_along}
-use Rattle.path_factors.specs.Edges.{AreAligned}
-use Rattle.path_factors.specs.Tree.{IsAbove, IsTreeParent}
+use Rattle.path_factors.specs.Heads.{AreHeads, IsHead}
+use Rattle.path_factors.specs.Tree.{AreAtHeads, IsTreeParent}
 use Rattle.path_factors.specs.Asking.{is_on, IsBackRun, Agree, IsKnownUpward, AreUnknownUp, AreAllUnknownUp, AreFound}
 use Rattle.path_factors.proofs.Backward.{best_along_same}
-use Rattle.path_factors.proofs.Trees.{above_inside, parent_inside, above_of_faller, above_nested}
+use Rattle.path_factors.proofs.Trees.{parent_inside}
 
 -- place i is found, and the others are as they were
 pub record FoundAt {V : Type 0} (n : ℕ) (before all : List (Option V)) (i : ℕ) (labels : List (Option V)) (known : List Bool) : Type 0 where
@@ -64,8 +64,8 @@ module _ {V W : Type 0} (A : Algebra V) (C : Composition V W) (g : GraphData) (F
     };
   }
 
-module _ {W : Type 0} (rows : List (List (Link W))) (n : ℕ) (known : List Bool) (t : ℕ) where
-  pub unknown_none : AreUnknownUp rows n known t [] t
+module _ (heads : List (List ℕ)) (n : ℕ) (known : List Bool) (t : ℕ) where
+  pub unknown_none : AreUnknownUp heads n known t [] t
   unknown_none = record {
     first = refl;
     inside = λ q lt. absurd (omega (arith, lt));
@@ -73,8 +73,8 @@ module _ {W : Type 0} (rows : List (List (Link W))) (n : ℕ) (known : List Bool
     parents = λ q lt. absurd (omega (arith, lt));
   }
 
-  pub unknown_more : (list : List ℕ) (v p : ℕ) → AreUnknownUp rows n known t list v → v < n → is_on known v ≡ false →
-      IsTreeParent rows n v p → AreUnknownUp rows n known t (list ++ v ∷ []) p
+  pub unknown_more : (list : List ℕ) (v p : ℕ) → AreUnknownUp heads n known t list v → v < n → is_on known v ≡ false →
+      IsTreeParent heads n v p → AreUnknownUp heads n known t (list ++ v ∷ []) p
   unknown_more list v p up low off parent =
       let m : length (list ++ v ∷ []) ≡ length list + 1 = length-append list (v ∷ []) in
       let old : (q : ℕ) → q < length list → get_or (list ++ v ∷ []) q p ≡ get_or list q v = λ q lt. get_or_append_left list (v ∷ []) p q lt ∙ get_or_default list q p v lt in
@@ -105,37 +105,37 @@ module _ {W : Type 0} (rows : List (List (Link W))) (n : ℕ) (known : List Bool
                     let is : q + 1 ≡ length list = omega (arith, before, past) in
                     new (q + 1) is ∙ sym (get_or_past list (q + 1) v past)
               ] in
-              subst (λ (x : ℕ). IsTreeParent rows n (get_or (list ++ v ∷ []) q p) x) (sym next)
-              (subst (λ (x : ℕ). IsTreeParent rows n x (get_or list (q + 1) v)) (sym (old q before)) here)
+              subst (λ (x : ℕ). IsTreeParent heads n (get_or (list ++ v ∷ []) q p) x) (sym next)
+              (subst (λ (x : ℕ). IsTreeParent heads n x (get_or list (q + 1) v)) (sym (old q before)) here)
           | inr past ↦
               let is = last q lt past in
               let end : get_or (list ++ v ∷ []) (q + 1) p ≡ p = get_or_past (list ++ v ∷ []) (q + 1) p (omega (arith, m, is)) in
-              subst (λ (x : ℕ). IsTreeParent rows n (get_or (list ++ v ∷ []) q p) x) (sym end)
-              (subst (λ (x : ℕ). IsTreeParent rows n x p) (sym (new q is)) parent)
+              subst (λ (x : ℕ). IsTreeParent heads n (get_or (list ++ v ∷ []) q p) x) (sym end)
+              (subst (λ (x : ℕ). IsTreeParent heads n x p) (sym (new q is)) parent)
         ];
       }
 
-  pub unknown_inside : (list : List ℕ) (v : ℕ) → AreUnknownUp rows n known t list v → All (λ i. i < n) list
+  pub unknown_inside : (list : List ℕ) (v : ℕ) → AreUnknownUp heads n known t list v → All (λ i. i < n) list
   unknown_inside list v up q d lt =
       let low = up.inside q lt in
       let read = get_or_default list q d v lt in
       omega (arith, low, read)
 
 -- the places from index k of the list on are found
-pub record AreFoundFrom {V W : Type 0} (rows : List (List (Link W))) (n : ℕ) (before all : List (Option V)) (old : List Bool) (list : List ℕ) (k : ℕ)
+pub record AreFoundFrom {V : Type 0} (heads : List (List ℕ)) (n : ℕ) (before all : List (Option V)) (old : List Bool) (list : List ℕ) (k : ℕ)
     (labels : List (Option V)) (known : List Bool) : Type 0 where
   pub labels_count : length labels ≡ n
   pub known_count : length known ≡ n
   pub agree : Agree n before all labels known
-  pub upward : IsKnownUpward rows known
+  pub upward : IsKnownUpward heads known
   pub listed : (j : ℕ) → is_on known j ≡ true → (is_on old j ≡ true) ⊎ Contains list j
   pub kept : (j : ℕ) → is_on old j ≡ true → is_on known j ≡ true
   pub fresh : (q : ℕ) → q < k → q < length list → is_on known (get_or list q 0) ≡ false
   pub done : (q : ℕ) → k ≤ q → q < length list → is_on known (get_or list q 0) ≡ true
 
 module _ {V W : Type 0} (A : Algebra V) (C : Composition V W) (g : GraphData) (F : FactorData W) (factor : IsFactor A C g F)
-    (aligned : AreAligned F.leaving F.entering) (old : List Bool) (t : ℕ) (list : List ℕ)
-    (unknown : AreAllUnknownUp F.leaving g.vertices old t list) where
+    (heads : List (List ℕ)) (are : AreHeads g.vertices heads) (at_heads : AreAtHeads heads F) (old : List Bool) (t : ℕ) (list : List ℕ)
+    (unknown : AreAllUnknownUp heads g.vertices old t list) where
   abbrev v : ℕ
   v = unknown.0
 
@@ -154,7 +154,7 @@ module _ {V W : Type 0} (A : Algebra V) (C : Composition V W) (g : GraphData) (F
       let here : q < length list = omega (arith, lt) in
       let low = list_inside q here in
       let is = read q here in
-      let up = parent_inside A C g F factor.links (get_or list q v) (get_or list (q + 1) v) (omega (arith, low, is)) (unknown.1.parents q here) in
+      let up = parent_inside g.vertices heads are (get_or list q v) (get_or list (q + 1) v) (omega (arith, low, is)) (unknown.1.parents q here) in
       let on = read (q + 1) lt in
       omega (arith, up.0, is, on)
 
@@ -180,8 +180,8 @@ module _ {V W : Type 0} (A : Algebra V) (C : Composition V W) (g : GraphData) (F
       gap (suc p) (suc q) less = let d = gap p q (omega (arith, less)) in let is = d.1 in (d.0, omega (arith, is))
 
   module _ (before all : List (Option V)) (run : IsBackRun A C g.vertices F before all) where
-    pub found_none : (labels : List (Option V)) → length labels ≡ g.vertices → length old ≡ g.vertices → IsKnownUpward F.leaving old →
-        Agree g.vertices before all labels old → AreFoundFrom F.leaving g.vertices before all old list (length list) labels old
+    pub found_none : (labels : List (Option V)) → length labels ≡ g.vertices → length old ≡ g.vertices → IsKnownUpward heads old →
+        Agree g.vertices before all labels old → AreFoundFrom heads g.vertices before all old list (length list) labels old
     found_none labels n m upward agree = record {
       labels_count = n;
       known_count = m;
@@ -194,7 +194,7 @@ module _ {V W : Type 0} (A : Algebra V) (C : Composition V W) (g : GraphData) (F
     }
 
     module _ (q : ℕ) (lt : q < length list) (labels : List (Option V)) (known : List Bool)
-        (done : AreFoundFrom F.leaving g.vertices before all old list (q + 1) labels known) where
+        (done : AreFoundFrom heads g.vertices before all old list (q + 1) labels known) where
       abbrev i : ℕ
       i = get_or list q 0
 
@@ -202,12 +202,12 @@ module _ {V W : Type 0} (A : Algebra V) (C : Composition V W) (g : GraphData) (F
       low = list_inside q lt
 
       -- what is above the place is known
-      known_above : (y : ℕ) → IsAbove F.leaving i y → is_on known y ≡ true
+      known_above : (y : ℕ) → IsHead heads i y → is_on known y ≡ true
       known_above y above =
           let here = unknown.1.parents q lt in
-          let parent : IsTreeParent F.leaving g.vertices i (get_or list (q + 1) v) =
-          subst (λ (x : ℕ). IsTreeParent F.leaving g.vertices x (get_or list (q + 1) v)) (read q lt) here in
-          let inside = above_inside A C g F factor.links i y above in
+          let parent : IsTreeParent heads g.vertices i (get_or list (q + 1) v) =
+          subst (λ (x : ℕ). IsTreeParent heads g.vertices x (get_or list (q + 1) v)) (read q lt) here in
+          let inside = are.rising i y above in
           let le = parent.least y above in
           let first : (get_or list (q + 1) v < g.vertices) → is_on known (get_or list (q + 1) v) ≡ true = λ within. elim (cases_lt (q + 1) (length list)) [
             | inl next ↦ ap (is_on known) (read (q + 1) next) ∙ done.done (q + 1) (omega arith) next
@@ -223,14 +223,14 @@ module _ {V W : Type 0} (A : Algebra V) (C : Composition V W) (g : GraphData) (F
             | inr other ↦ elim parent.one [
               | inl none ↦ absurd (omega (arith, none, le, inside.1))
               | inr up ↦
-                  let past = above_nested A C g F factor.links aligned factor.closed i (get_or list (q + 1) v) y up above (omega (arith, le, other)) in
-                  let r = above_inside A C g F factor.links i (get_or list (q + 1) v) up in
+                  let past = are.nested i (get_or list (q + 1) v) y up above (omega (arith, le, other)) in
+                  let r = are.rising i (get_or list (q + 1) v) up in
                   done.upward (get_or list (q + 1) v) y (first r.1) past
             ]
           ]
 
       ready : (k : Link W) → Contains (row_of F.entering i) k → is_on known k.place ≡ true
-      ready k h = known_above k.place (above_of_faller A C g F factor.links aligned k.place i k.walk h)
+      ready k h = known_above k.place (at_heads.falling k.place i k.walk h)
 
       fresh : is_on known i ≡ false
       fresh = done.fresh q (omega arith) lt
@@ -247,7 +247,7 @@ module _ {V W : Type 0} (A : Algebra V) (C : Composition V W) (g : GraphData) (F
         | inr other ↦ others j other ∙ on
       ]
 
-      pub found_more : AreFoundFrom F.leaving g.vertices before all old list q
+      pub found_more : AreFoundFrom heads g.vertices before all old list q
           (set labels i (best_along A C labels (at labels i) (row_of F.entering i))) (set known i true)
       found_more =
           let found = found_at A C g F factor.links before all run labels known done.agree i low done.labels_count done.known_count fresh ready in
@@ -256,7 +256,7 @@ module _ {V W : Type 0} (A : Algebra V) (C : Composition V W) (g : GraphData) (F
             known_count = found.known_count;
             agree = found.agree;
             upward = λ x y on above. elim (cases_eq x i) [
-              | inl is ↦ keeps y (known_above y (subst (λ (u : ℕ). IsAbove F.leaving u y) is above))
+              | inl is ↦ keeps y (known_above y (subst (λ (u : ℕ). IsHead heads u y) is above))
               | inr other ↦ keeps y (done.upward x y (sym (others x other) ∙ on) above)
             ];
             listed = λ j on. elim (cases_eq j i) [
@@ -273,8 +273,8 @@ module _ {V W : Type 0} (A : Algebra V) (C : Composition V W) (g : GraphData) (F
             ];
           }
 
-    pub found_all : (labels : List (Option V)) (known : List Bool) → AreFoundFrom F.leaving g.vertices before all old list 0 labels known →
-        AreFound F.leaving g.vertices before all old list labels known
+    pub found_all : (labels : List (Option V)) (known : List Bool) → AreFoundFrom heads g.vertices before all old list 0 labels known →
+        AreFound heads g.vertices before all old list labels known
     found_all labels known done = record {
       labels_count = done.labels_count;
       known_count = done.known_count;
@@ -288,7 +288,7 @@ module _ {V W : Type 0} (A : Algebra V) (C : Composition V W) (g : GraphData) (F
     }
 
     -- then the place itself is known
-    pub target_found : t < g.vertices → (labels : List (Option V)) (known : List Bool) → AreFound F.leaving g.vertices before all old list labels known →
+    pub target_found : t < g.vertices → (labels : List (Option V)) (known : List Bool) → AreFound heads g.vertices before all old list labels known →
         is_on known t ≡ true
     target_found in_t labels known found = elim (cases_lt 0 (length list)) [
       | inl some ↦ found.found t (0, some, get_or_default list 0 t v some ∙ unknown.1.first)

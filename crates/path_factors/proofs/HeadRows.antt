@@ -11,9 +11,8 @@ use Rattle.road_graph.proofs.Lists.{not_in_empty, here, later, head_or_tail}
 use Rattle.path_factors.specs.declared.link.Link.{Link}
 use Rattle.path_factors.specs.Factors.{row_of}
 use Rattle.path_factors.specs.Edges.{AreAligned}
-use Rattle.path_factors.specs.Heads.{IsHead, heads_in}
+use Rattle.path_factors.specs.Heads.{AreAhead, AreHeads, IsHead, heads_in}
 use Rattle.path_factors.specs.Packing.{links_of, rows_between}
-use Rattle.path_factors.specs.Tree.{IsAbove}
 
 -- numbers that rise
 pub rises_between : (xs : List ℕ) → IsStrictlyIncreasing xs → (i j : ℕ) → i < j → j < length xs → get_or xs i 0 < get_or xs j 0
@@ -99,18 +98,7 @@ module _ {W : Type 0} where
     | inr rest ↦ later l.place k.place (map (λ (k : Link W). k.place) row) (place_in row k rest)
   ]
 
-  link_in : (row : List (Link W)) (y : ℕ) → Contains (map (λ (k : Link W). k.place) row) y → (a : W) × Contains row (record { place = y; walk = a })
-  link_in [] y c = absurd (not_in_empty y c)
-  link_in (l ∷ row) y c = elim (head_or_tail l.place y (map (λ (k : Link W). k.place) row) c) [
-    | inl is ↦
-        (l.walk, subst (λ (p : ℕ). Contains (l ∷ row) (record { place = p; walk = l.walk })) is (here l row))
-    | inr rest ↦ let r = link_in row y rest in (r.0, later l (record { place = y; walk = r.0 }) row r.1)
-  ]
-
-  -- a head is above its place, and what is above is a head
-  pub above_of_head : (rows : List (List (Link W))) (v y : ℕ) → IsHead (heads_in rows) v y → IsAbove rows v y
-  above_of_head rows v y h = link_in (row_of rows v) y (subst (λ (r : List ℕ). Contains r y) (heads_row rows v) h)
-
+  -- the place of a link is a head
   pub head_of_link : (rows : List (List (Link W))) (v : ℕ) (k : Link W) → Contains (row_of rows v) k → IsHead (heads_in rows) v k.place
   head_of_link rows v k c = subst (λ (r : List ℕ). Contains r k.place) (sym (heads_row rows v)) (place_in (row_of rows v) k c)
 
@@ -152,3 +140,27 @@ pub heads_packed : {W : Type 0} (starts places : List ℕ) (walks : List W) → 
 heads_packed {W = W} starts places walks n =
     map-rows (λ (k : Link W). k.place) starts (links_of places walks)
     ∙ ap (λ (l : List ℕ). rows_between starts l) (places-links places walks n)
+
+-- the edge between the ends of edge i of a place and of edge j, after it
+module _ (n : ℕ) (heads : List (List ℕ)) (are : AreHeads n heads) (v i j : ℕ) (after : i < j) (lt : j < length (row_of heads v)) where
+  abbrev near : ℕ
+  near = get_or (row_of heads v) i 0
+
+  abbrev far : ℕ
+  far = get_or (row_of heads v) j 0
+
+  near_head : IsHead heads v near
+  near_head = let low : i < length (row_of heads v) = omega (arith, after, lt) in (i, low, get_or_default (row_of heads v) i near 0 low)
+
+  pub near_inside : near < n
+  near_inside = (are.rising v near near_head).1
+
+  pub seek_between : (q : ℕ) → AreAhead heads v i j q → (m : ℕ) × (q ≤ m) × (m < length (row_of heads near)) × (get_or (row_of heads near) m 0 ≡ far)
+  seek_between q ahead =
+      let up = rises_between (row_of heads v) (are.ascending v) i j after lt in
+      let at = are.nested v near far near_head (j, lt, get_or_default (row_of heads v) j far 0 lt) up in
+      let is : get_or (row_of heads near) at.0 0 ≡ far = get_or_default (row_of heads near) at.0 0 far at.1 ∙ at.2 in
+      (at.0, ahead j at.0 (omega arith) lt at.1 is, at.1, is)
+
+  pub ahead_more : (q : ℕ) → q < length (row_of heads near) → get_or (row_of heads near) q 0 ≡ far → AreAhead heads v i (j + 1) (q + 1)
+  ahead_more q inside same = seek_more (row_of heads near) (row_of heads v) (are.ascending near) (are.ascending v) q j inside same

@@ -1,4 +1,5 @@
 pub mod Substitution
+pub mod Pruning
 pub mod Offers
 pub mod Sweeps
 pub mod Places

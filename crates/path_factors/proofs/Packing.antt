@@ -2,7 +2,7 @@
 use Rattle.std.proofs.Common.{◌≡◌, ℕ, zero, suc, ◌+◌, ◌-◌, ◌<◌, ◌≤◌, inl, inr, List, [], ◌∷◌, ◌++◌, length, take, drop, get_or, refl, ap, sym, ◌∙◌, subst, arith}
 use Rattle.std.specs.Prelude.{All, Contains, slice_range}
 use Rattle.std.proofs.lemmas.Bool.{cases_lt}
-use Rattle.std.proofs.lemmas.List.{length-drop, length-take-le, get_or-take, get_or-drop, take-append-le, drop-append-le, take_all, get_or_past}
+use Rattle.std.proofs.lemmas.List.{length-drop, length-take-le, get_or-take, get_or-drop, take-append-le, drop-append-le, take_all, get_or_past, get_or_append_left, get_or_push, length-append}
 use Rattle.std.proofs.lemmas.List.Elements.{All-nil, All-take, All-drop}
 use Rattle.std.proofs.Math.ListN.{drop_of_length-le}
 use Rattle.road_graph.proofs.Lists.{not_in_empty}
@@ -17,6 +17,14 @@ module _ {W : Type 0} where
   links_count (p ∷ places) (a ∷ walks) n =
       let rest = links_count places walks (omega (arith, n)) in
       omega (arith, rest)
+
+  -- one more link
+  pub links-push : (places : List ℕ) (walks : List W) (p : ℕ) (a : W) → length walks ≡ length places →
+      links_of (places ++ p ∷ []) (walks ++ a ∷ []) ≡ links_of places walks ++ record { place = p; walk = a } ∷ []
+  links-push [] [] p a n = refl
+  links-push [] (b ∷ walks) p a n = absurd (omega (arith, n))
+  links-push (q ∷ places) [] p a n = absurd (omega (arith, n))
+  links-push (q ∷ places) (b ∷ walks) p a n = ap (λ (l : List (Link W)). record { place = q; walk = b } ∷ l) (links-push places walks p a (omega (arith, n)))
 
   -- the link at an index
   pub link_at : (places : List ℕ) (walks : List W) (k : ℕ) (p : ℕ) (a : W) (d : Link W) → length walks ≡ length places → k < length places →
@@ -103,6 +111,52 @@ module _ {X : Type 0} where
       } in
       ap (λ (r : List X). r ∷ rows_between (e ∷ starts ++ (length items + length row) ∷ []) (items ++ row)) (part_before items row s e first within)
       ∙ ap (λ (rows : List (List X)). slice_range items s e ∷ rows) (packed_more (e ∷ starts) items row tail)
+
+-- one more row, after those there are
+pub packed_push : {X : Type 0} (starts : List ℕ) (items row : List X) → ArePacked starts items →
+    ArePacked (starts ++ (length items + length row) ∷ []) (items ++ row)
+packed_push starts items row packed =
+    let m : ℕ = length items + length row in
+    let n : length (starts ++ m ∷ []) ≡ length starts + 1 = length-append starts (m ∷ []) in
+    let size : length (items ++ row) ≡ m = length-append items row in
+    let some = packed.some in
+    let old : (i : ℕ) → i < length starts → get_or (starts ++ m ∷ []) i 0 ≡ get_or starts i 0 = λ i lt. get_or_append_left starts (m ∷ []) 0 i lt in
+    let new : (i : ℕ) → i ≡ length starts → get_or (starts ++ m ∷ []) i 0 ≡ m = λ i e. get_or_push starts m 0 i (sym e) in
+    record {
+      some = omega (arith, n);
+      rising = λ i lt. elim (cases_lt (i + 1) (length starts)) [
+        | inl low ↦
+            let up = packed.rising i low in
+            let one = old i (omega (arith, low)) in
+            let two = old (i + 1) low in
+            omega (arith, up, one, two)
+        | inr high ↦
+            let is : i + 1 ≡ length starts = omega (arith, high, lt, n) in
+            let one = old i (omega (arith, is)) in
+            let two = new (i + 1) is in
+            let le = packed.inside i (omega (arith, is)) in
+            omega (arith, one, two, le)
+      ];
+      inside = λ i lt. elim (cases_lt i (length starts)) [
+        | inl low ↦ let one = old i low in let le = packed.inside i low in omega (arith, one, le, size)
+        | inr high ↦ let one = new i (omega (arith, high, lt, n)) in omega (arith, one, size)
+      ];
+      last =
+          let is : length (starts ++ m ∷ []) - 1 ≡ length starts = omega (arith, n) in
+          let e = ap (λ (i : ℕ). get_or (starts ++ m ∷ []) i 0) is ∙ new (length starts) refl in
+          omega (arith, e, size);
+    }
+
+-- the same of items that are known
+pub pushed : {X : Type 0} (starts : List ℕ) (items row all : List X) (end : ℕ) → ArePacked starts items → all ≡ items ++ row → end ≡ length all →
+    ArePacked (starts ++ end ∷ []) all × (rows_between (starts ++ end ∷ []) all ≡ rows_between starts items ++ row ∷ [])
+pushed {X} starts items row all end packed is size =
+    let e : end ≡ length items + length row = size ∙ ap length is ∙ length-append items row in (
+      subst (λ (m : ℕ). ArePacked (starts ++ m ∷ []) all) (sym e)
+          (subst (λ (l : List X). ArePacked (starts ++ (length items + length row) ∷ []) l) (sym is) (packed_push starts items row packed)),
+      ap (λ (m : ℕ). rows_between (starts ++ m ∷ []) all) e ∙ ap (λ (l : List X). rows_between (starts ++ (length items + length row) ∷ []) l) is
+          ∙ packed_more starts items row packed,
+    )
 
 -- a row is as long as its part
 pub row_count : {X : Type 0} (starts : List ℕ) (items : List X) → ArePacked starts items → (i : ℕ) → i + 1 < length starts →

@@ -1,14 +1,15 @@
 -- Substitution in a factor gives best values.
-use Rattle.std.proofs.Common.{◌≡◌, ℕ, zero, suc, ◌+◌, ◌<◌, ◌≤◌, inl, inr, List, [], ◌∷◌, ◌++◌, length, ap, sym, ◌∙◌, subst, arith, Option, Some}
+use Rattle.std.proofs.Common.{◌≡◌, ℕ, zero, suc, ◌+◌, ◌<◌, ◌≤◌, inl, inr, List, [], ◌∷◌, ◌++◌, length, ap, sym, ◌∙◌, subst, arith, Option, Some, None}
 use Rattle.std.specs.Prelude.{IsTrue, All, Contains}
-use Rattle.std.proofs.lemmas.Bool.{cases_eq}
+use Rattle.std.proofs.lemmas.Bool.{cases_eq, cases_lt}
+use Rattle.std.proofs.lemmas.List.{get_or_past}
 use Rattle.road_graph.specs.GraphData.{GraphData, IsGraph, HasArc, HasVertex, arc_of}
 use Rattle.path_algebra.specs.Algebra.{Algebra, IsLawful}
 use Rattle.path_algebra.specs.Composition.{Composition, IsComposition, applied}
 use Rattle.path_algebra.specs.Walks.{IsWalk, Extends, IsWalkValue, AreBest, IsNotImproving, label_of}
 use Rattle.path_algebra.proofs.Walks.{labels_are_best, walk_value_is_value, all_inside}
-use Rattle.path_factors.specs.Factors.{FactorData, IsFactor, Rises, Falls, Leads, IsWorthOfWalk, vertex_at, place_of}
-use Rattle.path_factors.specs.Substituting.{at, HasNoWorse, Passes, IsForward, IsBackward}
+use Rattle.path_factors.specs.Factors.{FactorData, IsFactor, AreStable, Rises, Falls, IsWorthOfWalk, vertex_at, place_of}
+use Rattle.path_factors.specs.Substituting.{at, Passes, IsForward, IsBackward}
 
 -- a walk, and after it another
 pub IsWalk-append : (g : GraphData) (u : ℕ) (p : List ℕ) (v : ℕ) (q : List ℕ) (w : ℕ) → IsWalk g u p v → IsWalk g v q w →
@@ -63,13 +64,11 @@ module _ {V W : Type 0} (A : Algebra V) (lawful : IsLawful A) (C : Composition V
         let low : y < g.vertices = omega (arith, inside.0, inside.1) in
         (backward.best y low).down x a falls
 
-    -- no link to a greater place improves a label. A label that came down from a place z could have
-    -- gone on from there: by the link past x, or, if that would lead back to z, by staying there
-    passes_up : (d x y : ℕ) (a : W) → g.vertices ≤ x + d → Rises F x y a → Passes A C (at labels x) a (at labels y)
-    passes_up zero x y a far rises =
-        let inside = factor.links.rising x y a rises in
-        absurd (omega (arith, inside.0, inside.1))
-    passes_up (suc d) x y a far rises = λ u t e f.
+    -- no link to a greater place improves a label, if none between places past this one does. A label
+    -- that came down from a place z could have gone on from there: past x, or, if that would lead back
+    -- to z, by staying there
+    passes_up : (x y : ℕ) (a : W) → AreStable A C F (x + 1) labels → Rises F x y a → Passes A C (at labels x) a (at labels y)
+    passes_up x y a above rises = λ u t e f.
         let inside = factor.links.rising x y a rises in
         let low : x < g.vertices = omega (arith, inside.0, inside.1) in
         elim ((backward.best x low).given u e) [
@@ -80,7 +79,6 @@ module _ {V W : Type 0} (A : Algebra V) (lawful : IsLawful A) (C : Composition V
           | inr from ↦
               let z = from.place in
               let places = factor.links.falling z x from.walk from.falls in
-              let above = places.0 in
               let is = is_value z from.value places.1 from.label in
               elim (cases_eq z y) [
                 | inl same ↦
@@ -91,23 +89,48 @@ module _ {V W : Type 0} (A : Algebra V) (lawful : IsLawful A) (C : Composition V
                       lawful.ordered.transitive from.value u t falls on,
                     )
                 | inr other ↦
-                    let past = factor.closed x low z y from.walk a from.falls rises other in
                     let whole : C.apply from.value (C.compose from.walk a) ≡ Some t =
                     composes.apply_composed from.value from.walk a is ∙ ap (λ (o : Option V). applied C o a) from.extends ∙ f in
-                    let better = composes.better_walk from.value past.0 (C.compose from.walk a) t is past.2 whole in
-                    let ends : HasNoWorse A (at labels y) better.0 = elim past.1 [
-                      | inl on ↦ passes_up d z y past.0 (omega (arith, far, above)) on from.value better.0 from.label better.1
-                      | inr down ↦ passes_down z y past.0 down from.value better.0 from.label better.1
-                    ] in
-                    (ends.0, ends.1, lawful.ordered.transitive ends.0 better.0 t ends.2 better.2)
+                    factor.closed x low z y from.walk a from.falls rises other labels above from.value t from.label whole
               ]
         ]
 
-    pub passes : (x y : ℕ) (a : W) → Leads F x y a → Passes A C (at labels x) a (at labels y)
-    passes x y a leads = elim leads [
-      | inl rises ↦ passes_up g.vertices x y a (omega arith) rises
-      | inr falls ↦ passes_down x y a falls
+    value_anywhere : (i : ℕ) (x : V) → at labels i ≡ Some x → IsTrue (A.is_value x)
+    value_anywhere i x e = elim (cases_lt i g.vertices) [
+      | inl low ↦ is_value i x low e
+      | inr past ↦
+          let n = backward.count in
+          let bad : None ≡ Some x = sym (get_or_past labels i None (omega (arith, past, n))) ∙ e in
+          absurd (cc)
     ]
+
+    -- so no link does: by induction on how many places are above
+    stable : (d low : ℕ) → g.vertices ≤ low + d → AreStable A C F low labels
+    stable zero low far = record {
+      values = value_anywhere;
+      passes = λ x y a high also leads. elim leads [
+        | inl rises ↦ let inside = factor.links.rising x y a rises in absurd (omega (arith, inside.0, inside.1, far, high))
+        | inr falls ↦ let inside = factor.links.falling x y a falls in absurd (omega (arith, inside.0, inside.1, far, also))
+      ];
+    }
+    stable (suc d) low far =
+        let above : AreStable A C F (low + 1) labels = stable d (low + 1) (omega (arith, far)) in
+        record {
+          values = value_anywhere;
+          passes = λ x y a high also leads. elim leads [
+            | inr falls ↦ passes_down x y a falls
+            | inl rises ↦ elim (cases_eq x low) [
+              | inl is ↦
+                  passes_up x y a (subst (λ (v : ℕ). AreStable A C F (v + 1) labels) (sym is) above) rises
+              | inr other ↦
+                  let up = (factor.links.rising x y a rises).0 in
+                  above.passes x y a (omega (arith, high, other)) (omega (arith, high, other, up)) (inl rises)
+            ]
+          ];
+        }
+
+    pub all_stable : AreStable A C F 0 labels
+    all_stable = stable g.vertices 0 (omega arith)
 
     -- the labels by vertex
     module _ (inside : All (HasVertex g) sources) (found : List (Option V)) (count : length found ≡ g.vertices)
@@ -131,12 +154,10 @@ module _ {V W : Type 0} (A : Algebra V) (lawful : IsLawful A) (C : Composition V
               lawful.never_better x (arc_of g a).weight z value fits f,
             )
             | inr other ↦
-                let link = factor.covers a has other in
                 let at_tail : at labels (place_of F tail) ≡ Some x = sym (is tail ends.0) ∙ e in
                 let whole : C.apply x (C.of_arc (arc_of g a).weight) ≡ Some z = composes.apply_arc x (arc_of g a).weight value fits ∙ f in
-                let better = composes.better_walk x link.0 (C.of_arc (arc_of g a).weight) z value link.2 whole in
-                let last = passes (place_of F tail) (place_of F head) link.0 link.1 x better.0 at_tail better.1 in
-                (last.0, (let here = is head ends.1 in here ∙ last.1), lawful.ordered.transitive last.0 better.0 z last.2 better.2)
+                let last = factor.covers a has other labels all_stable x z at_tail whole in
+                (last.0, (let here = is head ends.1 in here ∙ last.1), last.2)
           ]
 
       at_source : (s : ℕ) → Contains sources s → (x : V) × (label_of found s ≡ Some x) × IsTrue (A.no_worse x A.origin)

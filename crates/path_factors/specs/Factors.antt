@@ -1,7 +1,7 @@
 -- What a factored graph is: walks between places of an order, among them one for each arc, and
 -- closed under passing a place that is less than both ends. After Carre, An algebra for network
 -- routing problems (1971): elimination.
-use Rattle.std.specs.Prelude.{◌≡◌, ℕ, ◌<◌, ◌≤◌, ◌-◌, ◌⊎◌, List, [], length, Contains, IsTrue, Some, slice_index, slice_index_or}
+use Rattle.std.specs.Prelude.{◌≡◌, ℕ, ◌+◌, ◌<◌, ◌≤◌, ◌-◌, ◌⊎◌, List, [], length, Contains, IsTrue, Option, Some, None, slice_index, slice_index_or}
 use Rattle.road_graph.specs.GraphData.{GraphData, HasArc, arc_of}
 pub use Rattle.elimination_order.specs.Orders.{HasEachVertex}
 use Rattle.path_algebra.specs.Algebra.{Algebra}
@@ -85,9 +85,34 @@ pub record AreLinks {V W : Type 0} (A : Algebra V) (C : Composition V W) (g : Gr
   pub falling : (x y : ℕ) (a : W) → Falls F x y a → (y < x) × (x < g.vertices)
   pub sound : (x y : ℕ) (a : W) → Leads F x y a → IsWorthOfWalk A C g (vertex_at F x) (vertex_at F y) a
 
--- a factor of the graph
+-- the label at a place
+abbrev pub at : {V : Type 0} → List (Option V) → ℕ → Option V
+at labels i = slice_index_or labels i None
+
+-- a label that is no worse than x
+abbrev pub HasNoWorse : {V : Type 0} → Algebra V → Option V → V → Type 0
+HasNoWorse {V} A l x = (y : V) × (l ≡ Some y) × IsTrue (A.no_worse y x)
+
+-- the label to is no worse than what a walk of worth a makes of the label from
+abbrev pub Passes : {V W : Type 0} → Algebra V → Composition V W → Option V → W → Option V → Type 0
+Passes {V} A C from a to = (x z : V) → from ≡ Some x → C.apply x a ≡ Some z → HasNoWorse A to z
+
+-- labels that no link between places from low on improves
+pub record AreStable {V W : Type 0} (A : Algebra V) (C : Composition V W) (F : FactorData W) (low : ℕ) (labels : List (Option V)) : Type 0 where
+  pub values : (i : ℕ) (x : V) → at labels i ≡ Some x → IsTrue (A.is_value x)
+  pub passes : (x y : ℕ) (a : W) → low ≤ x → low ≤ y → Leads F x y a → Passes A C (at labels x) a (at labels y)
+
+-- the links between places from low on do for a walk of worth a from place x to place y: where they
+-- improve no label, it does not either
+abbrev pub IsCovered : {V W : Type 0} → Algebra V → Composition V W → FactorData W → ℕ → ℕ → ℕ → W → Type 0
+IsCovered {V} A C F low x y a = (labels : List (Option V)) → AreStable A C F low labels → Passes A C (at labels x) a (at labels y)
+
+-- a factor of the graph: its links do for each arc, and those past a place for each two that meet
+-- there
 pub record IsFactor {V W : Type 0} (A : Algebra V) (C : Composition V W) (g : GraphData) (F : FactorData W) : Type 0 where
   pub ordering : IsOrdering g F
   pub links : AreLinks A C g F
-  pub covers : CoversArcs C g F
-  pub closed : (v : ℕ) → v < g.vertices → IsClosedAt C F v
+  pub covers : (a : ℕ) → HasArc g a → ((arc_of g a).tail ≡ (arc_of g a).head → ⊥) →
+      IsCovered A C F 0 (place_of F (arc_of g a).tail) (place_of F (arc_of g a).head) (C.of_arc (arc_of g a).weight)
+  pub closed : (v : ℕ) → v < g.vertices → (x y : ℕ) (a b : W) → Falls F x v a → Rises F v y b → (x ≡ y → ⊥) →
+      IsCovered A C F (v + 1) x y (C.compose a b)

@@ -1,6 +1,6 @@
 -- The heads of each place: the greater places to which it has an edge. Which these are depends on
 -- the order alone.
-use Rattle.std.specs.Prelude.{◌≡◌, ℕ, ◌-◌, ◌<◌, List, length, map, Contains, slice_index}
+use Rattle.std.specs.Prelude.{◌≡◌, ℕ, ◌-◌, ◌<◌, ◌≤◌, List, length, map, Contains, slice_index}
 use Rattle.std.specs.List.Sorted.{IsStrictlyIncreasing}
 use Rattle.road_graph.specs.GraphData.{GraphData, HasArc, arc_of}
 use Rattle.path_factors.specs.declared.link.Link.{Link}
@@ -35,3 +35,10 @@ AreArcsJoined Has g places =
 pub record IsOutline (g : GraphData) (places : List ℕ) (heads : List (List ℕ)) : Type 0 where
   pub are : AreHeads g.vertices heads
   pub joined : AreArcsJoined (IsHead heads) g places
+
+-- of the heads that the end of edge i of place v shares with v's, those from index j of v on are
+-- from index q of its own on
+abbrev pub AreAhead : List (List ℕ) → ℕ → ℕ → ℕ → ℕ → Type 0
+AreAhead heads v i j q =
+    (p m : ℕ) → j ≤ p → p < length (row_of heads v) → m < length (row_of heads (slice_index (row_of heads v) i)) →
+    slice_index (row_of heads (slice_index (row_of heads v) i)) m ≡ slice_index (row_of heads v) p → q ≤ m

@@ -9,3 +9,4 @@ pub mod Asking
 pub mod Heads
 pub mod Chains
 pub mod Reweighing
+pub mod Pruning

@@ -1,16 +1,13 @@
 -- Best values by substitution in a factor: forward, from lesser to greater places, and back. Labels
 -- are by place here.
-use Rattle.std.specs.Prelude.{◌≡◌, ℕ, ◌<◌, ◌≤◌, ◌⊎◌, List, [], ◌∷◌, length, Contains, IsTrue, Option, Some, None, slice_index_or, slice_set}
+use Rattle.std.specs.Prelude.{◌≡◌, ℕ, ◌<◌, ◌≤◌, ◌⊎◌, List, [], ◌∷◌, length, Contains, Option, Some, None, slice_set}
 use Rattle.road_graph.specs.GraphData.{GraphData}
 use Rattle.path_algebra.specs.Algebra.{Algebra}
 use Rattle.path_algebra.specs.Composition.{Composition, applied}
 use Rattle.path_algebra.specs.Walks.{IsWalkValue, better_label}
 use Rattle.path_factors.specs.declared.link.Link.{Link}
 use Rattle.path_factors.specs.Factors.{FactorData, Rises, Falls, vertex_at, place_of}
-
--- the label at a place
-abbrev pub at : {V : Type 0} → List (Option V) → ℕ → Option V
-at labels i = slice_index_or labels i None
+pub use Rattle.path_factors.specs.Factors.{at, HasNoWorse, Passes}
 
 -- the labels after x, extended by a link, was offered to the link's place, or refused
 abbrev pub offered_link : {V W : Type 0} → Algebra V → Composition V W → V → List (Option V) → Link W → List (Option V)
@@ -32,14 +29,6 @@ abbrev pub best_along : {V W : Type 0} → Algebra V → Composition V W → Lis
 best_along A C labels l [] = l
 best_along A C labels l (k ∷ row) =
     best_along A C labels (better_label A.no_worse l (applied C (at labels k.place) k.walk)) row
-
--- a label that is no worse than x
-abbrev pub HasNoWorse : {V : Type 0} → Algebra V → Option V → V → Type 0
-HasNoWorse {V} A l x = (y : V) × (l ≡ Some y) × IsTrue (A.no_worse y x)
-
--- the label to is no worse than what a walk of worth a makes of the label from
-abbrev pub Passes : {V W : Type 0} → Algebra V → Composition V W → Option V → W → Option V → Type 0
-Passes {V} A C from a to = (x z : V) → from ≡ Some x → C.apply x a ≡ Some z → HasNoWorse A to z
 
 -- z is what some link into place i from a greater one makes of the label there
 pub record ComesFromAbove {V W : Type 0} (C : Composition V W) (F : FactorData W) (labels : List (Option V)) (i : ℕ) (z : V) : Type 0 where

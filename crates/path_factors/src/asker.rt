@@ -31,7 +31,7 @@ impl<A: ComposingAlgebra> Model for Asker<A> {
 
     ghost view = { λ s. record { factors = s.factors.value; sources = sources_of s.source } };
 
-    ghost invariant = { λ s. IsAsking (A.meaning s.factors.value.algebra) (A.walks s.factors.value.algebra) s.factors.value.roads s.factors.value.factor (sources_of s.source) s.labels.items s.known.items s.asked.items };
+    ghost invariant = { λ s. IsAsking (A.meaning s.factors.value.algebra) (A.walks s.factors.value.algebra) s.factors.value.roads s.factors.value.factor s.factors.value.heads (sources_of s.source) s.labels.items s.known.items s.asked.items };
 }
 
 impl<A: ComposingAlgebra> Asker<A> {

@@ -38,6 +38,6 @@ impl<A: ComposingAlgebra> Factors<A> {
         let heads = outline(alloc, graph, &places)?;
         let rows = PackedRows::blank(alloc, heads, algebra.no_walk())?;
         let order = Arc::new(alloc, Snapshot::of(order)).map_err(AllocError::from)?;
-        Ok(Some(Weighing::weigh(algebra, graph, order, places, rows)))
+        Ok(Some(Weighing::weigh(alloc, algebra, graph, order, places, rows)?))
     }
 }

@@ -17,7 +17,7 @@ impl<A: ComposingAlgebra> Factors<A> {
         requires count { length labels.old ≡ self.now.roads.vertices }
         requires alone { (j : ℕ) → (j ≡ s → ⊥) → at labels.old j ≡ None }
         ensures count { length labels.new ≡ self.now.roads.vertices }
-        ensures up { AreOnlyUp self.now.factor.leaving self.now.roads.vertices s labels.new }
+        ensures up { AreOnlyUp self.now.heads self.now.roads.vertices s labels.new }
         ensures forward { (sources : List ℕ) →
             IsForwardTo (A.meaning self.now.algebra) (A.walks self.now.algebra) self.now.roads self.now.factor sources 0 labels.old →
             IsForward (A.meaning self.now.algebra) (A.walks self.now.algebra) self.now.roads self.now.factor sources labels.new }
@@ -34,7 +34,7 @@ impl<A: ComposingAlgebra> Factors<A> {
     pub(crate) fn clear_up(&self, labels: &mut [Option<A::Value>], s: usize)
         requires place { s < self.now.roads.vertices }
         requires count { length labels.old ≡ self.now.roads.vertices }
-        requires up { AreOnlyUp self.now.factor.leaving self.now.roads.vertices s labels.old }
+        requires up { AreOnlyUp self.now.heads self.now.roads.vertices s labels.old }
         ensures count { length labels.new ≡ self.now.roads.vertices }
         ensures none { (j : ℕ) → at labels.new j ≡ None }
     {
@@ -51,7 +51,7 @@ impl<A: ComposingAlgebra> Factors<A> {
         requires source { All (HasVertex self.now.roads) (sources_of source) }
         requires count { length labels.old ≡ self.now.roads.vertices }
         requires up { (j : ℕ) → (at labels.old j ≡ None)
-            ⊎ IsAboveSource self.now.roads.vertices self.now.factor (sources_of source) j }
+            ⊎ IsAboveSource self.now.roads.vertices self.now.factor self.now.heads (sources_of source) j }
         ensures count { length labels.new ≡ self.now.roads.vertices }
         ensures none { (j : ℕ) → at labels.new j ≡ None }
     {
@@ -67,7 +67,7 @@ impl<A: ComposingAlgebra> Factors<A> {
         requires count { length labels.old ≡ self.now.roads.vertices }
         requires none { (j : ℕ) → at labels.old j ≡ None }
         ensures count { length labels.new ≡ self.now.roads.vertices }
-        ensures up { AreOnlyUp self.now.factor.leaving self.now.roads.vertices
+        ensures up { AreOnlyUp self.now.heads self.now.roads.vertices
             (place_of self.now.factor source) labels.new }
         ensures forward { IsForward (A.meaning self.now.algebra) (A.walks self.now.algebra)
             self.now.roads self.now.factor (source ∷ []) labels.new }

@@ -4,9 +4,10 @@ ghost use Rattle.road_graph.specs.GraphData.{IsGraph};
 ghost use Rattle.path_algebra.specs.Algebra.{IsLawful};
 ghost use Rattle.path_algebra.specs.Composition.{IsComposition};
 ghost use Rattle.path_factors.specs.Factors.{IsFactor};
-ghost use Rattle.path_factors.specs.Edges.{AreAligned};
-ghost use Rattle.path_factors.specs.Tree.{IsTreeParent};
+ghost use Rattle.path_factors.specs.Heads.{IsOutline};
+ghost use Rattle.path_factors.specs.Tree.{AreAtHeads, IsTreeParent};
 
+use crate::heads::Heads;
 use crate::packed::PackedRows;
 use path_algebra::{ComposingAlgebra, composition_holds, laws_hold};
 use road_graph::{OutGraph, Vertex};
@@ -17,7 +18,8 @@ use std::sync::Arc;
 /// Links between the places of an order, from which best values of a graph are found by
 /// substitution. Contracts alone see the graph and the order.
 ///
-/// It takes 8 bytes for each vertex, and 4 and those of two walks for each edge.
+/// An edge that others do for is left out. It takes 12 bytes for each vertex, 4 for each edge, and
+/// 4 and those of two walks for each one that is left.
 #[derive(Drop)]
 pub struct Factors<A: ComposingAlgebra> {
     pub(crate) algebra: A,
@@ -25,7 +27,9 @@ pub struct Factors<A: ComposingAlgebra> {
     pub(crate) order: Arc<Snapshot<Vec<Vertex>>>,
     /// The place of each vertex.
     pub(crate) places: Vec<u32>,
-    /// For each place the links to greater places and from them.
+    /// The greater places with which each place has an edge.
+    pub(crate) heads: Heads,
+    /// For each place the links to greater places and from them that are left.
     pub(crate) rows: PackedRows<A::Walk>,
 }
 
@@ -36,9 +40,9 @@ impl<A: ComposingAlgebra> Model for Factors<A> {
 
     ghost Value = { FactorState A A.Walk };
 
-    ghost view = { λ f. record { algebra = f.algebra; roads = f.graph.value; factor = record { order = (arc_value f.order).value.items; places = f.places.items; leaving = f.rows.leaving; entering = f.rows.entering } } };
+    ghost view = { λ f. record { algebra = f.algebra; roads = f.graph.value; factor = record { order = (arc_value f.order).value.items; places = f.places.items; leaving = f.rows.leaving; entering = f.rows.entering }; heads = f.heads } };
 
-    ghost invariant = { λ f. IsFactored (A.meaning f.algebra) (A.walks f.algebra) f.graph.value (record { order = (arc_value f.order).value.items; places = f.places.items; leaving = f.rows.leaving; entering = f.rows.entering }) };
+    ghost invariant = { λ f. IsFactored (A.meaning f.algebra) (A.walks f.algebra) f.graph.value (record { order = (arc_value f.order).value.items; places = f.places.items; leaving = f.rows.leaving; entering = f.rows.entering }) f.heads };
 }
 
 impl<A: ComposingAlgebra> Factors<A> {
@@ -49,21 +53,21 @@ impl<A: ComposingAlgebra> Factors<A> {
         ensures roads { IsGraph self.now.roads }
         ensures lawful { IsLawful (A.meaning self.now.algebra) }
         ensures composes { IsComposition (A.meaning self.now.algebra) (A.walks self.now.algebra) }
-        ensures aligned { AreAligned self.now.factor.leaving self.now.factor.entering }
+        ensures outline { IsOutline self.now.roads self.now.factor.places self.now.heads }
+        ensures at_heads { AreAtHeads self.now.heads self.now.factor }
     {
         laws_hold(self.algebra);
         composition_holds(self.algebra);
-        let _ = self.rows.len();
     }
 
     /// The least place to which a place has an edge; how many places there are if it has none.
     pub(crate) fn parent(&self, i: usize) -> usize
         requires { i < self.now.roads.vertices }
-        ensures parent { IsTreeParent self.now.factor.leaving self.now.roads.vertices i result }
+        ensures parent { IsTreeParent self.now.heads self.now.roads.vertices i result }
         ensures above { i < result }
         ensures inside { result ≤ self.now.roads.vertices }
     {
-        let heads = self.rows.heads(i);
+        let heads = self.heads.row(i);
         if 0 < heads.len() {
             heads[0] as usize
         } else {

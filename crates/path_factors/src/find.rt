@@ -21,7 +21,7 @@ impl<A: ComposingAlgebra> Factors<A> {
         requires place { t < self.now.roads.vertices }
         requires count { length known.now ≡ self.now.roads.vertices }
         ensures listed { OnOk result ((list : List ℕ) × (asked.new.items ≡ asked.old.items ++ list) ×
-            AreAllUnknownUp self.now.factor.leaving self.now.roads.vertices known.now t list) }
+            AreAllUnknownUp self.now.heads self.now.roads.vertices known.now t list) }
         ensures kept { IsExtended self.now.roads.vertices asked.old.items asked.new.items }
     {
         self.holds();
@@ -57,13 +57,13 @@ impl<A: ComposingAlgebra> Factors<A> {
     )
         requires labels { length labels.old ≡ self.now.roads.vertices }
         requires known { length known.old ≡ self.now.roads.vertices }
-        requires list { AreAllUnknownUp self.now.factor.leaving self.now.roads.vertices known.old t
+        requires list { AreAllUnknownUp self.now.heads self.now.roads.vertices known.old t
             list.now }
-        requires upward { IsKnownUpward self.now.factor.leaving known.old }
+        requires upward { IsKnownUpward self.now.heads known.old }
         ensures { (before all : List (Option A.Value)) →
             IsBackRun (A.meaning self.now.algebra) (A.walks self.now.algebra) self.now.roads.vertices self.now.factor before all →
             Agree self.now.roads.vertices before all labels.old known.old →
-            AreFound self.now.factor.leaving self.now.roads.vertices before all known.old list.now labels.new known.new }
+            AreFound self.now.heads self.now.roads.vertices before all known.old list.now labels.new known.new }
     {
         self.holds();
         for k in (0..list.len()).rev() {

@@ -3,7 +3,7 @@ ghost use Rattle.std.specs.Prelude.{◌≡◌, ℕ, ◌<◌, ◌↔◌, Contains
 ghost use Rattle.std.specs.List.Sorted.{IsStrictlyIncreasing};
 ghost use Rattle.road_graph.specs.GraphData.{HasVertex, HasArc, arc_of};
 ghost use Rattle.path_factors.specs.Factors.{place_of};
-ghost use Rattle.path_factors.specs.Heads.{IsHead, IsJoined, heads_in};
+ghost use Rattle.path_factors.specs.Heads.{IsHead, IsJoined};
 ghost use Rattle.path_factors.specs.Reweighing.{Fits, HasEdges, IsReason, JoinsNoOthers};
 
 use crate::factors::Factors;
@@ -24,13 +24,13 @@ impl<A: ComposingAlgebra> Factors<A> {
     fn is_joined(&self, x: usize, y: usize) -> bool
         requires first { x < self.now.roads.vertices }
         requires second { y < self.now.roads.vertices }
-        ensures { IsTrue result ↔ IsJoined (IsHead (heads_in self.now.factor.leaving)) x y }
+        ensures { IsTrue result ↔ IsJoined (IsHead self.now.heads) x y }
     {
         self.holds();
         if x < y {
-            is_listed(self.rows.heads(x), y as u32)
+            is_listed(self.heads.row(x), y as u32)
         } else if y < x {
-            is_listed(self.rows.heads(y), x as u32)
+            is_listed(self.heads.row(y), x as u32)
         } else {
             true
         }
@@ -41,7 +41,7 @@ impl<A: ComposingAlgebra> Factors<A> {
         requires count { graph.now.vertices ≡ self.now.roads.vertices }
         requires tail { HasVertex graph.now tail }
         ensures { IsTrue result ↔ ((a : ℕ) → HasArc graph.now a → (arc_of graph.now a).tail ≡ tail →
-            IsJoined (IsHead (heads_in self.now.factor.leaving))
+            IsJoined (IsHead self.now.heads)
             (place_of self.now.factor (arc_of graph.now a).tail)
             (place_of self.now.factor (arc_of graph.now a).head)) }
     {
@@ -60,7 +60,7 @@ impl<A: ComposingAlgebra> Factors<A> {
     /// Whether each arc of a graph has an edge.
     fn has_edges(&self, graph: &OutGraph) -> bool
         requires { graph.now.vertices ≡ self.now.roads.vertices }
-        ensures { IsTrue result ↔ HasEdges graph.now self.now.factor }
+        ensures { IsTrue result ↔ HasEdges graph.now self.now.factor.places self.now.heads }
     {
         graph.holds();
         for i in 0..graph.vertices() {

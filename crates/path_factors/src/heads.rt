@@ -64,6 +64,15 @@ impl Heads {
         Ok(Heads { starts, places })
     }
 
+    /// The same rows.
+    pub(crate) fn copy(&self, alloc: Global) -> Result<Self, Memory>
+        ensures { IfOk result (λ heads. heads ≡ self.now) }
+    {
+        let starts = self.starts.to_vec(alloc)?;
+        let places = self.places.to_vec(alloc)?;
+        Ok(Heads { starts, places })
+    }
+
     /// The row of a place.
     pub(crate) fn row(&self, i: usize) -> &[u32]
         requires { i < length self.now }

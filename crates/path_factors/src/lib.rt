@@ -3,7 +3,7 @@
 //!
 //! Any order gives right answers, a good one few links. A factor's links go between places of the
 //! order; each is worth a walk of the graph, and two that meet at a lesser place are no better than
-//! one past it. So two sweeps over the links, up and down, find the best value of each vertex.
+//! a way past it. So two sweeps over the links, up and down, find the best value of each vertex.
 #![tactic(auto)]
 
 mod asker;
@@ -21,6 +21,7 @@ mod load;
 mod order;
 mod outline;
 mod packed;
+mod prune;
 mod reweigh;
 mod solve;
 mod upward;

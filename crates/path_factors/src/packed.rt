@@ -1,5 +1,5 @@
 //! The links of each place, one row after the other.
-ghost use Rattle.std.specs.Prelude.{◌≡◌, ℕ, ◌<◌, All, IfOk, length, slice_index, slice_index_or};
+ghost use Rattle.std.specs.Prelude.{◌≡◌, ℕ, ◌<◌, ◌++◌, ◌∷◌, [], All, IfOk, OnOk, length, slice_index, slice_index_or};
 
 use crate::better::better_of_walks;
 use crate::edge::Edge;
@@ -46,10 +46,29 @@ fn repeated<W: Copy>(alloc: Global, walk: W, count: usize) -> Result<Vec<W>, Mem
     Ok(walks)
 }
 
+/// One more edge, with the link to its greater place and the worth of that from there.
+fn put<W: Copy>(
+    places: &mut Vec<u32>,
+    leaving: &mut Vec<W>,
+    entering: &mut Vec<W>,
+    riser: Link<W>,
+    back: W,
+) -> Result<(), Memory>
+    ensures places { OnOk result (places.new.items ≡ places.old.items ++ riser.place ∷ []) }
+    ensures leaving { OnOk result (leaving.new.items ≡ leaving.old.items ++ riser.walk ∷ []) }
+    ensures entering { OnOk result (entering.new.items ≡ entering.old.items ++ back ∷ []) }
+{
+    places.push(riser.place).map_err(AllocError::from)?;
+    leaving.push(riser.walk).map_err(AllocError::from)?;
+    entering.push(back).map_err(AllocError::from)?;
+    Ok(())
+}
+
 impl<W: Copy> PackedRows<W> {
     ghost use Rattle.path_factors.specs.Factors.{row_of};
     ghost use Rattle.path_factors.specs.Edges.{AreBlank, AreEdgesImproved};
     ghost use Rattle.path_factors.specs.Heads.{heads_in};
+    ghost use Rattle.path_factors.specs.Pruning.{marked};
 
     /// An edge for each head, with the same walk both ways.
     pub(crate) fn blank(alloc: Global, heads: Heads, none: W) -> Result<Self, Memory>
@@ -70,15 +89,73 @@ impl<W: Copy> PackedRows<W> {
         })
     }
 
-    /// The same edges, with the same walk both ways at each.
-    pub(crate) fn blank_copy(&self, alloc: Global, none: W) -> Result<Self, Memory>
-        ensures heads { IfOk result (λ rows. heads_in rows.leaving ≡ heads_in self.now.leaving) }
-        ensures risers { IfOk result (λ rows. AreBlank none rows.leaving) }
-        ensures fallers { IfOk result (λ rows. AreBlank none rows.entering) }
+    /// No rows, with room for those of n places and so many edges.
+    pub(crate) fn new(alloc: Global, n: usize, edges: usize) -> Result<Self, Memory>
+        ensures leaving { IfOk result (λ rows. rows.leaving ≡ []) }
+        ensures entering { IfOk result (λ rows. rows.entering ≡ []) }
     {
-        let starts = self.starts.to_vec(alloc)?;
-        let places = self.places.to_vec(alloc)?;
-        PackedRows::blank(alloc, Heads { starts, places }, none)
+        let mut starts: Vec<u32> = Vec::with_capacity(alloc, n.saturating_add(1))?;
+        starts.push(0).map_err(AllocError::from)?;
+        Ok(PackedRows {
+            starts,
+            places: Vec::with_capacity(alloc, edges)?,
+            leaving: Vec::with_capacity(alloc, edges)?,
+            entering: Vec::with_capacity(alloc, edges)?,
+        })
+    }
+
+    /// One more row: the marked edges of a place of other rows.
+    pub(crate) fn push_marked(
+        self,
+        whole: &PackedRows<W>,
+        v: usize,
+        marks: &[bool],
+    ) -> Result<Self, Memory>
+        requires place { v < length whole.now.leaving }
+        requires marks { length marks.now ≡ length (row_of whole.now.leaving v) }
+        ensures leaving { IfOk result (λ rows.
+            rows.leaving ≡ self.leaving ++ marked (row_of whole.now.leaving v) marks.now ∷ []) }
+        ensures entering { IfOk result (λ rows.
+            rows.entering ≡ self.entering ++ marked (row_of whole.now.entering v) marks.now ∷ []) }
+    {
+        let _ = whole.len();
+        let mut starts = self.starts;
+        let mut places = self.places;
+        let mut leaving = self.leaving;
+        let mut entering = self.entering;
+        for j in 0..marks.len() {
+            let riser = whole.riser(v, j);
+            let faller = whole.faller(v, j);
+            let is_marked = marks[j];
+            if is_marked {
+                put(&mut places, &mut leaving, &mut entering, riser, faller.walk)?;
+            }
+        }
+        let Ok(end) = u32::try_from(places.len()) else {
+            return Err(Memory);
+        };
+        starts.push(end).map_err(AllocError::from)?;
+        Ok(PackedRows {
+            starts,
+            places,
+            leaving,
+            entering,
+        })
+    }
+
+    /// The heads alone.
+    pub(crate) fn into_heads(self) -> Heads
+        ensures { result ≡ heads_in self.leaving }
+    {
+        Heads {
+            starts: self.starts,
+            places: self.places,
+        }
+    }
+
+    /// How many edges there are.
+    pub(crate) fn edges(&self) -> usize {
+        self.places.len()
     }
 
     /// How many edges a place has.

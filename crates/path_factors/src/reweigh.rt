@@ -1,9 +1,8 @@
 //! A graph is factored over the links of another one: the same order, other weights.
 ghost use Rattle.std.specs.Prelude.{◌≡◌, IfOk, IfErr};
 ghost use Rattle.std.specs.Arc.{arc_value};
-ghost use Rattle.path_factors.specs.Factors.{ArePlaces, CoversArcs};
+ghost use Rattle.path_factors.specs.Factors.{ArePlaces};
 ghost use Rattle.path_factors.specs.Edges.{AreBlank};
-ghost use Rattle.path_factors.specs.Eliminating.{AreClosedTo};
 ghost use Rattle.path_factors.specs.Heads.{IsOutline, heads_in};
 ghost use Rattle.path_factors.specs.Reweighing.{Fits, IsReason, JoinsNoOthers};
 
@@ -53,43 +52,28 @@ impl<'g, A: ComposingAlgebra> Weighing<'g, A> {
         }
     }
 
-    /// The factor, once each arc has a walk at its link and each place is eliminated.
-    fn into_factors(self) -> Factors<A>
-        requires covers { CoversArcs (A.walks self.algebra) self.roads self.factor }
-        requires closed { AreClosedTo (A.walks self.algebra) self.factor self.roads.vertices }
-        ensures { result ≡ self.entry }
-    {
-        self.holds();
-        Factors {
-            algebra: self.algebra,
-            graph: Snapshot::of(self.graph),
-            order: self.order,
-            places: self.places,
-            rows: self.rows,
-        }
-    }
-
     /// The factor of a graph by an order, over rows with its outline and no walk at any link.
     pub(crate) fn weigh(
+        alloc: Global,
         algebra: A,
         graph: &'g OutGraph,
         order: Arc<Snapshot<Vec<Vertex>>>,
         places: Vec<u32>,
         rows: PackedRows<A::Walk>,
-    ) -> Factors<A>
+    ) -> Result<Factors<A>, Memory>
         requires places { ArePlaces graph.now.vertices (arc_value order).value.items places.items }
         requires outline { IsOutline graph.now places.items (heads_in rows.leaving) }
         requires risers { AreBlank (A.walks algebra).no_walk rows.leaving }
         requires fallers { AreBlank (A.walks algebra).no_walk rows.entering }
-        ensures algebra { result.algebra ≡ algebra }
-        ensures roads { result.roads ≡ graph.now }
-        ensures order { result.factor.order ≡ (arc_value order).value.items }
+        ensures algebra { IfOk result (λ f. f.algebra ≡ algebra) }
+        ensures roads { IfOk result (λ f. f.roads ≡ graph.now) }
+        ensures order { IfOk result (λ f. f.factor.order ≡ (arc_value order).value.items) }
     {
         composition_holds(algebra);
         let mut weighing = Weighing::open(algebra, graph, order, places, rows);
         weighing.load();
         weighing.eliminate_all();
-        weighing.into_factors()
+        weighing.prune(alloc)
     }
 }
 
@@ -120,7 +104,8 @@ impl<A: ComposingAlgebra> Factors<A> {
         }
         let order = Arc::try_clone(&self.order)?;
         let places = self.places.to_vec(alloc)?;
-        let rows = self.rows.blank_copy(alloc, algebra.no_walk())?;
-        Ok(Ok(Weighing::weigh(algebra, graph, order, places, rows)))
+        let heads = self.heads.copy(alloc)?;
+        let rows = PackedRows::blank(alloc, heads, algebra.no_walk())?;
+        Ok(Ok(Weighing::weigh(alloc, algebra, graph, order, places, rows)?))
     }
 }

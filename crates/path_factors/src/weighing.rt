@@ -6,7 +6,7 @@ ghost use Rattle.path_factors.specs.declared.edge.Edge.{Edge};
 ghost use Rattle.path_factors.specs.Factors.{row_of, IsClosedAt, LeadsNoWorse, IsWorthOfWalk, vertex_at};
 ghost use Rattle.path_factors.specs.Edges.{AreAligned, IsEdgeAt, AreJoined};
 ghost use Rattle.path_factors.specs.Eliminating.{IsBegun, Improves, AreClosedTo};
-ghost use Rattle.path_factors.specs.Heads.{IsHead, IsJoined, IsOutline, heads_in};
+ghost use Rattle.path_factors.specs.Heads.{AreAhead, IsHead, IsJoined, IsOutline, heads_in};
 ghost use Rattle.path_factors.specs.State.{IsSameState};
 
 use crate::edge::Edge;
@@ -37,7 +37,7 @@ impl<'g, A: ComposingAlgebra> Model for Weighing<'g, A> {
 
     ghost Value = { FactorState A A.Walk };
 
-    ghost view = { λ f. record { algebra = f.algebra; roads = f.graph.now; factor = record { order = (arc_value f.order).value.items; places = f.places.items; leaving = f.rows.leaving; entering = f.rows.entering } } };
+    ghost view = { λ f. record { algebra = f.algebra; roads = f.graph.now; factor = record { order = (arc_value f.order).value.items; places = f.places.items; leaving = f.rows.leaving; entering = f.rows.entering }; heads = heads_in f.rows.leaving } };
 
     ghost invariant = { λ f.
         IsBegun (A.meaning f.algebra) (A.walks f.algebra) f.graph.now (record { order = (arc_value f.order).value.items; places = f.places.items; leaving = f.rows.leaving; entering = f.rows.entering })
@@ -119,7 +119,7 @@ impl<'g, A: ComposingAlgebra> Weighing<'g, A> {
     }
 
     /// How many edges a place has.
-    fn count(&self, v: usize) -> usize
+    pub(crate) fn count(&self, v: usize) -> usize
         requires { v < self.now.roads.vertices }
         ensures { result ≡ length (row_of self.now.factor.leaving v) }
     {
@@ -127,7 +127,7 @@ impl<'g, A: ComposingAlgebra> Weighing<'g, A> {
     }
 
     /// One of the edges of a place.
-    fn edge(&self, v: usize, j: usize) -> Edge<A::Walk>
+    pub(crate) fn edge(&self, v: usize, j: usize) -> Edge<A::Walk>
         requires place { v < self.now.roads.vertices }
         requires edge { j < length (row_of self.now.factor.leaving v) }
         ensures { IsEdgeAt self.now.factor v j result }
@@ -140,6 +140,26 @@ impl<'g, A: ComposingAlgebra> Weighing<'g, A> {
             leaving: riser.walk,
             entering: faller.walk,
         }
+    }
+
+    /// The index of the edge between the ends of two edges of a place, if that of the ends of the
+    /// first and of an edge after it is known to come later.
+    pub(crate) fn between(&self, v: usize, i: usize, j: usize, from: usize) -> usize
+        requires place { v < self.now.roads.vertices }
+        requires after { i < j }
+        requires edge { j < length (row_of self.now.factor.leaving v) }
+        requires ahead { AreAhead (heads_in self.now.factor.leaving) v i j from }
+        ensures index { result < length (row_of (heads_in self.now.factor.leaving)
+            (slice_index (row_of (heads_in self.now.factor.leaving) v) i)) }
+        ensures head { slice_index (row_of (heads_in self.now.factor.leaving)
+            (slice_index (row_of (heads_in self.now.factor.leaving) v) i)) result
+            ≡ slice_index (row_of (heads_in self.now.factor.leaving) v) j }
+        ensures ahead { AreAhead (heads_in self.now.factor.leaving) v i (j + 1) (result + 1) }
+        ensures fits { result < 18446744073709551615 }
+    {
+        self.holds();
+        let row = self.rows.heads(v);
+        seek(self.rows.heads(row[i] as usize), from, row[j])
     }
 
     /// Joins two edges that meet at a place, both ways; `q` is the index of the edge between their
@@ -181,7 +201,7 @@ impl<'g, A: ComposingAlgebra> Weighing<'g, A> {
         let mut q = 0;
         for j in i + 1..count {
             let second = self.edge(v, j);
-            q = seek(self.rows.heads(first.place as usize), q, second.place);
+            q = self.between(v, i, j, q);
             self.join(v, first, second, q);
             q += 1;
         }

@@ -4,7 +4,8 @@
 ghost use Rattle.std.specs.Prelude.{◌≡◌};
 
 use crate::graphs::graph_of;
-use path_algebra::{PathAlgebra, Shortest};
+use crate::samples::FIVE;
+use path_algebra::{PathAlgebra, Shortest, Within};
 use road_graph::{ArcNo, Graph, Vertex};
 use scholten_core::{Core, Event, Token};
 use std::process::Abort;
@@ -56,13 +57,38 @@ impl<'g, A: PathAlgebra> Trial<'g, A> {
         self.core.token(ArcNo(a))
     }
 
+    /// Makes the event of an arc, and says whether one was enabled.
+    fn step(&mut self, a: u32) -> bool {
+        self.core.deliver(ArcNo(a)).is_ok() || self.core.accept(ArcNo(a)).is_ok()
+    }
+
+    /// Makes the event of the least enabled arc, or of the greatest, and says whether there was one.
+    fn step_first(&mut self, arcs: u32, greatest: bool) -> bool {
+        for a in 0..arcs {
+            if self.step(if greatest { arcs - 1 - a } else { a }) {
+                return true;
+            }
+        }
+        false
+    }
+
+    /// Makes events until none is enabled, and says whether that came.
+    fn run_in(&mut self, order: Order, arcs: u32) -> bool {
+        let mut greatest = order == Order::Greatest;
+        for _event in 0..1_000 {
+            if !self.step_first(arcs, greatest) {
+                return true;
+            }
+            greatest = greatest != (order == Order::InTurn);
+        }
+        false
+    }
+
     /// Goes over all arcs, round after round, until the diffusion has ended, and says whether it has.
     fn ends(&mut self, arcs: u32) -> bool {
         for _round in 0..10_000 {
             for a in 0..arcs {
-                if self.core.deliver(ArcNo(a)).is_err() {
-                    let _none = self.core.accept(ArcNo(a));
-                }
+                self.step(a);
             }
             if self.core.ended() {
                 return true;
@@ -72,13 +98,24 @@ impl<'g, A: PathAlgebra> Trial<'g, A> {
     }
 }
 
+/// Which of the enabled arcs has the next event: the least, the greatest, or the two in turn.
+#[derive(Clone, Copy, PartialEq)]
+enum Order {
+    Least,
+    Greatest,
+    InTurn,
+}
+
 /// An event, and whether it was enabled; events, and how many were; or what is to be seen of a core.
 #[derive(Clone, Copy)]
 enum Step {
     Deliver(u32, bool),
     Accept(u32, bool),
-    /// The events of `TWICE`.
+    /// The first four events of `TWICE`.
+    Once(usize),
     Twice(usize),
+    /// Events of so many arcs in an order, until none is enabled.
+    InOrder(Order, u32),
     /// Goes over so many arcs until the diffusion has ended.
     ToTheEnd(u32),
     /// What is on an arc.
@@ -98,7 +135,9 @@ fn is_right<A: PathAlgebra<Value = u64>>(
     match step {
         Step::Deliver(a, had) => trial.core.deliver(ArcNo(a)).is_ok() == had,
         Step::Accept(a, had) => trial.core.accept(ArcNo(a)).is_ok() == had,
+        Step::Once(enabled) => trial.core.run(&TWICE[..4]) == enabled,
         Step::Twice(enabled) => trial.core.run(&TWICE) == enabled,
+        Step::InOrder(order, arcs) => trial.run_in(order, arcs),
         Step::ToTheEnd(arcs) => trial.ends(arcs),
         Step::OnArc(a, wanted) => trial.token(rt, a) == wanted,
         Step::Shows(v, wanted) => trial.shown(rt, v) == wanted,
@@ -142,14 +181,52 @@ const STEP_BY_STEP: [Step; 19] = [
     Step::Accept(4_000_000_000, false),
 ];
 
-/// Only what is enabled is counted.
-const COUNTED: [Step; 2] = [Step::Twice(4), Step::Ended(true)];
-
 #[test]
-fn one_arc_step_by_step(rt: HostRuntime) {
+fn core_step_by_step(rt: HostRuntime) {
     let graph = graph_of(&rt, 2, &[(1, 2, 7)]);
     assert_steps(&rt, Shortest, &graph, &STEP_BY_STEP);
-    assert_steps(&rt, Shortest, &graph, &COUNTED);
+    for counted in [Step::Once(4), Step::Twice(4)] {
+        assert_steps(&rt, Shortest, &graph, &[counted, Step::Ended(true)]);
+    }
+}
+
+/// The five vertices when all is quiet.
+const FIVE_ENDED: [Step; 6] = [
+    Step::Ended(true),
+    Step::Shows(1, (Some(0), None, 0)),
+    Step::Shows(2, (Some(3), None, 0)),
+    Step::Shows(3, (Some(1), None, 0)),
+    Step::Shows(4, (Some(8), None, 0)),
+    Step::Shows(5, (None, None, 0)),
+];
+
+#[test]
+fn three_orders_of_events(rt: HostRuntime) {
+    let graph = graph_of(&rt, 5, &FIVE);
+    for order in [Order::Least, Order::Greatest, Order::InTurn] {
+        let [ended, one, two, three, four, five] = FIVE_ENDED;
+        let steps = [Step::InOrder(order, 8), ended, one, two, three, four, five];
+        assert_steps(&rt, Shortest, &graph, &steps);
+    }
+}
+
+/// The five vertices if no arc is within the limit.
+const AT_ONCE: [Step; 8] = [
+    Step::Deliver(0, true),
+    Step::Accept(0, true),
+    Step::Ended(true),
+    Step::Shows(1, (Some(0), None, 0)),
+    Step::Shows(2, (None, None, 0)),
+    Step::Shows(3, (None, None, 0)),
+    Step::Shows(4, (None, None, 0)),
+    Step::Shows(5, (None, None, 0)),
+];
+
+#[test]
+fn limit_zero_core(rt: HostRuntime) {
+    let graph = graph_of(&rt, 5, &FIVE);
+    let nothing = Within::new(0).expect(&rt, "a small limit");
+    assert_steps(&rt, nothing, &graph, &AT_ONCE);
 }
 
 /// The labels of the hub of a star and of a leaf, once it has ended.

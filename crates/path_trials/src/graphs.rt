@@ -8,17 +8,28 @@ pub(crate) fn graph_of(rt: &(impl Abort + AllocGlobal), n: u32, arcs: &[(u32, u3
     made(rt.alloc(), n, arcs).expect(rt, "refused")
 }
 
-/// The first arc with an end that is no vertex is reported, and the arcs come back.
-#[test]
-fn refusals_hand_back(rt: HostRuntime) {
-    let alloc = rt.alloc();
-    let arcs = vec![in alloc; arc(1, 2, 7), arc(1, 3, 8), arc(0, 1, 9)].expect(&rt, "memory");
-    match OutGraph::new(alloc, 2, arcs) {
-        Err((GraphFault::BadEnd(ArcNo(2)), back)) => {
-            assert!(rt; back.as_slice() == [arc(1, 2, 7), arc(1, 3, 8), arc(0, 1, 9)].as_slice());
-        }
+/// Asserts that the second of these arcs was refused, and that they came back.
+fn assert_second_refused<G>(
+    rt: &impl Abort,
+    made: Result<G, (GraphFault, Vec<RoadArc>)>,
+    arcs: &[RoadArc],
+) {
+    match made {
+        Err((GraphFault::BadEnd(ArcNo(2)), back)) => assert!(rt; back.as_slice() == arcs),
         _ => panic!(rt; "another fault, or none"),
     }
+}
+
+/// The first arc with an end that is no vertex is reported, and the arcs come back.
+#[test]
+fn bad_ends_hand_back(rt: HostRuntime) {
+    let alloc = rt.alloc();
+    let two = [arc(1, 2, 7), arc(1, 3, 8)];
+    let three = [arc(1, 2, 7), arc(1, 3, 8), arc(0, 1, 9)];
+    let arcs = vec![in alloc; two[0], two[1]].expect(&rt, "memory");
+    assert_second_refused(&rt, Graph::new(alloc, 2, arcs), &two);
+    let arcs = vec![in alloc; three[0], three[1], three[2]].expect(&rt, "memory");
+    assert_second_refused(&rt, OutGraph::new(alloc, 2, arcs), &three);
 }
 
 /// The vertices with the numbers of the arcs that leave them, and of those that enter them.

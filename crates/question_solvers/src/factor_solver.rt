@@ -9,7 +9,7 @@ ghost use Rattle.question_solvers.specs.Orders.{IsOrderOf};
 ghost use Rattle.question_solvers.specs.declared.factor_solver.NoFactors.TheVariants.{Dense, Heavy};
 
 use crate::plain_solver::PlainSolver;
-use elimination_order::Counts;
+use elimination_order::{Care, Counts};
 use factor_routes::{RoadFactors, RouteAsker, Unfactored};
 use path_algebra::{Cost, PathAlgebra};
 use road_graph::{InGraph, Memory, OutGraph, Vertex};
@@ -146,7 +146,12 @@ impl<A: PathAlgebra> FactorSolver<A> {
 
     /// Seeks an order by which to factor the graph for what arcs cost, unless there is one, or the
     /// graph was refused: what the order makes, if one is found. The only error is want of memory.
-    pub(crate) fn seek_order(&mut self, alloc: Global, cost: Cost) -> Result<Option<Counts>, Memory>
+    pub(crate) fn seek_order(
+        &mut self,
+        alloc: Global,
+        cost: Cost,
+        care: Option<Care>,
+    ) -> Result<Option<Counts>, Memory>
         requires { IsSome self.old.plain.by_head }
         ensures plain { self.new.plain ≡ self.old.plain }
         ensures factored { self.new.factored ≡ self.old.factored }
@@ -163,7 +168,7 @@ impl<A: PathAlgebra> FactorSolver<A> {
         let Some(by_head) = &plain.by_head else {
             unreachable!()
         };
-        match RoadFactors::seek_order(alloc, cost, &plain.graph, by_head) {
+        match RoadFactors::seek_order(alloc, cost, &plain.graph, by_head, care) {
             Ok((order, counts)) => {
                 self.order = Some(order);
                 return Ok(Some(counts));
@@ -175,8 +180,9 @@ impl<A: PathAlgebra> FactorSolver<A> {
         Ok(None)
     }
 
-    /// Factors the graph for what arcs cost, unless it is so already, or was refused. The only
-    /// error is want of memory.
+    /// Factors the graph for what arcs cost, unless it is so already, or was refused. If there is
+    /// no order, one is found fast: how many questions will come is not known. The only error is
+    /// want of memory.
     pub(crate) fn factor(&mut self, alloc: Global, cost: Cost) -> Result<(), Memory>
         requires { IsSome self.old.plain.by_head }
         ensures graph { self.new.plain.graph ≡ self.old.plain.graph }
@@ -194,7 +200,7 @@ impl<A: PathAlgebra> FactorSolver<A> {
             }
         }
         self.factored = None;
-        let _ = self.seek_order(alloc, cost)?;
+        let _ = self.seek_order(alloc, cost, Some(Care::Fast))?;
         if self.is_refused(cost) {
             return Ok(());
         }

@@ -13,6 +13,7 @@ ghost use Rattle.question_solvers.specs.Tasks.{AreFoundIn, ArePairsIn, IsCarried
 use crate::ahead::{add_next, advance, solution_of};
 use crate::askers::ask_pair;
 use crate::factor_solver::{FactorSolver, Factored};
+use crate::order_care::care_for;
 use crate::pair_solver::PairSolver;
 use crate::pairs::search_near;
 use crate::plain::{make_rows, solve_plainly, start_plain};
@@ -22,7 +23,7 @@ use crate::task::{FactoredTask, PairTask, Task, TaskOver};
 use elimination_order::Counts;
 use factor_routes::RouteAsker;
 use path_algebra::PathAlgebra;
-use road_files::Kind;
+use road_files::{Kind, Questions};
 use road_graph::Memory;
 use std::alloc::Global;
 use std::thread::Threads;
@@ -79,11 +80,12 @@ fn solve_by_factors<A: PathAlgebra, R: Threads + Sync>(
 }
 
 /// Seeks an order by which to factor the graph for what arcs cost under an algebra, unless there is
-/// one, or the graph was refused: what the order makes, if one is found. The only error is want of
-/// memory.
+/// one, or the graph was refused: what the order makes, if one is found. The more pairs are asked
+/// for, the more time it may take. The only error is want of memory.
 pub fn seek_order<A: PathAlgebra>(
     alloc: Global,
     algebra: A,
+    questions: &Questions,
     solver: &mut FactorSolver<A>,
 ) -> Result<Option<Counts>, Memory>
     ensures graph { solver.new.plain.graph ≡ solver.old.plain.graph }
@@ -93,7 +95,8 @@ pub fn seek_order<A: PathAlgebra>(
         return Ok(None);
     };
     make_rows(alloc, &mut solver.plain)?;
-    solver.seek_order(alloc, cost)
+    let care = care_for(solver.plain.graph.vertices(), questions);
+    solver.seek_order(alloc, cost, care)
 }
 
 /// Factors the graph for what arcs cost under an algebra, unless it is so already, or was refused.

@@ -5,6 +5,7 @@ mod ahead;
 mod askers;
 mod factor_solver;
 mod factors;
+mod order_care;
 mod pair_search;
 mod pair_solver;
 mod pairs;

@@ -14,7 +14,7 @@ loop-v-preserved g c =
     record {
       count = length-set c.loop-v.labels v None ∙ count;
       inside = c.parent-v.ensures.inside;
-      up = clear_more A holds.lawful C holds.composes G holds.roads c.args.self.now.factor holds.factor v c.parent-v.result low c.parent-v.ensures.parent c.loop-v.labels count c.loop-v.invariant.up;
+      up = clear_more A holds.lawful C holds.composes G holds.roads c.args.self.now.factor holds.factor c.args.self.now.heads holds.outline.are v c.parent-v.result low c.parent-v.ensures.parent c.loop-v.labels count c.loop-v.invariant.up;
     }
 
 pub returns-clause-none : goal.returns-clause-none
@@ -22,5 +22,5 @@ returns-clause-none g c =
     let A = g.A.PathAlgebra.meaning c.args.self.now.algebra in
     let C = g.A.ComposingAlgebra.walks c.args.self.now.algebra in
     let holds = c.holds.ensures in
-    clear_ends A holds.lawful C holds.composes c.args.self.now.roads holds.roads c.args.self.now.factor holds.factor c.loop-v.v c.loop-v.labels c.loop-v.invariant.count
+    clear_ends A holds.lawful C holds.composes c.args.self.now.roads holds.roads c.args.self.now.factor holds.factor c.args.self.now.heads holds.outline.are c.loop-v.v c.loop-v.labels c.loop-v.invariant.count
     (omega (arith, c.loop-v-test.false, c.loop-v.invariant.inside, c.loop-v.invariant.count)) c.loop-v.invariant.up

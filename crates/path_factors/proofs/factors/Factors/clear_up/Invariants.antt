@@ -6,7 +6,7 @@ abbrev pub invariant-loop-v : goal.invariant-loop-v
 invariant-loop-v g l = record {
   count : length l.labels ≡ l.self.roads.vertices;
   inside : l.v ≤ l.self.roads.vertices;
-  up : AreOnlyUp l.self.factor.leaving l.self.roads.vertices l.v l.labels;
+  up : AreOnlyUp l.self.heads l.self.roads.vertices l.v l.labels;
 }
 
 abbrev pub decreases-loop-v : goal.decreases-loop-v

@@ -16,9 +16,9 @@ loop-v-init g c =
     record {
       count = c.requires.count;
       inside = omega (arith, c.requires.place);
-      climbed = climb_begins F.leaving G.vertices c.args.s c.args.labels.now c.requires.alone;
+      climbed = climb_begins c.args.self.now.heads G.vertices c.args.s c.args.labels.now c.requires.alone;
       forward = λ sources start.
-          forward_starts_at A holds.lawful C holds.composes G holds.roads F holds.factor sources c.args.s c.args.labels.now c.requires.alone start;
+          forward_starts_at A holds.lawful C holds.composes G holds.roads F holds.factor c.args.self.now.heads holds.outline.are sources c.args.s c.args.labels.now c.requires.alone start;
     }
 
 pub loop-v-preserved : goal.loop-v-preserved
@@ -37,10 +37,10 @@ loop-v-preserved g c =
     record {
       count = ap length step ∙ offered_from_count A holds.lawful C (at labels v) labels (row_of F.leaving v) ∙ count;
       inside = c.parent-v.ensures.inside;
-      climbed = climbs_on A holds.lawful C holds.composes G holds.roads F holds.factor holds.aligned v p low c.parent-v.ensures.parent labels c.offer_up.new.labels count step
+      climbed = climbs_on A holds.lawful C holds.composes G holds.roads F holds.factor c.args.self.now.heads holds.outline.are holds.at_heads v p low c.parent-v.ensures.parent labels c.offer_up.new.labels count step
           c.args.s c.loop-v.invariant.climbed;
       forward = λ sources start.
-          forward_climbs A holds.lawful C holds.composes G holds.roads F holds.factor holds.aligned v p low c.parent-v.ensures.parent labels c.offer_up.new.labels count step
+          forward_climbs A holds.lawful C holds.composes G holds.roads F holds.factor c.args.self.now.heads holds.outline.are holds.at_heads v p low c.parent-v.ensures.parent labels c.offer_up.new.labels count step
           c.args.s c.loop-v.invariant.climbed sources (c.loop-v.invariant.forward sources start);
     }
 
@@ -49,7 +49,7 @@ returns-clause-up g c =
     let A = g.A.PathAlgebra.meaning c.args.self.now.algebra in
     let C = g.A.ComposingAlgebra.walks c.args.self.now.algebra in
     let holds = c.holds.ensures in
-    climb_ends A holds.lawful C holds.composes c.args.self.now.roads holds.roads c.args.self.now.factor holds.factor c.args.s c.loop-v.v c.loop-v.labels c.loop-v.invariant.count
+    climb_ends A holds.lawful C holds.composes c.args.self.now.roads holds.roads c.args.self.now.factor holds.factor c.args.self.now.heads holds.outline.are c.args.s c.loop-v.v c.loop-v.labels c.loop-v.invariant.count
     (omega (arith, c.loop-v-test.false, c.loop-v.invariant.inside, c.loop-v.invariant.count)) c.loop-v.invariant.climbed
 
 pub returns-clause-forward : goal.returns-clause-forward

@@ -14,7 +14,7 @@ loop-k-init g c =
       labels_count = c.requires.labels;
       known_count = c.requires.known;
       found = λ before all run agree.
-          found_none A C c.args.self.now.roads c.args.self.now.factor holds.factor holds.aligned c.args.known.now c.args.t c.args.list.now c.requires.list before all run
+          found_none A C c.args.self.now.roads c.args.self.now.factor holds.factor c.args.self.now.heads holds.outline.are holds.at_heads c.args.known.now c.args.t c.args.list.now c.requires.list before all run
           c.args.labels.now c.requires.labels c.requires.known c.requires.upward agree;
     }
 
@@ -23,7 +23,7 @@ find_at-requires-clause-place g c κs within =
     let A = g.A.PathAlgebra.meaning c.args.self.now.algebra in
     let C = g.A.ComposingAlgebra.walks c.args.self.now.algebra in
     let holds = c.holds.ensures in
-    list_inside A C c.args.self.now.roads c.args.self.now.factor holds.factor holds.aligned c.args.known.now c.args.t c.args.list.now c.requires.list
+    list_inside A C c.args.self.now.roads c.args.self.now.factor holds.factor c.args.self.now.heads holds.outline.are holds.at_heads c.args.known.now c.args.t c.args.list.now c.requires.list
     (c.loop-k.k - 1) (omega (arith, c.loop-k-test.true, c.loop-k.invariant.inside))
 
 pub loop-k-preserved : goal.loop-k-preserved
@@ -44,10 +44,10 @@ loop-k-preserved g c =
       labels_count = ap length c.find_at.ensures.labels ∙ length-set c.loop-k.labels i best ∙ c.loop-k.invariant.labels_count;
       known_count = ap length c.find_at.ensures.known ∙ length-set c.loop-k.known i true ∙ c.loop-k.invariant.known_count;
       found = λ before all run agree.
-          let done = subst (λ q. AreFoundFrom F.leaving G.vertices before all c.args.known.now list q c.loop-k.labels c.loop-k.known) back (c.loop-k.invariant.found before all run agree) in
-          let more = found_more A C G F holds.factor holds.aligned c.args.known.now c.args.t list c.requires.list before all run (k - 1) lt c.loop-k.labels c.loop-k.known done in
-          subst (λ (l : List (Option g.row.A-Value.Denot)). AreFoundFrom F.leaving G.vertices before all c.args.known.now list (k - 1) l c.find_at.new.known) (sym c.find_at.ensures.labels)
-          (subst (λ (m : List Bool). AreFoundFrom F.leaving G.vertices before all c.args.known.now list (k - 1) (set c.loop-k.labels i best) m) (sym c.find_at.ensures.known) more);
+          let done = subst (λ q. AreFoundFrom c.args.self.now.heads G.vertices before all c.args.known.now list q c.loop-k.labels c.loop-k.known) back (c.loop-k.invariant.found before all run agree) in
+          let more = found_more A C G F holds.factor c.args.self.now.heads holds.outline.are holds.at_heads c.args.known.now c.args.t list c.requires.list before all run (k - 1) lt c.loop-k.labels c.loop-k.known done in
+          subst (λ (l : List (Option g.row.A-Value.Denot)). AreFoundFrom c.args.self.now.heads G.vertices before all c.args.known.now list (k - 1) l c.find_at.new.known) (sym c.find_at.ensures.labels)
+          (subst (λ (m : List Bool). AreFoundFrom c.args.self.now.heads G.vertices before all c.args.known.now list (k - 1) (set c.loop-k.labels i best) m) (sym c.find_at.ensures.known) more);
     }
 
 pub returns : goal.returns
@@ -58,5 +58,5 @@ returns g c = λ before all run agree.
     let F = c.args.self.now.factor in
     let holds = c.holds.ensures in
     let is : c.loop-k.k ≡ 0 = omega (arith, c.loop-k-test.false) in
-    found_all A C G F holds.factor holds.aligned c.args.known.now c.args.t c.args.list.now c.requires.list before all run c.loop-k.labels c.loop-k.known
-    (subst (λ k. AreFoundFrom F.leaving G.vertices before all c.args.known.now c.args.list.now k c.loop-k.labels c.loop-k.known) is (c.loop-k.invariant.found before all run agree))
+    found_all A C G F holds.factor c.args.self.now.heads holds.outline.are holds.at_heads c.args.known.now c.args.t c.args.list.now c.requires.list before all run c.loop-k.labels c.loop-k.known
+    (subst (λ k. AreFoundFrom c.args.self.now.heads G.vertices before all c.args.known.now c.args.list.now k c.loop-k.labels c.loop-k.known) is (c.loop-k.invariant.found before all run agree))

@@ -11,5 +11,5 @@ invariant-loop-k g l = record {
   found : (before all : List (Option g.row.A-Value.Denot)) →
       IsBackRun (g.A.PathAlgebra.meaning l.self.algebra) (g.A.ComposingAlgebra.walks l.self.algebra) l.self.roads.vertices l.self.factor before all →
       Agree l.self.roads.vertices before all l.fn.labels l.fn.known →
-      AreFoundFrom l.self.factor.leaving l.self.roads.vertices before all l.fn.known l.list l.k l.labels l.known;
+      AreFoundFrom l.self.heads l.self.roads.vertices before all l.fn.known l.list l.k l.labels l.known;
 }

@@ -16,8 +16,7 @@ returns-clause-fits g c =
 pub returns-then-not-has_edges-clause-others : goal.returns-then-not-has_edges-clause-others
 returns-then-not-has_edges-clause-others g c = λ over.
     let S = c.args.self.now in
-    let all = has_old_edges (g.A.PathAlgebra.meaning S.algebra) (g.A.ComposingAlgebra.walks S.algebra) S.roads S.factor c.holds.ensures.factor
-    c.holds.ensures.aligned c.args.graph.now over in
+    let all = has_old_edges S.roads S.factor S.heads c.holds.ensures.outline c.args.graph.now over in
     let yes : IsTrue c.has_edges.result = c.has_edges.ensures.1 all in
     let no = c.if-not-has_edges.true in
     absurd (cc)

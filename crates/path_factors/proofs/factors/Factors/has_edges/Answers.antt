@@ -1,5 +1,5 @@
 use Rattle.std.specs.Prelude.{IsTrue, false}
-use Rattle.path_factors.specs.Heads.{IsHead, heads_in}
+use Rattle.path_factors.specs.Heads.{IsHead}
 use Rattle.path_factors.proofs.Joining.{joined_more}
 use Rattle.path_factors.proofs.factors.Factors.has_edges.Goals as goal
 
@@ -15,4 +15,4 @@ returns-then-not-has_edges_from g c = (
 pub loop-i-preserved : goal.loop-i-preserved
 loop-i-preserved g c =
     let F = c.args.self.now.factor in
-    joined_more (IsHead (heads_in F.leaving)) F.places c.args.graph.now c.loop-i.i c.loop-i.invariant (c.has_edges_from.ensures.0 c.if-not-has_edges_from.false)
+    joined_more (IsHead c.args.self.now.heads) F.places c.args.graph.now c.loop-i.i c.loop-i.invariant (c.has_edges_from.ensures.0 c.if-not-has_edges_from.false)

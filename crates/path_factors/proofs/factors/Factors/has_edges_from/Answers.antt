@@ -2,7 +2,7 @@ use Rattle.std.proofs.Common.{◌≡◌, ℕ, refl, arith, sym, subst}
 use Rattle.std.specs.Prelude.{IsTrue, false}
 use Rattle.road_graph.specs.GraphData.{HasArc, arc_of}
 use Rattle.path_factors.specs.Factors.{place_of}
-use Rattle.path_factors.specs.Heads.{IsHead, IsJoined, heads_in}
+use Rattle.path_factors.specs.Heads.{IsHead, IsJoined}
 use Rattle.path_factors.proofs.Joining.{roads_more, roads_all, road_joined}
 use Rattle.path_factors.proofs.Loading.{road_inside}
 use Rattle.path_factors.proofs.factors.Factors.has_edges_from.Goals as goal
@@ -18,7 +18,7 @@ returns-then-not-is_joined g c = (
   λ (never : IsTrue false). absurd (cc),
   λ all.
       let F = c.args.self.now.factor in
-      let Has : ℕ → ℕ → Type 0 = IsHead (heads_in F.leaving) in
+      let Has : ℕ → ℕ → Type 0 = IsHead c.args.self.now.heads in
       let joined = road_joined Has F.places c.args.graph.now c.args.tail c.roads_from-road-items.result.now c.roads_from-road-items.ensures all
       c.loop-road.road-index c.road-item.result c.loop-road-test.true c.road-item.is in
       let here = subst (λ (p : ℕ). IsJoined Has p (place_of F c.road-item.result.head)) (sym c.place-from.ensures.place) joined in
@@ -31,7 +31,7 @@ returns-then-not-is_joined g c = (
 pub loop-road-preserved : goal.loop-road-preserved
 loop-road-preserved g c =
     let F = c.args.self.now.factor in
-    let Has : ℕ → ℕ → Type 0 = IsHead (heads_in F.leaving) in
+    let Has : ℕ → ℕ → Type 0 = IsHead c.args.self.now.heads in
     let both = c.is_joined.ensures.0 c.if-not-is_joined.false in
     let here = subst (λ (p : ℕ). IsJoined Has c.place-from.result p) c.place-to.ensures.place both in
     let joined = subst (λ (p : ℕ). IsJoined Has p (place_of F c.road-item.result.head)) c.place-from.ensures.place here in
@@ -41,7 +41,7 @@ loop-road-preserved g c =
 pub returns : goal.returns
 returns g c =
     let F = c.args.self.now.factor in
-    let Has : ℕ → ℕ → Type 0 = IsHead (heads_in F.leaving) in
+    let Has : ℕ → ℕ → Type 0 = IsHead c.args.self.now.heads in
     let all : (a : ℕ) → HasArc c.args.graph.now a → (arc_of c.args.graph.now a).tail ≡ c.args.tail →
     IsJoined Has (place_of F (arc_of c.args.graph.now a).tail) (place_of F (arc_of c.args.graph.now a).head) =
     roads_all Has F.places c.args.graph.now c.args.tail c.roads_from-road-items.result.now c.roads_from-road-items.ensures

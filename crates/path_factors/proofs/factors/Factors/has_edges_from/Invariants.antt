@@ -1,6 +1,6 @@
-use Rattle.path_factors.specs.Heads.{IsHead, heads_in}
+use Rattle.path_factors.specs.Heads.{IsHead}
 use Rattle.path_factors.proofs.Joining.{AreRoadsJoined}
 use Rattle.path_factors.proofs.factors.Factors.has_edges_from.Given as goal
 
 abbrev pub invariant-loop-road : goal.invariant-loop-road
-invariant-loop-road g l = AreRoadsJoined (IsHead (heads_in l.self.factor.leaving)) l.self.factor.places l.fn.tail l.road-items l.road-index
+invariant-loop-road g l = AreRoadsJoined (IsHead l.self.heads) l.self.factor.places l.fn.tail l.road-items l.road-index

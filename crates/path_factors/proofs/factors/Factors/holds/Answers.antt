@@ -1,9 +1,9 @@
 use Rattle.std.proofs.Common.{subst}
 use Rattle.road_graph.specs.GraphData.{IsGraph}
 use Rattle.path_factors.specs.Factors.{IsFactor}
-use Rattle.path_factors.specs.Edges.{AreAligned}
+use Rattle.path_factors.specs.Heads.{IsOutline}
 use Rattle.path_factors.specs.State.{FactorState}
-use Rattle.path_factors.proofs.HeadRows.{aligned_of_heads}
+use Rattle.path_factors.specs.Tree.{AreAtHeads}
 use Rattle.path_factors.proofs.factors.Factors.holds.Goals as goal
 
 pub returns-clause-factor : goal.returns-clause-factor
@@ -15,7 +15,10 @@ pub returns-clause-roads : goal.returns-clause-roads
 returns-clause-roads g c =
     subst (λ (s : FactorState g.row.A.Denot g.row.A-Walk.Denot). IsGraph s.roads) c.self.view_is c.self.invariant.roads
 
-pub returns-clause-aligned : goal.returns-clause-aligned
-returns-clause-aligned g c =
-    subst (λ (s : FactorState g.row.A.Denot g.row.A-Walk.Denot). AreAligned s.factor.leaving s.factor.entering) c.self.view_is
-    (aligned_of_heads c.self.inside.rows.leaving c.self.inside.rows.entering c.len.ensures.heads)
+pub returns-clause-outline : goal.returns-clause-outline
+returns-clause-outline g c =
+    subst (λ (s : FactorState g.row.A.Denot g.row.A-Walk.Denot). IsOutline s.roads s.factor.places s.heads) c.self.view_is c.self.invariant.outline
+
+pub returns-clause-at_heads : goal.returns-clause-at_heads
+returns-clause-at_heads g c =
+    subst (λ (s : FactorState g.row.A.Denot g.row.A-Walk.Denot). AreAtHeads s.heads s.factor) c.self.view_is c.self.invariant.at_heads

@@ -7,12 +7,11 @@ use Rattle.path_factors.proofs.factors.Factors.list_unknown.Goals as goal
 pub loop-v-init : goal.loop-v-init
 loop-v-init g c = record {
   inside = omega (arith, c.requires.place);
-  listed = ([], sym (append-nil c.args.asked.now.items), unknown_none c.args.self.now.factor.leaving c.args.self.now.roads.vertices c.args.known.now c.args.t);
+  listed = ([], sym (append-nil c.args.asked.now.items), unknown_none c.args.self.now.heads c.args.self.now.roads.vertices c.args.known.now c.args.t);
 }
 
 pub loop-v-preserved : goal.loop-v-preserved
 loop-v-preserved g c =
-    let F = c.args.self.now.factor in
     let n = c.args.self.now.roads.vertices in
     let asked = c.args.asked.now.items in
     let v = c.loop-v.v in
@@ -24,5 +23,5 @@ loop-v-preserved g c =
     let more = put ∙ ap (λ (l : List ℕ). l ++ v ∷ []) done.1 ∙ append_assoc asked done.0 (v ∷ []) in
     record {
       inside = c.parent-v.ensures.inside;
-      listed = (done.0 ++ v ∷ [], more, unknown_more F.leaving n c.args.known.now c.args.t done.0 v p done.2 low off c.parent-v.ensures.parent);
+      listed = (done.0 ++ v ∷ [], more, unknown_more c.args.self.now.heads n c.args.known.now c.args.t done.0 v p done.2 low off c.parent-v.ensures.parent);
     }

@@ -1,6 +1,6 @@
 use Rattle.std.proofs.Common.{◌≡◌, ◌∙◌, List, ℕ, sym, subst}
 use Rattle.path_factors.specs.Edges.{AreBlank}
-use Rattle.path_factors.specs.Heads.{AreHeads, IsOutline, heads_in}
+use Rattle.path_factors.specs.Heads.{AreHeads, IsOutline}
 use Rattle.path_factors.specs.Reweighing.{HasEdges}
 use Rattle.path_factors.specs.State.{FactorState}
 use Rattle.path_factors.proofs.factors.Factors.reweighed.Goals as goal
@@ -12,12 +12,12 @@ weigh-requires-clause-outline g c κs within =
     let fits = c.in_default.ensures.fits in
     let n : s.graph.value.vertices ≡ G.vertices = (λ i. (c.self.view_is i).roads.vertices) ∙ sym fits.vertices in
     let places : c.in_ok-places.places.items ≡ s.places.items = c.in_ok-places.ensures.items_if_clones_equal (λ x y is. is) ∙ c.deref.ensures.value in
-    let outline : IsOutline G s.places.items (heads_in s.rows.leaving) = record {
-      are = subst (λ k. AreHeads k (heads_in s.rows.leaving)) n c.self.invariant.heads;
-      joined = subst (λ (f : FactorState g.row.A.Denot g.row.A-Walk.Denot). HasEdges G f.factor) (sym c.self.view_is) fits.arcs;
+    let outline : IsOutline G s.places.items s.heads = record {
+      are = subst (λ k. AreHeads k s.heads) n c.self.invariant.outline.are;
+      joined = subst (λ (f : FactorState g.row.A.Denot g.row.A-Walk.Denot). HasEdges G f.factor.places f.heads) (sym c.self.view_is) fits.arcs;
     } in
-    subst (λ (h : List (List ℕ)). IsOutline G c.in_ok-places.places.items h) (sym c.in_ok-rows.ensures.heads)
-    (subst (λ (p : List ℕ). IsOutline G p (heads_in s.rows.leaving)) (sym places) outline)
+    subst (λ (h : List (List ℕ)). IsOutline G c.in_ok-places.places.items h) (sym (c.in_ok-rows.ensures.leaving ∙ c.in_ok-heads.ensures))
+    (subst (λ (p : List ℕ). IsOutline G p s.heads) (sym places) outline)
 
 pub weigh-requires-clause-risers : goal.weigh-requires-clause-risers
 weigh-requires-clause-risers g c κs within =

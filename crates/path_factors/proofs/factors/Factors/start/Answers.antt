@@ -9,7 +9,7 @@ use Rattle.path_factors.proofs.factors.Factors.start.Goals as goal
 
 pub returns-clause-up : goal.returns-clause-up
 returns-clause-up g c =
-    subst (λ (s : ℕ). AreOnlyUp c.args.self.now.factor.leaving c.args.self.now.roads.vertices s c.climb.new.labels) c.place-s.ensures.place c.climb.ensures.up
+    subst (λ (s : ℕ). AreOnlyUp c.args.self.now.heads c.args.self.now.roads.vertices s c.climb.new.labels) c.place-s.ensures.place c.climb.ensures.up
 
 pub climb-requires-clause-alone : goal.climb-requires-clause-alone
 climb-requires-clause-alone g c κs within = λ j other.

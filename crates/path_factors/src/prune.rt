@@ -1,0 +1,168 @@
+//! Edges are left out that others do for.
+ghost use Rattle.std.specs.Prelude.{◌≡◌, ◌<◌, IfOk, IsTrue, OnOk, length, slice_index, true};
+ghost use Rattle.path_factors.specs.Factors.{CoversArcs, Leads, row_of};
+ghost use Rattle.path_factors.specs.Eliminating.{AreClosedTo};
+ghost use Rattle.path_factors.specs.Heads.{heads_in};
+ghost use Rattle.path_factors.specs.Pruning.{AreThinTo, DoForAll, IsBypassed};
+
+use crate::edge::Edge;
+use crate::factors::Factors;
+use crate::packed::PackedRows;
+use crate::weighing::Weighing;
+use path_algebra::{ComposingAlgebra, laws_hold};
+use road_graph::Memory;
+use std::alloc::Global;
+use std::snapshot::Snapshot;
+
+/// Whether another edge of a place is marked and the ways over its end are no worse than an edge,
+/// both ways; `end` is the edge from there to the end of the edge.
+fn is_bypassed<A: ComposingAlgebra>(
+    algebra: A,
+    edge: Edge<A::Walk>,
+    over: Edge<A::Walk>,
+    end: Edge<A::Walk>,
+    is_marked: bool,
+) -> bool
+    ensures marked { IsTrue result → is_marked ≡ true }
+    ensures bypassed { IsTrue result → IsBypassed (A.walks algebra) edge over end }
+{
+    is_marked
+        && algebra.no_worse_walk(algebra.compose(over.leaving, end.leaving), edge.leaving)
+        && algebra.no_worse_walk(algebra.compose(end.entering, over.entering), edge.entering)
+}
+
+impl<'g, A: ComposingAlgebra> Weighing<'g, A> {
+    /// Unmarks an edge of a place if the way over another that is marked bypasses it; `end` is the
+    /// edge from the end of the other to its own.
+    fn unmark(&self, marks: &mut [bool], v: usize, i: usize, j: usize, end: Edge<A::Walk>)
+        requires place { v < self.now.roads.vertices }
+        requires edge { i < length (row_of self.now.factor.leaving v) }
+        requires over { j < length (row_of self.now.factor.leaving v) }
+        requires apart { j ≡ i → ⊥ }
+        requires marks { length marks.old ≡ length (row_of self.now.factor.leaving v) }
+        requires there { Leads self.now.factor
+            (slice_index (row_of (heads_in self.now.factor.leaving) v) j)
+            (slice_index (row_of (heads_in self.now.factor.leaving) v) i) end.leaving }
+        requires back { Leads self.now.factor
+            (slice_index (row_of (heads_in self.now.factor.leaving) v) i)
+            (slice_index (row_of (heads_in self.now.factor.leaving) v) j) end.entering }
+        requires serve { DoForAll (A.meaning self.now.algebra) (A.walks self.now.algebra)
+            self.now.factor v marks.old }
+        ensures marks { length marks.new ≡ length marks.old }
+        ensures serve { DoForAll (A.meaning self.now.algebra) (A.walks self.now.algebra)
+            self.now.factor v marks.new }
+    {
+        self.holds();
+        laws_hold(self.algebra);
+        let edge = self.edge(v, i);
+        let over = self.edge(v, j);
+        if !is_bypassed(self.algebra, edge, over, end, marks[j]) {
+            return;
+        }
+        marks[i] = false;
+    }
+
+    /// Does so for each of two edges; `q` is the index of the edge between their ends.
+    fn choose(&self, marks: &mut [bool], v: usize, i: usize, j: usize, q: usize)
+        requires place { v < self.now.roads.vertices }
+        requires after { i < j }
+        requires edge { j < length (row_of self.now.factor.leaving v) }
+        requires marks { length marks.old ≡ length (row_of self.now.factor.leaving v) }
+        requires index { q < length (row_of (heads_in self.now.factor.leaving)
+            (slice_index (row_of (heads_in self.now.factor.leaving) v) i)) }
+        requires head { slice_index (row_of (heads_in self.now.factor.leaving)
+            (slice_index (row_of (heads_in self.now.factor.leaving) v) i)) q
+            ≡ slice_index (row_of (heads_in self.now.factor.leaving) v) j }
+        requires serve { DoForAll (A.meaning self.now.algebra) (A.walks self.now.algebra)
+            self.now.factor v marks.old }
+        ensures marks { length marks.new ≡ length marks.old }
+        ensures serve { DoForAll (A.meaning self.now.algebra) (A.walks self.now.algebra)
+            self.now.factor v marks.new }
+    {
+        self.holds();
+        let first = self.edge(v, i);
+        let end = self.edge(first.place as usize, q);
+        let turned = Edge {
+            place: first.place,
+            leaving: end.entering,
+            entering: end.leaving,
+        };
+        self.unmark(marks, v, i, j, turned);
+        self.unmark(marks, v, j, i, end);
+    }
+
+    /// Does so for an edge of a place and each one after it.
+    fn choose_after(&self, marks: &mut [bool], v: usize, i: usize)
+        requires place { v < self.now.roads.vertices }
+        requires edge { i < length (row_of self.now.factor.leaving v) }
+        requires marks { length marks.old ≡ length (row_of self.now.factor.leaving v) }
+        requires serve { DoForAll (A.meaning self.now.algebra) (A.walks self.now.algebra)
+            self.now.factor v marks.old }
+        ensures marks { length marks.new ≡ length marks.old }
+        ensures serve { DoForAll (A.meaning self.now.algebra) (A.walks self.now.algebra)
+            self.now.factor v marks.new }
+    {
+        let mut q = 0;
+        for j in i + 1..marks.len() {
+            q = self.between(v, i, j, q);
+            self.choose(marks, v, i, j, q);
+            q += 1;
+        }
+    }
+
+    /// Marks edges of a place that do for all.
+    fn mark(&self, marks: &mut Vec<bool>, v: usize) -> Result<(), Memory>
+        requires { v < self.now.roads.vertices }
+        ensures marks { OnOk result
+            (length marks.new.items ≡ length (row_of self.now.factor.leaving v)) }
+        ensures serve { OnOk result (DoForAll (A.meaning self.now.algebra)
+            (A.walks self.now.algebra) self.now.factor v marks.new.items) }
+    {
+        let count = self.count(v);
+        marks.clear();
+        marks.resize(count, true)?;
+        for i in 0..count {
+            self.choose_after(marks, v, i);
+        }
+        Ok(())
+    }
+
+    /// The marked edges of all places.
+    fn thinned(&self, alloc: Global) -> Result<PackedRows<A::Walk>, Memory>
+        ensures { IfOk result (λ rows. AreThinTo (A.meaning self.now.algebra)
+            (A.walks self.now.algebra) self.now.factor self.now.roads.vertices rows) }
+    {
+        self.holds();
+        laws_hold(self.algebra);
+        let n = self.graph.vertices() as usize;
+        let mut marks: Vec<bool> = Vec::new(alloc);
+        let mut rows = PackedRows::new(alloc, n, self.rows.edges())?;
+        for v in 0..n {
+            self.mark(&mut marks, v)?;
+            rows = rows.push_marked(&self.rows, v, &marks)?;
+        }
+        Ok(rows)
+    }
+
+    /// The factor without the edges that others do for, once each arc has a walk at its link and
+    /// each place is eliminated.
+    pub(crate) fn prune(self, alloc: Global) -> Result<Factors<A>, Memory>
+        requires covers { CoversArcs (A.walks self.algebra) self.roads self.factor }
+        requires closed { AreClosedTo (A.walks self.algebra) self.factor self.roads.vertices }
+        ensures algebra { IfOk result (λ f. f.algebra ≡ self.entry.algebra) }
+        ensures roads { IfOk result (λ f. f.roads ≡ self.entry.roads) }
+        ensures order { IfOk result (λ f. f.factor.order ≡ self.entry.factor.order) }
+    {
+        self.holds();
+        laws_hold(self.algebra);
+        let rows = self.thinned(alloc)?;
+        Ok(Factors {
+            algebra: self.algebra,
+            graph: Snapshot::of(self.graph),
+            order: self.order,
+            places: self.places,
+            heads: self.rows.into_heads(),
+            rows,
+        })
+    }
+}

@@ -12,6 +12,7 @@ pub mod OneShard
 mod Together
 mod SourcesToCome
 mod NextDiffusions
+mod MeanWeight
 mod Moved
 mod Reporting
 mod WrittenReports

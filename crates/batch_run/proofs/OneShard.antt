@@ -41,6 +41,7 @@ module _ {S V : Type 0} (meaning : S → Algebra V) (algebra : S) (how : Setting
     few = s.few;
     setup = s.setup;
     each = λ q low. subst (λ n. IsBrief algebra n (s.setup q)) (enough q low) (brief g (s.setup q) (s.each q low));
+    ahead = s.ahead;
     floors = s.floors;
     floors_are = s.floors_are;
     diffusions = s.diffusions;
@@ -65,7 +66,7 @@ module _ {S V : Type 0} (meaning : S → Algebra V) (algebra : S) (how : Setting
   not_stalled (Ok u) stopped = tt
   not_stalled (Err f) stopped = λ e. (let read = stopped.stalled e in elim read.stops [
     | inl memory ↦ cc
-    | inr group ↦ group_goes_on read.graph read.asked read.read group
+    | inr group ↦ group_goes_on read.graph read.asked read.read group.0
   ])
 
 -- so many turns are enough for every graph

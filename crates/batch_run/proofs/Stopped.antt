@@ -15,7 +15,7 @@ use Rattle.batch_run.proofs.CauseCases.{gated_by_number, may_stop_weaker, stalle
 pub says_of : {S V : Type 0} (meaning : S → Algebra V) (algebra : S) (g : GraphData) (how : Settings) (answers : ℕ → ℕ → Bool → Type 0) (fault : GroupFault)
     → Stops meaning algebra g how answers fault → Says answers how.workers how.turns fault
 says_of meaning algebra g how answers fault (inl memory) = subst (λ (f : GroupFault). Says answers how.workers how.turns f) (sym memory) tt
-says_of meaning algebra g how answers fault (inr stop) = StopsGroup-says meaning (IsDiffusionOf algebra g how) how.dealing how.workers how.width how.budget how.turns answers fault stop
+says_of meaning algebra g how answers fault (inr (stop, held)) = StopsGroup-says meaning (IsDiffusionOf algebra g how) how.dealing how.workers how.width how.budget how.turns answers fault stop
 
 module _ {S V : Type 0} (meaning : S → Algebra V) (algebra : S) (g : GraphData) (how : Settings) (answers : ℕ → ℕ → Bool → Type 0) (plain : Bool) (cause : Cause)
     (may : MayStop plain (Stops meaning algebra g how answers) cause) where

@@ -1,5 +1,5 @@
 -- Floors and stations of diffusions side by side: as they are opened, and when they have been run.
-use Rattle.std.proofs.Common.{zero, suc, ◌≡◌, ◌≢◌, ℕ, ◌<◌, ◌≤◌, ◌+◌, List, [], ◌∷◌, ◌++◌, length, get_or, map, subst, arith, inl, inr, Vec}
+use Rattle.std.proofs.Common.{zero, suc, ◌≡◌, ◌≢◌, ℕ, ◌<◌, ◌≤◌, ◌+◌, List, [], ◌∷◌, ◌++◌, length, get_or, map, refl, subst, arith, inl, inr, Option, Some, Vec}
 use Rattle.std.specs.List.{All}
 use Rattle.std.proofs.lemmas.Bool.{cases_lt}
 use Rattle.std.proofs.lemmas.List.Elements.{All-head, All-tail}
@@ -61,12 +61,22 @@ opened_shard A t f m first (suc n) k low high = elim (cases_lt first k) as (λ _
   | inr here ↦ inl (omega arith)
 ]
 
-pub shards_opened : {S V : Type 0} (meaning : S → Algebra V) (t : SetupData S) (f : FloorData S) (stations : List (StationData S V)) → AreOpened meaning t f stations → (k : ℕ) →
+pub shards_opened : {S V : Type 0} (meaning : S → Algebra V) (t : SetupData S) (f : FloorData S) (stations : List (StationData S V)) {ahead : Option ℕ} → AreOpened meaning t ahead f stations → (k : ℕ) →
     k < t.plan.shards → HasShard k stations
 shards_opened meaning t f stations o k low = rw o.stations_are (opened_shard (meaning t.diffusion.algebra) t f t.plan.shards 0 t.plan.shards k (omega arith) (omega arith))
 
-module _ {S V W : Type 0} (meaning : S → Algebra V) (setup : ℕ → SetupData S) (floors : List (FloorData S)) (questions : List (Vec (StationData S V) W)) (n : ℕ) (same : length floors ≡ n)
-    (opened : (q : ℕ) (f : FloorData S) (v : Vec (StationData S V) W) → q < n → AreOpened meaning (setup q) (get_or floors q f) (get_or questions q v).items) where
+-- the same, once shards may run ahead by a weight
+pub opened_held : {S V : Type 0} {meaning : S → Algebra V} {t : SetupData S} {was : Option ℕ} {f : FloorData S} {stations : List (StationData S V)} → AreOpened meaning t was f stations → (weight : ℕ)
+    → AreOpened meaning t (Some weight) (record f { ahead = Some weight }) stations
+opened_held o weight = record {
+  setup = o.setup;
+  ahead_is = refl;
+  stations_are = o.stations_are;
+  own = λ k s below. let own = o.own k s below in record { floor = own.floor; setup = own.setup };
+}
+
+module _ {S V W : Type 0} (meaning : S → Algebra V) (setup : ℕ → SetupData S) {ahead : Option ℕ} (floors : List (FloorData S)) (questions : List (Vec (StationData S V) W)) (n : ℕ) (same : length floors ≡ n)
+    (opened : (q : ℕ) (f : FloorData S) (v : Vec (StationData S V) W) → q < n → AreOpened meaning (setup q) ahead (get_or floors q f) (get_or questions q v).items) where
   -- each station is beside its floor
   pub opened_placed : (q : ℕ) (v : Vec (StationData S V) W) → q < n → All (λ s. IsOnItsFloor floors (q, s)) (get_or questions q v).items
   opened_placed q v low = λ k s below.

@@ -1,6 +1,6 @@
--- How a batch cuts a graph into shards, and in which order the parts of its diffusions take their
--- items.
-use Rattle.std.specs.Prelude.{cond}
+-- How a batch cuts a graph into shards, in which order the parts of its diffusions take their items,
+-- and how far a shard may run ahead.
+use Rattle.std.specs.Prelude.{ℕ, ◌/◌, cond, Option, None, Some, length, sum_by, unwrap_or}
 use Rattle.road_graph.specs.GraphData.{GraphData}
 use Rattle.shard_store.specs.Plans.{PlanData, IsBlocks}
 use Rattle.shard_store.specs.declared.queue_order.QueueOrder.{QueueOrder}
@@ -14,3 +14,12 @@ IsCut how roads plan = IsBlocks roads.vertices how.shards plan
 -- the order that they choose
 abbrev pub order_of : Settings → QueueOrder
 order_of how = cond how.best_first BestFirst Arrival
+
+-- the mean weight of the arcs of a graph; 0 if it has none
+abbrev pub mean_weight : GraphData → ℕ
+mean_weight g = sum_by (λ a. a.weight) g.arcs / length g.arcs
+
+-- by what weight a shard may run ahead: best first the one that was chosen, or else a fifth of the
+-- mean weight; in order of arrival none is held back
+abbrev pub ahead_of : Settings → GraphData → Option ℕ
+ahead_of how g = cond how.best_first (Some (unwrap_or how.ahead (mean_weight g / 5))) None

@@ -11,7 +11,7 @@ use Rattle.worker_fleet.specs.declared.group.GroupFault.TheVariants.{Memory, Sta
 use Rattle.worker_fleet.specs.Stops.{StopsGroup}
 use Rattle.batch_inputs.specs.declared.faults.RunFault.{RunFault}
 use Rattle.batch_settings.specs.declared.settings.Settings.{Settings}
-use Rattle.batch_run.specs.Cut.{IsCut, order_of}
+use Rattle.batch_run.specs.Cut.{IsCut, order_of, ahead_of}
 pub use Rattle.worker_fleet.specs.Stops.{Stalls, Closes}
 
 -- the setup of a diffusion of a batch: over its graph, from a vertex of it, in the shards and the
@@ -26,10 +26,12 @@ pub record IsDiffusionOf {S : Type 0} (algebra : S) (g : GraphData) (how : Setti
   pub setup_is : t ≡ setup_of algebra g source plan (order_of how)
 
 -- this fault stops a batch: memory or a thread was refused; or diffusions of it, at most its width,
--- were opened together, dealt to its workers by its rule and driven by them, by its budget and its
--- limit, and the least numbered worker that stopped before the end did so by this fault
+-- were opened together, their shards held back as its settings say, dealt to its workers by its rule
+-- and driven by them, by its budget and its limit, and the least numbered worker that stopped before
+-- the end did so by this fault
 abbrev pub Stops : {S V : Type 0} → (S → Algebra V) → S → GraphData → Settings → (ℕ → ℕ → Bool → Type 0) → GroupFault → Type 0
-Stops meaning algebra g how answers fault = (fault ≡ Memory) ⊎ StopsGroup meaning (IsDiffusionOf algebra g how) how.dealing how.workers how.width how.budget how.turns answers fault
+Stops meaning algebra g how answers fault = (fault ≡ Memory) ⊎
+    ((group : StopsGroup meaning (IsDiffusionOf algebra g how) how.dealing how.workers how.width how.budget how.turns answers fault) × (group.ahead ≡ ahead_of how g))
 
 -- it stops a batch over a graph that was read
 pub record StopsRead {S V : Type 0} (meaning : S → Algebra V) (algebra : S) (how : Settings) (answers : ℕ → ℕ → Bool → Type 0) (IsRead : GraphData → Asked → Type 0) (fault : GroupFault) : Type 0 where

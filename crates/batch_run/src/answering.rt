@@ -68,7 +68,9 @@ fn seek<A: PathAlgebra, R, T>(
 {
     match solver {
         Solver::Plain(_) | Solver::Workers(_) => Ok(None),
-        Solver::Factors(solver) => seek_order(batch.run.alloc, batch.algebra, solver),
+        Solver::Factors(solver) => {
+            seek_order(batch.run.alloc, batch.algebra, batch.questions, solver)
+        }
     }
 }
 

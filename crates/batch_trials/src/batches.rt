@@ -16,7 +16,7 @@ use std::thread::Threads;
 use text_lines::Plain;
 
 /// One worker, one shard, one item a turn.
-const SLOW: Settings = Settings {
+pub const SLOW: Settings = Settings {
     workers: 1,
     shards: 1,
     width: 1,
@@ -30,7 +30,7 @@ const SLOW: Settings = Settings {
 };
 
 /// Asserts with which fault a bundle ends at a gate, 0 for none, and what it has written.
-fn assert_ends<A: PathAlgebra, T: Gate>(
+pub fn assert_ends<A: PathAlgebra, T: Gate>(
     rt: &(impl Abort + AllocGlobal + Threads + Wait + Sync),
     algebra: A,
     text: &[&str],
@@ -133,24 +133,34 @@ fn the_least_worker_that_stopped(rt: HostRuntime) {
     }
 }
 
-/// With one item a turn a question takes as many turns as messages and signals: 18 from 1, 20 from 5,
-/// 6 from 2 and 4 from 4. Those of a group of diffusions are made by one worker in one go.
-#[test]
-fn gates_are_asked_once_a_turn(rt: HostRuntime) {
-    for &(questions, answers, width, asked, turn) in &[
-        (THRICE, ALL_OF_THREE, 1, 54, 18),
-        (THRICE, ALL_OF_THREE, 2, 54, 36),
-        (PAIRS, ROUTES, 1, 56, 20),
-        (PAIRS, ROUTES, 2, 56, 36),
-        (PAIRS, ROUTES, 3, 56, 56),
-        (SEVERAL, NEAREST, 1, 50, 20),
-        (SEVERAL, NEAREST, 2, 50, 26),
-        (SEVERAL, NEAREST, 4, 50, 50),
-    ] {
+/// Asserts for questions over `FIVE`, one item a turn, how often the gate is asked in groups of this
+/// width, and its greatest turn. Those of a group of diffusions are made by one worker in one go.
+pub fn assert_asked(
+    rt: &(impl Abort + AllocGlobal + Threads + Wait + Sync),
+    rows: &[(&str, &str, u64, u64, u64)],
+) {
+    for &(questions, answers, width, asked, turn) in rows {
         let settings = Settings { width, ..SLOW };
-        let seen = counted(&rt, questions, settings, Closed::Never, (0, answers));
+        let seen = counted(rt, questions, settings, Closed::Never, (0, answers));
         assert_eq!(rt; (seen.asked, seen.turn), (asked, turn));
     }
+}
+
+/// A question takes as many turns as messages and signals: 18 from 1, 20 from 5, 6 from 2 and 4 from
+/// 4.
+#[test]
+fn gates_are_asked_once_a_turn(rt: HostRuntime) {
+    assert_asked(
+        &rt,
+        &[
+            (PAIRS, ROUTES, 1, 56, 20),
+            (PAIRS, ROUTES, 2, 56, 36),
+            (PAIRS, ROUTES, 3, 56, 56),
+            (SEVERAL, NEAREST, 1, 50, 20),
+            (SEVERAL, NEAREST, 2, 50, 26),
+            (SEVERAL, NEAREST, 4, 50, 50),
+        ],
+    );
 }
 
 #[test]

@@ -13,6 +13,27 @@ pub const HEADER: &str = "p ans ss 1 shortest\n";
 pub const SHORTEST: &str =
     "p ans ss 1 shortest\ns 1\nd 1 0 0 0\nd 2 3 2 3\nd 3 1 1 1\nd 4 8 3 2\nu 5\n";
 
+/// What `FROM_ONE` over `FIVE` is answered under the greatest width.
+pub const FIVE_WIDEST: &str =
+    "p ans ss 1 widest\ns 1\nd 1 4294967296 0 0\nd 2 4 1 1\nd 3 1 1 1\nd 4 4 2 2\nu 5\n";
+
+/// What `FROM_ONE` over `FIVE` is answered under reachability.
+pub const FIVE_REACH: &str =
+    "p ans ss 1 reach\ns 1\nd 1 0 0 0\nd 2 0 1 1\nd 3 0 1 1\nd 4 0 2 2\nu 5\n";
+
+/// Three vertices, with a cycle of weight 0.
+pub const CYCLE: &str = "p sp 3 4\na 1 2 0\na 2 3 0\na 3 2 0\na 1 3 0\n";
+
+/// What `FROM_ONE` over `CYCLE` is answered under the least sum of weights.
+pub const CYCLE_SHORTEST: &str = "p ans ss 1 shortest\ns 1\nd 1 0 0 0\nd 2 0 1 1\nd 3 0 1 1\n";
+
+/// A wide walk to 4, and an arc to 4 that is not as wide.
+pub const WALK: &str = "p sp 5 5\na 1 2 5\na 2 3 5\na 3 4 5\na 1 4 4\na 4 5 3\n";
+
+/// What `FROM_ONE` over `WALK` is answered under the greatest width.
+pub const WALK_WIDEST: &str =
+    "p ans ss 1 widest\ns 1\nd 1 4294967296 0 0\nd 2 5 1 1\nd 3 5 2 2\nd 4 5 3 3\nd 5 3 4 4\n";
+
 /// Three questions, all from the first vertex.
 pub const THRICE: &str = "p aux sp ss 3\ns 1\ns 1\ns 1\n";
 

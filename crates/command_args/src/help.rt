@@ -20,12 +20,16 @@ macro_rules! with_statuses {
 }
 
 /// The version of the program, and the line of the toolchain that proves it.
-pub const VERSION: &str = "1.1.0 (rattle-kit-13)";
+pub const VERSION: &str = "1.2.0 (rattle-kit-13)";
 
 /// What the program is for.
 pub const PURPOSE: &str = concat!(
-    "Answers path questions over road graphs: best values, hops and routes. If a\n",
-    "command ends with status 0, what it wrote is right; this is proved",
+    "Answers path questions over road graphs: best values, hops and routes.\n",
+    "For answers give `--plain` (few questions) or `--factors` (many pairs over\n",
+    "one network). Without either the diffusing computation runs, which takes\n",
+    "many times as long for the same bytes. If a command ends with status 0,\n",
+    "what it wrote is right; this is proved of inputs and outputs that reveal\n",
+    "their bytes to the contracts, and files and pipes run the same code",
 );
 
 /// The algebras, and what each calls best.
@@ -91,8 +95,9 @@ pub const PLAIN: &str = concat!(
 
 /// The solver by factors of the graph.
 pub const FACTORS: &str = concat!(
-    "Factor the graph once, then answer each question by substitution, but\n",
-    "a pair that a search of some hundred steps decides by that search.\n",
+    "Factor the graph once, then answer each question by substitution;\n",
+    "only near pairs, which a search of at most 500 steps decides, need\n",
+    "a search.\n",
     "Best for many questions over one road graph, under shortest, within\n",
     "or hops. Not with `--plain`. A graph that is too dense to factor, or\n",
     "whose sums could exceed 2^63, is answered as with `--plain`.",
@@ -238,9 +243,9 @@ pub const VERDICTS: &str = with_statuses!(
 
 /// What an order is.
 pub const PLACES: &str = concat!(
-    "Line V of the order is the place of vertex V, from 0. It is by approximate\n",
-    "minimum degree, the one that `--factors` finds by itself: write it once, and\n",
-    "give it with `--order` to all later runs.",
+    "Line V of the order is the place of vertex V, from 0. It is found by nested\n",
+    "dissection, with the care that `--factors` takes for many pairs: write it\n",
+    "once, and give it with `--order` to all later runs.",
 );
 
 /// What the exit statuses mean.

@@ -45,7 +45,7 @@ pub use tables::diffuse_graph_table;
 /// The library's version: 10,000 times the first number, 100 times the second, and the third.
 #[unsafe(no_mangle)]
 pub extern "C" fn diffuse_version() -> u32
-    ensures { result ≡ 10100 }
+    ensures { result ≡ 10200 }
 {
-    10_100
+    10_200
 }

@@ -72,19 +72,29 @@ fn in_two(rt: &impl Abort, table: Vec<u8>) -> Result<Plan, (PlanFault, Vec<u8>)>
     Plan::table(2, table)
 }
 
-#[test]
-fn refusals_hand_back(rt: HostRuntime) {
-    let table = vec![in rt.alloc(); 0u8, 1, 2].expect(&rt, "memory");
-    let Err((fault, mut table)) = in_two(&rt, table) else {
+/// Asserts that a table with a shard too many comes back, and without it gives a plan.
+pub fn assert_table_comes_back(rt: &(impl Abort + AllocGlobal)) {
+    let table = vec![in rt.alloc(); 0u8, 1, 2].expect(rt, "memory");
+    let Err((fault, mut table)) = in_two(rt, table) else {
         panic!(rt; "taken")
     };
     assert!(rt; fault == PlanFault::BadShard(Vertex(3)));
     assert!(rt; table.len() == 3);
     assert!(rt; table.pop() == Some(2));
-    let Ok(plan) = in_two(&rt, table) else {
+    let Ok(plan) = in_two(rt, table) else {
         panic!(rt; "refused")
     };
-    assert_shards(&rt, &plan, &[0, 1]);
+    assert_shards(rt, &plan, &[0, 1]);
+}
+
+#[test]
+fn counter_stops_at_its_top(rt: HostRuntime) {
+    let mut tally = Tally::new();
+    let top = u64::MAX;
+    for &(more, sent, full) in &[(top - 1, top - 1, false), (1, top, true), (1, top, true)] {
+        tally.add_sent(more);
+        assert!(rt; (tally.sent, tally.full) == (sent, full));
+    }
 }
 
 #[test]
@@ -138,7 +148,7 @@ fn pass<A: PathAlgebra>(
     to: Shard,
     into: &mut Part<'_, A>,
 ) {
-    assert!(rt; from.is_other(to));
+    assert!(rt; from.is_other(to) && from.outgoing(to) == 1);
     let mut batch = Batch::empty(rt.alloc(), from.capacity(to)).expect(rt, "memory");
     from.swap_outbox(to, &mut batch);
     assert_one(rt, &batch);

@@ -1,5 +1,5 @@
 -- What a call knows of its seat, and that the seat is one again after its step.
-use Rattle.std.proofs.Common.{◌≡◌, ℕ, zero, suc, ◌+◌, ◌*◌, ◌<◌, ◌≤◌, Bool, cond, List, [], ◌∷◌, length, get_or, set, take, drop, refl, sym, ap, ◌∙◌, subst, inl, inr, arith, eq-eqb, ne_eqb, length-set, get_or-set_other}
+use Rattle.std.proofs.Common.{Option, ◌≡◌, ℕ, zero, suc, ◌+◌, ◌*◌, ◌<◌, ◌≤◌, Bool, cond, List, [], ◌∷◌, length, get_or, set, take, drop, refl, sym, ap, ◌∙◌, subst, inl, inr, arith, eq-eqb, ne_eqb, length-set, get_or-set_other}
 use Rattle.std.proofs.lemmas.Bool.{cases_eq}
 use Rattle.std.proofs.lemmas.List.{take_all, same_from_push, get_or_read}
 use Rattle.atomic_table.specs.Seated.{TableId}
@@ -67,9 +67,9 @@ pub record Seated {S V : Type 0} (meaning : S → Algebra V) (f : FloorData S) (
 
 module _ {S V : Type 0} {meaning : S → Algebra V} {f : FloorData S} {d : SeatData S V} {p : PartData S V} {fid : TableId} {t : SetupData S} {sh : ℕ} {id : TableId} {s : ℕ} {v : View S V}
     {slots : List (ℕ × Slot V)} {claims : List ℕ} {room : ℕ} {next_fill next_read : List ℕ} where
-  pub seated : record { id = fid; setup = t } ≡ f → record { floor = id; shard = s; knows = v } ≡ d → IsTableSized fid t × (t.plan.shards ≡ sh) × (sh ≤ 64)
+  pub seated : {ahead : Option ℕ} → record { id = fid; setup = t; ahead = ahead } ≡ f → record { floor = id; shard = s; knows = v } ≡ d → IsTableSized fid t × (t.plan.shards ≡ sh) × (sh ≤ 64)
       → IsSeat (record { floor = id; shard = s; knows = v }) slots claims room next_fill next_read → IsAt meaning f d p → Seated meaning f d p fid t sh id s v slots claims room next_fill next_read
-  seated ff dd (sized, count, _) inv at =
+  seated {ahead} ff dd (sized, count, _) inv at =
       let moved : ViewLags meaning v p = subst (λ (z : SeatData S V). ViewLags meaning z.knows p) (sym dd) at.moved in
       let same = handled_same meaning moved.1 moved.0 p moved.3 in
       let b_is : inv.part ≡ moved.0 = (same_from_push [] [] inv.part moved.0 (sym inv.parts ∙ moved.2.parts)).1 in
@@ -88,10 +88,10 @@ module _ {S V : Type 0} {meaning : S → Algebra V} {f : FloorData S} {d : SeatD
         read = inv.read;
         fill_slots = subst (λ z. AreSlots z next_fill) shards inv.fill_slots;
         read_slots = subst (λ z. AreSlots z next_read) shards inv.read_slots;
-        fills = λ to x e. subst (λ (z : FloorData S). mailbox sh s to x ≡ fill_box z d to) ff (subst (λ (z : SeatData S V). mailbox sh s to x ≡ fill_box (record { id = fid; setup = t }) z to) dd
+        fills = λ to x e. subst (λ (z : FloorData S). mailbox sh s to x ≡ fill_box z d to) ff (subst (λ (z : SeatData S V). mailbox sh s to x ≡ fill_box (record { id = fid; setup = t; ahead = ahead }) z to) dd
             (λ i. mailbox (sym count i) s to ((e ∙ ap (λ l. get_or l to 0) (sym inv.fill)) i)));
         reads = λ from x e. subst (λ (z : FloorData S). mailbox sh from s x ≡ read_box z d from) ff
-            (subst (λ (z : SeatData S V). mailbox sh from s x ≡ read_box (record { id = fid; setup = t }) z from) dd
+            (subst (λ (z : SeatData S V). mailbox sh from s x ≡ read_box (record { id = fid; setup = t; ahead = ahead }) z from) dd
             (λ i. mailbox (sym count i) from s ((e ∙ ap (λ l. get_or l from 0) (sym inv.read)) i)));
         out = out;
         roomy = roomy;

@@ -22,10 +22,12 @@ use Rattle.post_floor.specs.Seats.{knows}
 use Rattle.shard_store.specs.Plans.{PlanData}
 use Rattle.shard_part.specs.Opening.{opened_parts}
 
--- a floor: which it is, and the diffusion and plan that its parts share
+-- a floor: which it is, the diffusion and plan that its parts share, and by what weight a shard may
+-- run ahead of the others, if shards are to be held back
 pub record FloorData (S : Type 0) : Type 0 where
   pub id : TableId
   pub setup : SetupData S
+  pub ahead : std.Option ℕ
 
 -- a seat: which floor it is at, the shard of its part, and what it knows
 pub record SeatData (S V : Type 0) : Type 0 where

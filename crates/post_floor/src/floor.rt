@@ -1,5 +1,5 @@
 //! The floor of a diffusion: opened, used by seats step by step, and closed.
-ghost use Rattle.std.specs.Prelude.{◌≡◌, ◌≢◌, ⊤, ℕ, true, ◌<◌, map, IfOk, IfErr, IfSome, IsTrue, Some};
+ghost use Rattle.std.specs.Prelude.{◌≡◌, ◌≢◌, ⊤, ℕ, true, ◌<◌, map, IfOk, IfErr, IfSome, IsTrue, None, Some};
 ghost use Rattle.shard_part.specs.Readings.{has_ended};
 ghost use Rattle.shard_part.specs.Weights.{All};
 ghost use Rattle.post_floor.specs.Boxes.{box_count};
@@ -43,7 +43,7 @@ impl<A: PathAlgebra> Model for Floor<A> {
 
     ghost Value = { FloorData A };
 
-    ghost view = { λ f. record { id = f.table.shared.table_id; setup = f.table.shared.key } };
+    ghost view = { λ f. record { id = f.table.shared.table_id; setup = f.table.shared.key; ahead = f.hints.ahead } };
 
     ghost invariant = { λ f. IsTableSized f.table.shared.table_id f.table.shared.key × (f.table.shared.key.plan.shards ≡ f.shards) × (f.shards ≤ 64) };
 }
@@ -63,6 +63,7 @@ impl<A: PathAlgebra> Floor<A> {
             All (λ p. p.setup ≡ r.0.setup) parts.now) }
         ensures seats { IfOk result
             (λ r. r.1.items ≡ map (seat_of r.0.id plan.now.shards) parts.now) }
+        ensures unheld { IfOk result (λ r. r.0.ahead ≡ None) }
     {
         let shards = plan.shards() as usize;
         let first = &parts[0];
@@ -87,8 +88,9 @@ impl<A: PathAlgebra> Floor<A> {
 
     /// From now on a shard takes no message that is worse than the best value that another one
     /// advertises, or that waits for another one there, extended by an arc of this weight.
+    /// Stations go by this best first alone: in order of arrival it has no effect.
     pub fn hold_back(&mut self, ahead: u32)
-        ensures { self.new ≡ self.old }
+        ensures { self.new ≡ record self.old { ahead = Some ahead } }
     {
         self.hints.hold_back(ahead);
     }
@@ -97,7 +99,7 @@ impl<A: PathAlgebra> Floor<A> {
     /// value. Of what they advertise nothing is promised.
     pub fn limit(&self, part: &Part<'_, A>) -> Option<Limit<A::Value>>
         ensures order { IfSome result (λ l. IsTrue (A.order l.best l.value)) }
-        ensures limit { IfSome result (λ l. (ahead : ℕ) ×
+        ensures limit { IfSome result (λ l. (ahead : ℕ) × (self.now.ahead ≡ Some ahead) ×
             IsLimit (A.meaning part.now.setup.diffusion.algebra) (λ _ _. ⊤) self.now.setup.plan.shards
             part.now.shard ahead (Some l)) }
     {
@@ -112,7 +114,9 @@ impl<A: PathAlgebra> Floor<A> {
     }
 
     /// By what weight a part may run ahead of what it has sent, if shards are held back.
-    pub fn ahead(&self) -> Option<u32> {
+    pub fn ahead(&self) -> Option<u32>
+        ensures { result ≡ self.now.ahead }
+    {
         self.hints.ahead()
     }
 

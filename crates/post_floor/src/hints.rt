@@ -1,6 +1,6 @@
 //! What each shard advertises to the others of the best value that waits for it, and how far they
 //! may run ahead of it.
-ghost use Rattle.std.specs.Prelude.{◌≡◌, ⊤, ℕ, ◌≢◌, IsTrue, IfSome, IfNone, None, Some};
+ghost use Rattle.std.specs.Prelude.{◌≡◌, ⊤, ℕ, ◌≢◌, IsTrue, IfOk, IfSome, IfNone, None, Some};
 ghost use Rattle.post_floor.specs.Hints.{StandsFor, IsShown, IsBestShown, IsLimit};
 
 use crossbeam_utils::CachePadded;
@@ -39,7 +39,7 @@ pub trait HintSource {
 #[derive(Drop)]
 pub(crate) struct Hints {
     words: Vec<CachePadded<AtomicU64>>,
-    ahead: Option<u32>,
+    pub(crate) ahead: Option<u32>,
 }
 
 impl HintSource for Hints {
@@ -55,7 +55,9 @@ impl HintSource for Hints {
 
 impl Hints {
     /// Nothing is advertised, and no shard is held back.
-    pub(crate) fn new(alloc: Global, shards: usize) -> Result<Hints, AllocError> {
+    pub(crate) fn new(alloc: Global, shards: usize) -> Result<Hints, AllocError>
+        ensures { IfOk result (λ h. h.ahead ≡ None) }
+    {
         let mut words = Vec::with_capacity(alloc, shards)?;
         for _ in 0..shards {
             words.push(CachePadded::new(AtomicU64::new(NOTHING)))?;
@@ -64,12 +66,16 @@ impl Hints {
     }
 
     /// From now on a shard may run ahead by this weight.
-    pub(crate) fn hold_back(&mut self, ahead: u32) {
+    pub(crate) fn hold_back(&mut self, ahead: u32)
+        ensures { self.new.ahead ≡ Some ahead }
+    {
         self.ahead = Some(ahead);
     }
 
     /// By what weight a shard may run ahead, if shards are held back.
-    pub(crate) fn ahead(&self) -> Option<u32> {
+    pub(crate) fn ahead(&self) -> Option<u32>
+        ensures { result ≡ self.now.ahead }
+    {
         self.ahead
     }
 

@@ -1,4 +1,3 @@
-mod Said
 mod Ungated
 mod Unstalled
 mod GivesUp

@@ -3,7 +3,7 @@ ghost use Rattle.path_factors.specs.Factors.{HasEachVertex};
 ghost use Rattle.program.specs.Ordering.{RanOrder, WritesPlaces};
 
 use batch_run::{File, RunFault, WRITE, fault_in, fault_of_run};
-use elimination_order::approximate_minimum_degree;
+use elimination_order::{Care, nested_dissection};
 use graph_text::read_gr_as;
 use order_files::{Unwritten, write_order};
 use road_graph::{OutGraph, Vertex};
@@ -34,11 +34,11 @@ fn write_places<W: RoadWrite>(
     }
 }
 
-/// Orders the vertices of a graph, and writes their places.
+/// Orders the vertices of a graph with care, and writes their places.
 fn order_graph<W: RoadWrite>(alloc: Global, graph: &OutGraph, out: &mut W) -> Result<(), RunFault>
     ensures { WritesPlaces graph.now.vertices (W.seen out.old) (W.seen out.new) result }
 {
-    let Ok(ordered) = approximate_minimum_degree(alloc, graph) else {
+    let Ok(ordered) = nested_dissection(alloc, graph, Care::Careful) else {
         return Err(fault_of_run(MEMORY));
     };
     match ordered.order {
@@ -47,7 +47,7 @@ fn order_graph<W: RoadWrite>(alloc: Global, graph: &OutGraph, out: &mut W) -> Re
     }
 }
 
-/// Reads a graph, orders its vertices by approximate minimum degree, and writes their places.
+/// Reads a graph, orders its vertices by nested dissection, and writes their places.
 pub(crate) fn order_input<G: RoadRead, W: RoadWrite>(
     alloc: Global,
     graph: &mut G,

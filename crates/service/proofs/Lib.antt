@@ -1,7 +1,6 @@
 mod RequestLaws
 mod TextLaws
 mod FileLaws
-mod Examples
 mod FedLaws
 mod ServiceLaws
 mod EndLaws

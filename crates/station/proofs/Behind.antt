@@ -26,20 +26,21 @@ module _ {V : Type 0} (order : V → V → Bool) (ordered : IsOrder order) where
 
 -- what is held back by the best value shown of the others, after one more arc, is behind the others
 pub behind : {S V : Type 0} (A : Algebra V) (order : V → V → Bool) → A.no_worse ≡ order → IsOrder order → (p q : PartData S V) → q.setup ≡ p.setup → q.shard ≡ p.shard → (l : Limit V) (limit : Option V) → limit ≡ Some l.value
-    → IsTrue (order l.best l.value) → (ahead : ℕ) × IsLimit A (λ _ _. ⊤) p.setup.plan.shards p.shard ahead (Some l) → IsHeldBack order limit q → IsBehindOthers A limit q
-behind {S} {V} A order e ordered p q t s l limit f o (w, is) b = record {
+    → IsTrue (order l.best l.value) → (ahead : Option ℕ) → (w : ℕ) × (ahead ≡ Some w) × IsLimit A (λ _ _. ⊤) p.setup.plan.shards p.shard w (Some l) → IsHeldBack order limit q → IsBehindOthers A ahead limit q
+behind {S} {V} A order e ordered p q t s l limit f o ahead (w, given, is) b = record {
   held = subst (λ c. IsHeldBack c limit q) (sym e) b;
   best = l.best;
   shown = subst (λ k. IsBestShown A (λ _ _. ⊤) q.setup.plan.shards k (Some l.best)) (sym s)
       (subst (λ (u : SetupData S). IsBestShown A (λ _ _. ⊤) u.plan.shards p.shard (Some l.best)) (sym t) is.0);
-  ahead = w;
+  weight = w;
+  weight_is = given;
   limit_is = is.1 ∙ sym f;
   behind = subst (λ c. IsHeldBy c l.best q.queue) (sym e) (all_worse order ordered l.best l.value o q.queue (subst (λ v. IsHeldBack order v q) f b));
 }
 
 -- nothing waits, or what waits is held back
 pub settle : {S V : Type 0} (A : Algebra V) (p : PartData S V) (handled budget : ℕ) (held : Bool) (limit : Option V) (ahead : Option ℕ) → handled ≤ budget → (handled < budget → 0 < length p.queue → IsTrue held)
-    → (handled ≡ budget) ⊎ ((p.queue ≡ []) ⊎ (IsBehindOthers A limit p ⊎ RunsAhead A ahead p)) → IsAsFar A budget handled held limit ahead p
+    → (handled ≡ budget) ⊎ ((p.queue ≡ []) ⊎ (IsBehindOthers A ahead limit p ⊎ RunsAhead A ahead p)) → IsAsFar A budget handled held limit ahead p
 settle A p handled budget held limit ahead within h (inl e) = inl e
 settle A p handled budget held limit ahead within h (inr (inl e)) = inr (inl e)
 settle {S} {V} A p handled budget held limit ahead within h (inr (inr b)) = go p.queue refl

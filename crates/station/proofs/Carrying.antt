@@ -7,6 +7,7 @@ use denote.Plain.{UInt}
 use denote.Param.Send.{IsSend, IsSync, shr_send, sendable}
 use denote.Ref.{NamedLft, ShrRef}
 use denote.Struct.Tuple.{TupleAt}
+use Rattle.std.proofs.Crossing.{crosses}
 use Rattle.std.specs.declared.clone.Clone as clone
 use Rattle.path_algebra.specs.declared.algebra.PathAlgebra.{Ghosts}
 use Rattle.shard_part.proofs.Sharing.{part_send}
@@ -20,7 +21,7 @@ u32_send = search sendable
 
 module _ (A V : RattleType) (h : Ghosts A.Denot V.Denot) where
   pub station_send : (κ : NamedLft) → IsSend A → IsSend V → IsSend (Station.the_row κ A V h)
-  station_send κ a v = search (sendable, part_send, seat_send, Plan-sync) depth 40
+  station_send κ a v = search (sendable, crosses, part_send, seat_send, Plan-sync) depth 40
 
   -- what a thread is given that turns one station: the station, its floor, and a budget
   pub turner_send : (c : clone.Ghosts A.Denot) (d : clone.Ghosts V.Denot) (ν : List ℕ) (κ ℓ : NamedLft) → IsSend A → IsSend V → IsSync A → IsSync V

@@ -180,7 +180,7 @@ module _ {S V : Type 0} (meaning : S → Algebra V) (f : FloorData S) (O : HasOn
     → Represents meaning t parts mail (core_of meaning t events)
     → HasEnded (core_of meaning t events) ⊎ (QueueWaits parts ⊎ (OutboxWaits parts ⊎ MailWaits mail)))
     (H : HasAll meaning f.setup events before) (going : before.ended ≡ false) (D : Turned meaning f budget before r after) where
-  abbrev work : Worked meaning budget before.part r after.part
+  abbrev work : Worked meaning f budget before.part r after.part
   work = D.worked
 
   tried : Tried f before.seat work.emptied r work.outboxes after.seat
@@ -241,13 +241,10 @@ module _ {S V : Type 0} (meaning : S → Algebra V) (f : FloorData S) (O : HasOn
   reports : after.part.queue ≡ [] → after.ended ≡ true
   reports none = sym D.report ∙ D.announced (empty_knows meaning f.setup O (events ++ more) after.part has_more.shown has_more.own has_more.shard waits none)
 
-  one : before.part.setup.plan.shards ≡ 1
-  one = ap (λ (u : SetupData S). u.plan.shards) H.shown.same.0 ∙ O.one
-
   pub went_on : WentOn meaning f.setup budget events r after
   went_on = record {
     more = more;
     count = count;
     has_all = has_more;
-    goes_on = elim (work.alone one) [ inl all ↦ inr all | inr none ↦ inl (reports none) ];
+    goes_on = elim (work.alone (inl O.one)) [ inl all ↦ inr all | inr none ↦ inl (reports none) ];
   }

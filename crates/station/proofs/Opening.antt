@@ -1,5 +1,5 @@
 -- Parts and seats as they are opened, and the stations of both.
-use Rattle.std.proofs.Common.{◌≡◌, ℕ, zero, suc, ◌+◌, ◌≤◌, List, [], ◌∷◌, ◌++◌, length, map, refl, sym, ap, ◌∙◌, subst, arith}
+use Rattle.std.proofs.Common.{◌≡◌, None, ℕ, zero, suc, ◌+◌, ◌≤◌, List, [], ◌∷◌, ◌++◌, length, map, refl, sym, ap, ◌∙◌, subst, arith}
 use Rattle.std.specs.List.{All as Each}
 use Rattle.std.proofs.lemmas.List.{length-map, length_push}
 use Rattle.std.proofs.lemmas.List.Elements.{All-map, All-weaker}
@@ -62,12 +62,13 @@ module _ {S V : Type 0} where
   -- a floor and stations of parts as they are opened
   pub are_opened : (meaning : S → Algebra V) (f : FloorData S) (t : SetupData S) (ps : List (PartData S V)) (stations : List (StationData S V))
       → 1 ≤ t.plan.shards → ps ≡ opened_parts (meaning t.diffusion.algebra) t 0 t.plan.shards
-      → All (λ p. p.setup ≡ f.setup) ps → stations ≡ map (station_of f.id f.setup.plan.shards) ps → AreOpened meaning t f stations
-  are_opened meaning f t ps stations l e h m =
+      → All (λ p. p.setup ≡ f.setup) ps → stations ≡ map (station_of f.id f.setup.plan.shards) ps → f.ahead ≡ None → AreOpened meaning t None f stations
+  are_opened meaning f t ps stations l e h m a =
       let q : f.setup ≡ t = floor_setup (meaning t.diffusion.algebra) f t ps l e h in
       let station : PartData S V → StationData S V = station_of f.id f.setup.plan.shards in
       record {
         setup = q;
+        ahead_is = a;
         stations_are = m ∙ ap (λ (u : SetupData S). map (station_of f.id u.plan.shards) ps) q ∙ ap (map (station_of f.id t.plan.shards)) e;
         own = subst (Each (BelongsTo f)) (sym m)
             (All-map (BelongsTo f) station ps

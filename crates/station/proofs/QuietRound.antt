@@ -1,7 +1,7 @@
 -- A quiet round leaves the floor still.
 use Rattle.std.proofs.Common.{◌≡◌, ◌≢◌, ◌⊎◌, ℕ, zero, suc, ◌+◌, ◌<◌, ◌≤◌, Bool, true, false, List, [], ◌∷◌, ◌++◌, map, length, get_or, refl, sym, ap, ◌∙◌, subst, inl, inr, arith, append_assoc}
 use Rattle.std.specs.Prelude.{Contains}
-use Rattle.std.proofs.lemmas.Bool.{cases_eq, cases_lt}
+use Rattle.std.proofs.lemmas.Bool.{cases_eq, cases_lt, false≢true}
 use Rattle.std.proofs.lemmas.List.{append_cancel_left, nil_from_length}
 use mathlib.Core.Option.{some, some-injective, some-ne-none}
 use lib.ListN.{get_elem?}
@@ -35,7 +35,7 @@ use Rattle.post_floor.proofs.Still.{Found, find}
 use Rattle.post_floor.proofs.Totals.{is_else, total_none}
 use Rattle.station.specs.Station.{ReportedEnd}
 use Rattle.station.specs.Tries.{at, AreTries, used}
-use Rattle.station.specs.Turn.{SentOff, Tried, Worked, received}
+use Rattle.station.specs.Turn.{HoldsNothingBack, SentOff, Tried, Worked, received}
 use Rattle.station.specs.Round.{nothing_done, AreFound, IsSameMail, HasNoClaim, TurnAt, IsQuietTurn, AreQuietTurns, IsQuietRound}
 use Rattle.station.proofs.QuietTries.{Missed, AllMissed, all_missed}
 
@@ -74,9 +74,11 @@ module _ {S V : Type 0} (meaning : S → Algebra V) where
   handled_none p q [] e h = h
   handled_none p q (i ∷ items) e h = absurd (omega (arith, e))
 
-  -- work of which nothing came leaves the part as it was, with an empty queue
-  idle_work : (budget : ℕ) (p q : PartData S V) (ended : Bool) → 0 < budget → (W : Worked meaning budget p (nothing_done ended) q) → (W.emptied ≡ p) × (q ≡ p) × (W.outboxes ≡ []) × (q.queue ≡ [])
-  idle_work budget p q ended enough W =
+  -- work of which nothing came, with nothing held back, leaves the part as it was, with an empty
+  -- queue
+  idle_work : (f : FloorData S) (budget : ℕ) (p q : PartData S V) (held ended : Bool) → 0 < budget → (held ≡ false) ⊎ HoldsNothingBack f → (W : Worked meaning f budget p (nothing_done held ended) q)
+      → (W.emptied ≡ p) × (q ≡ p) × (W.outboxes ≡ []) × (q.queue ≡ [])
+  idle_work f budget p q held ended enough free W =
       let filled : W.filled ≡ p = W.received_all ∙ ap (received p) (nil_from_length W.batches W.taken) in
       let emptied : W.emptied ≡ p = sym (handled_none W.filled W.emptied W.handled.0 W.handled.1 W.handled.2) ∙ filled in
       let unsent : W.outboxes ≡ [] = nil_from_length W.outboxes W.published in
@@ -84,9 +86,15 @@ module _ {S V : Type 0} (meaning : S → Algebra V) where
         emptied,
         sym left ∙ emptied,
         unsent,
-        elim W.all [
-          | inl all ↦ absurd (omega (arith, all, enough))
-          | inr rest ↦ elim rest [ inl none ↦ ap (λ (r : PartData S V). r.queue) (sym left) ∙ none | inr held ↦ absurd (let no = held.0 in cc) ]
+        elim free [
+          | inl unheld ↦ elim W.all [
+            | inl all ↦ absurd (omega (arith, all, enough))
+            | inr rest ↦ elim rest [ inl none ↦ ap (λ (r : PartData S V). r.queue) (sym left) ∙ none | inr h ↦ absurd (false≢true (sym unheld ∙ h.0)) ]
+          ]
+          | inr never ↦ elim (W.alone never) [
+            | inl all ↦ absurd (omega (arith, all, enough))
+            | inr none ↦ none
+          ]
         ],
       )
 
@@ -132,14 +140,14 @@ module _ {S V : Type 0} (meaning : S → Algebra V) (f : FloorData S) (budget : 
   same_rests words v w e a = subst (λ (ps : List (PartData S V)). All (Rests n words w) ps) (ap (λ z. z.0) (sym e)) (all_rest words v w e v.parts a)
 
   module _ (s : State (Slot V) (View S V)) (t : TurnAt S V) (q : IsQuietTurn meaning f budget s t) where
-    abbrev work : Worked meaning budget t.before.part (nothing_done t.after.ended) t.after.part
+    abbrev work : Worked meaning f budget t.before.part (nothing_done q.held t.after.ended) t.after.part
     work = q.turned.worked
 
     -- nothing came of the work
     work_none : (work.emptied ≡ t.before.part) × (t.after.part ≡ t.before.part) × (work.outboxes ≡ []) × (t.after.part.queue ≡ [])
-    work_none = idle_work meaning budget t.before.part t.after.part t.after.ended enough work
+    work_none = idle_work meaning f budget t.before.part t.after.part q.held t.after.ended enough q.unheld work
 
-    tries : Tried f t.before.seat work.emptied (nothing_done t.after.ended) work.outboxes t.after.seat
+    tries : Tried f t.before.seat work.emptied (nothing_done q.held t.after.ended) work.outboxes t.after.seat
     tries = q.turned.tried q.unaware
 
     view_same : SameAt t.before.seat.knows t.after.seat.knows

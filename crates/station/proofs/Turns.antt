@@ -1,10 +1,12 @@
 -- What a whole turn does, of what its steps do.
 use Rattle.std.proofs.Common.{◌≡◌, ◌≢◌, ℕ, ◌+◌, ◌-◌, ◌*◌, ◌<◌, ◌≤◌, Bool, true, false, Option, Some, None, IfSome, List, [], ◌∷◌, length, get_or, min, refl, sym, ap, ◌∙◌, subst, ◌⊎◌, inl, inr, arith, eq-eqb, length-append}
+use Rattle.std.specs.Prelude.{IsTrue}
 use Rattle.std.proofs.lemmas.List.{append-nil}
 use Rattle.path_algebra.specs.Algebra.{Algebra}
 use Rattle.path_algebra.proofs.Least.{same_no_worse}
 use Rattle.path_algebra.specs.Walks.{IsWalkValue}
 use Rattle.scholten_core.specs.declared.event.Event.{Event}
+use Rattle.scholten_core.specs.declared.item.Item.{Item}
 use Rattle.scholten_core.specs.Diffusion.{state_after}
 use Rattle.scholten_core.proofs.EveryRun.{labels_are_walk_values}
 use Rattle.shard_store.specs.Setup.{SetupData, IsPlanned, network_of, place_in}
@@ -24,7 +26,7 @@ use Rattle.station.specs.declared.turn.Report.{Report}
 use Rattle.station.specs.Steps.{AreReady, AllCameIn, AllTriedFrom, AllTriedTo, Looked}
 use Rattle.post_floor.specs.declared.view.WordStep.{WordStep}
 use Rattle.station.specs.Tries.{at, AreTries, used}
-use Rattle.station.specs.Turn.{IsAsFar, Turned, Tried}
+use Rattle.station.specs.Turn.{HoldsNothingBack, IsAsFar, Turned, Tried}
 use Rattle.station.proofs.Trying.{few_tries}
 use Rattle.station.proofs.Labels.{IsLike, received_like, sent_like, sent_queue, labels_stay}
 
@@ -109,9 +111,9 @@ module _ {S V : Type 0} (meaning : S → Algebra V) where
       within = omega arith;
       limit = None;
       in_limit = ([], refl, refl);
-      ahead = None;
       all = inr (inl (i.over e).part.queue);
       alone = λ _. inr (i.over e).part.queue;
+      waits = λ h. absurd cc;
     };
     labels = λ v own x q. (x, q, same_no_worse (meaning s.part.setup.diffusion.algebra).no_worse (L s.part.setup.diffusion.algebra).ordered x);
     tried = λ q. absurd (let z = sym e ∙ q in cc);
@@ -122,15 +124,16 @@ module _ {S V : Type 0} (meaning : S → Algebra V) where
   }
 
   -- a turn before the end
-  pub turned : AllLawful meaning → (f : FloorData S) (budget handled taken published : ℕ) (held : Bool) (limit : Option V) (ahead : Option ℕ) (s : StationData S V) (a b d : SeatData S V) (filled emptied q : PartData S V) (o : Bool) → s.ended ≡ false
+  pub turned : AllLawful meaning → (f : FloorData S) (budget handled taken published : ℕ) (held : Bool) (limit : Option V) (s : StationData S V) (a b d : SeatData S V) (filled emptied q : PartData S V) (o : Bool) → s.ended ≡ false
       → AllCameIn meaning taken s.part filled → emptied.setup ≡ filled.setup → emptied.shard ≡ filled.shard → HandledMany meaning filled handled emptied
       → RunsOn meaning filled handled emptied
-      → handled ≤ budget → HandledWithin meaning limit filled handled emptied → IsAsFar (meaning filled.setup.diffusion.algebra) budget handled held limit ahead emptied
-      → (filled.setup.plan.shards ≡ 1 → (handled ≡ budget) ⊎ (emptied.queue ≡ []))
+      → handled ≤ budget → HandledWithin meaning limit filled handled emptied → IsAsFar (meaning filled.setup.diffusion.algebra) budget handled held limit f.ahead emptied
+      → (HoldsNothingBack f → (handled ≡ budget) ⊎ (emptied.queue ≡ []))
+      → (IsTrue held → (handled < budget) × (0 < length emptied.queue))
       → (has_ended q ≡ true → o ≡ true) → AreReady f d q → s.seat.shard < f.setup.plan.shards
       → AllTriedFrom f f.setup.plan.shards taken s.seat a → AllTriedTo f f.setup.plan.shards published emptied q a b → Looked f o b d
       → Turned meaning f budget s (record { handled = handled; taken = taken; published = published; held = held; ended = o }) (record { part = q; seat = d; ended = o })
-  turned L f budget handled taken published held limit ahead s a b d filled emptied q o going (bs, bl, be, K) es ss T E within bounded all alone announced ready own from to look =
+  turned L f budget handled taken published held limit s a b d filled emptied q o going (bs, bl, be, K) es ss T E within bounded all alone waits announced ready own from to look =
       let before : IsLike s.part filled = subst (λ p. IsLike s.part p) (sym be) (received_like bs s.part) in
       let after : IsLike emptied q = sent_like to.outboxes emptied q to.sent in
       let tried = all_tried f handled taken published held s.seat a b d emptied q o from to look in
@@ -154,9 +157,9 @@ module _ {S V : Type 0} (meaning : S → Algebra V) where
           within = within;
           limit = limit;
           in_limit = bounded;
-          ahead = ahead;
-          all = subst (λ (t : SetupData S). IsAsFar (meaning t.diffusion.algebra) budget handled held limit ahead emptied) before.setup all;
-          alone = λ one. all_or_none budget handled emptied q (sent_queue to.outboxes emptied q to.sent) (alone (ap (λ t. t.plan.shards) before.setup ∙ one));
+          all = subst (λ (t : SetupData S). IsAsFar (meaning t.diffusion.algebra) budget handled held limit f.ahead emptied) before.setup all;
+          alone = λ free. all_or_none budget handled emptied q (sent_queue to.outboxes emptied q to.sent) (alone free);
+          waits = λ h. let w = waits h in (w.0, subst (λ (is : List (Item V)). 0 < length is) (sym (sent_queue to.outboxes emptied q to.sent)) w.1);
         };
         labels = λ v own. labels_stay meaning L s.part filled emptied q handled v before T after own.1;
         tried = λ _. tried;

@@ -1,5 +1,5 @@
 -- Rounds in which no station finds anything to do.
-use Rattle.std.specs.Prelude.{◌≡◌, ◌≢◌, ℕ, ◌<◌, Bool, false, List, [], ◌∷◌, ◌++◌, map, get_or, Contains}
+use Rattle.std.specs.Prelude.{◌≡◌, ◌≢◌, ◌⊎◌, ℕ, ◌<◌, Bool, false, List, [], ◌∷◌, ◌++◌, map, get_or, Contains}
 use mathlib.Core.Option.{some}
 use lib.ListN.{get_elem?}
 use Rattle.atomic_table.specs.Table.{State}
@@ -12,11 +12,11 @@ use Rattle.post_floor.specs.Data.{FloorData, AreSlots}
 use Rattle.post_floor.specs.Floor.{Slot, fill_claims, read_claims}
 use Rattle.station.specs.declared.turn.Report.{Report}
 use Rattle.station.specs.Station.{StationData, IsStation}
-use Rattle.station.specs.Turn.{Turned}
+use Rattle.station.specs.Turn.{HoldsNothingBack, Turned}
 
--- nothing was handled, taken or published, and nothing is held back
-abbrev pub nothing_done : Bool → Report
-nothing_done ended = record { handled = 0; taken = 0; published = 0; held = false; ended = ended }
+-- nothing was handled, taken or published
+abbrev pub nothing_done : (held ended : Bool) → Report
+nothing_done held ended = record { handled = 0; taken = 0; published = 0; held = held; ended = ended }
 
 -- each step at a mailbox found the number that is in its word
 abbrev pub AreFound : ℕ → List ℕ → List WordStep → Type 0
@@ -49,7 +49,7 @@ pub record TurnAt (S V : Type 0) : Type 0 where
 module _ {S V : Type 0} (meaning : S → Algebra V) (f : FloorData S) (budget : ℕ) where
   -- A quiet turn of a station that has not reported the end: it does nothing, its steps find the
   -- mailboxes as they are, and the floor stays the same, but for the station's view and the done
-  -- word.
+  -- word. Nothing is held back either, best first among several shards; otherwise nothing ever is.
   pub record IsQuietTurn (s : State (Slot V) (View S V)) (t : TurnAt S V) : Type 0 where
     pub view : get_elem? s.views t.id ≡ some t.before.seat.knows
     pub shard : t.before.part.shard < f.setup.plan.shards
@@ -57,7 +57,9 @@ module _ {S V : Type 0} (meaning : S → Algebra V) (f : FloorData S) (budget : 
     pub reads : AreSlots f.setup.plan.shards t.before.seat.knows.next_read
     pub was : IsStation meaning t.before
     pub unaware : t.before.ended ≡ false
-    pub turned : Turned meaning f budget t.before (nothing_done t.after.ended) t.after
+    pub held : Bool
+    pub unheld : (held ≡ false) ⊎ HoldsNothingBack f
+    pub turned : Turned meaning f budget t.before (nothing_done held t.after.ended) t.after
     pub now : IsStation meaning t.after
     pub steps : List WordStep
     pub made : t.after.seat.knows.steps ≡ t.before.seat.knows.steps ++ steps

@@ -1,8 +1,9 @@
 -- What one turn does to a station.
-use Rattle.std.specs.Prelude.{◌≡◌, ◌≢◌, ◌⊎◌, ℕ, ◌+◌, ◌-◌, ◌*◌, ◌≤◌, Bool, true, false, eqb, ⊤, Option, Some, IsTrue, List, [], ◌∷◌, ◌++◌, length, get_or}
+use Rattle.std.specs.Prelude.{◌≡◌, ◌≢◌, ◌⊎◌, ℕ, ◌+◌, ◌-◌, ◌*◌, ◌<◌, ◌≤◌, Bool, true, false, eqb, ⊤, Option, Some, None, IsTrue, List, [], ◌∷◌, ◌++◌, length, get_or}
 use Rattle.path_algebra.specs.Algebra.{Algebra}
 use Rattle.scholten_core.specs.declared.item.Item.{Item}
 use Rattle.shard_store.specs.Queue.{IsHeldBy}
+use Rattle.shard_store.specs.declared.queue_order.QueueOrder.TheVariants.{Arrival}
 use Rattle.shard_part.specs.Arriving.{joined}
 use Rattle.shard_part.specs.PartState.{PartData, state_in}
 use Rattle.shard_part.specs.Part.{HandledMany, HandledWithin, IsHeldBack, IsRunOn, RunsAhead, RunsOn}
@@ -20,24 +21,30 @@ use Rattle.station.specs.Tries.{at, AreTries, used}
 abbrev pub StaysOrImproves : {V : Type 0} → Algebra V → Option V → Option V → Type 0
 StaysOrImproves {V} A before after = (x : V) → before ≡ Some x → (y : V) × (after ≡ Some y) × IsTrue (A.no_worse y x)
 
+-- parts at such a floor are never held back: one is alone, or they take their items in the order of
+-- arrival, or it was not asked for
+abbrev pub HoldsNothingBack : {S : Type 0} → FloorData S → Type 0
+HoldsNothingBack f = (f.setup.plan.shards ≡ 1) ⊎ ((f.setup.order ≡ Arrival) ⊎ (f.ahead ≡ None))
+
 module _ {S V : Type 0} where
   -- The limit holds back all that waits at the part. It is the best value that is shown of the
-  -- other shards, after one more arc of some weight, and all that waits is worse than that best
-  -- value: no signal waits there, and no message that is no worse. Which values may be shown of a
-  -- shard is not promised.
-  pub record IsBehindOthers (A : Algebra V) (limit : Option V) (p : PartData S V) : Type 0 where
+  -- other shards, after one more arc of the weight by which a shard may run ahead, and all that
+  -- waits is worse than that best value: no signal waits there, and no message that is no worse.
+  -- Which values may be shown of a shard is not promised.
+  pub record IsBehindOthers (A : Algebra V) (ahead : Option ℕ) (limit : Option V) (p : PartData S V) : Type 0 where
     pub held : IsHeldBack A.no_worse limit p
     pub best : V
     pub shown : IsBestShown A (λ _ _. ⊤) p.setup.plan.shards p.shard (Some best)
-    pub ahead : ℕ
-    pub limit_is : A.extend best ahead ≡ limit
+    pub weight : ℕ
+    pub weight_is : ahead ≡ Some weight
+    pub limit_is : A.extend best weight ≡ limit
     pub behind : IsHeldBy A.no_worse best p.queue
 
   -- Of the items of a part, which is p then, as many were handled as the budget allows, or all, or
   -- what is left is held back: by the limit, or since the part is ahead of what it has sent by more
-  -- than `ahead`.
+  -- than the weight by which it may run ahead.
   abbrev pub IsAsFar : Algebra V → (budget handled : ℕ) → Bool → (limit : Option V) → (ahead : Option ℕ) → PartData S V → Type 0
-  IsAsFar A budget handled held limit ahead p = (handled ≡ budget) ⊎ ((p.queue ≡ []) ⊎ (IsTrue held × (IsBehindOthers A limit p ⊎ RunsAhead A ahead p)))
+  IsAsFar A budget handled held limit ahead p = (handled ≡ budget) ⊎ ((p.queue ≡ []) ⊎ (IsTrue held × (IsBehindOthers A ahead limit p ⊎ RunsAhead A ahead p)))
 
   -- batches were received, one after the other, each at the back of the queue
   abbrev pub received : PartData S V → List (List (Item V)) → PartData S V
@@ -73,7 +80,7 @@ module _ {S V : Type 0} (meaning : S → Algebra V) where
   -- With the batches it held its share of a state that some events lead to. Handling the items is
   -- that many core events: in that state, and in every state of which the part held its share, they
   -- are enabled, each in its turn.
-  pub record Worked (budget : ℕ) (p : PartData S V) (r : Report) (q : PartData S V) : Type 0 where
+  pub record Worked (f : FloorData S) (budget : ℕ) (p : PartData S V) (r : Report) (q : PartData S V) : Type 0 where
     pub batches : List (List (Item V))
     pub taken : length batches ≡ r.taken
     pub filled : PartData S V  -- with the batches
@@ -89,16 +96,18 @@ module _ {S V : Type 0} (meaning : S → Algebra V) where
     pub within : r.handled ≤ budget
     pub limit : Option V  -- how far it might run ahead of the others
     pub in_limit : HandledWithin meaning limit filled r.handled emptied
-    pub ahead : Option ℕ  -- and of what it had sent itself
-    pub all : IsAsFar (meaning p.setup.diffusion.algebra) budget r.handled r.held limit ahead emptied
-    pub alone : p.setup.plan.shards ≡ 1 → (r.handled ≡ budget) ⊎ (q.queue ≡ [])  -- with one shard nothing is held back
+    pub all : IsAsFar (meaning p.setup.diffusion.algebra) budget r.handled r.held limit f.ahead emptied
+    -- where nothing is held back, as many items were handled as the budget allows, or the queue is
+    -- empty at the return
+    pub alone : HoldsNothingBack f → (r.handled ≡ budget) ⊎ (q.queue ≡ [])
+    pub waits : IsTrue r.held → (r.handled < budget) × (0 < length q.queue)  -- so none is reported held back then
 
   -- What one turn on the floor makes of a station, and reports. After the end it does nothing.
   pub record Turned (f : FloorData S) (budget : ℕ) (before : StationData S V) (r : Report) (after : StationData S V) : Type 0 where
     pub own : BelongsTo f after
     pub shard : after.part.shard ≡ before.part.shard
     pub seat : after.seat.shard ≡ after.part.shard
-    pub worked : Worked budget before.part r after.part
+    pub worked : Worked f budget before.part r after.part
     pub labels : (v : ℕ) → IsOwn before.part v → StaysOrImproves (meaning before.part.setup.diffusion.algebra) ((state_in before.part).label v) ((state_in after.part).label v)
     pub tried : before.ended ≡ false → Tried f before.seat worked.emptied r worked.outboxes after.seat
     pub steps : length after.seat.knows.steps ≤ length before.seat.knows.steps + 4 * (f.setup.plan.shards - 1) + 1

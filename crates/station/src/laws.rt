@@ -43,7 +43,8 @@ pub fn best_first_counts_each_arc_once<A: PathAlgebra>(_algebra: A)
 /// Until the end is reported no round is quiet (`goes_on`): if the rule of the floor holds, no fill
 /// and no read has begun, and each station whose part knows of the end has reported it, as it has
 /// when it is opened and after each turn, then in a round of turns of stations that have not, each
-/// part's among them, something is handled, taken, published or held back.
+/// part's among them, something is handled, taken or published, or, best first among several
+/// shards, held back.
 ///
 /// For a quiet round leaves the floor still, so the diffusion has ended, and the station of the
 /// source's shard reports it.

@@ -1,5 +1,5 @@
 //! Opening a diffusion.
-ghost use Rattle.std.specs.Prelude.{◌≡◌, ◌<◌, [], ◌∷◌, ◌++◌, length, IfOk, OnOk, map};
+ghost use Rattle.std.specs.Prelude.{◌≡◌, ◌<◌, [], ◌∷◌, ◌++◌, length, IfOk, OnOk, None, map};
 ghost use Rattle.road_graph.specs.GraphData.{HasVertex};
 ghost use Rattle.shard_part.specs.Weights.{All};
 ghost use Rattle.post_floor.specs.Data.{seat_of, first_parts};
@@ -52,10 +52,12 @@ fn pair<'g, A: PathAlgebra>(
     alloc: Global,
     floor: &Floor<A>,
     plan: &'g Plan,
+    order: QueueOrder,
     mut parts: Vec<Part<'g, A>>,
     mut seats: Vec<Seat<A>>,
 ) -> Result<Vec<Station<'g, A>>, AllocError>
     requires plan { plan.now ≡ floor.now.setup.plan }
+    requires order { order ≡ floor.now.setup.order }
     requires parts { All (IsFreshPart A.meaning floor.now) parts.items }
     requires seats { seats.items ≡ map (seat_of floor.now.id floor.now.setup.plan.shards)
         parts.items }
@@ -68,7 +70,7 @@ fn pair<'g, A: PathAlgebra>(
         let Some(seat) = seats.pop() else {
             unreachable!()
         };
-        push(&mut stations, Station::new(floor, plan, part, seat))?;
+        push(&mut stations, Station::new(floor, plan, order, part, seat))?;
     }
     stations.reverse();
     Ok(stations)
@@ -87,11 +89,12 @@ pub fn open_diffusion<'g, A: PathAlgebra>(
     requires source { HasVertex graph.now source }
     requires plan { length plan.now.list ≡ graph.now.vertices }
     ensures { IfOk result
-        (λ r. AreOpened A.meaning (setup_of algebra graph.now source plan.now order) r.0 r.1.items) }
+        (λ r. AreOpened A.meaning (setup_of algebra graph.now source plan.now order) None r.0
+        r.1.items) }
 {
     plan_holds(plan);
     let parts = open_parts(alloc, algebra, graph, plan, source, order)?;
     let (floor, seats) = Floor::open(alloc, plan, source, &parts)?;
-    let stations = pair(alloc, &floor, plan, parts, seats)?;
+    let stations = pair(alloc, &floor, plan, order, parts, seats)?;
     Ok((floor, stations))
 }

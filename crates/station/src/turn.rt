@@ -1,17 +1,18 @@
 //! The steps of one turn.
-ghost use Rattle.std.specs.Prelude.{◌≡◌, ◌⊎◌, ⊤, ℕ, ◌<◌, ◌≤◌, [], Option, None, Some, length, true, IfSome, IsTrue};
+ghost use Rattle.std.specs.Prelude.{◌≡◌, ◌⊎◌, ⊤, ℕ, ◌<◌, ◌≤◌, [], Option, None, Some, length, true, false, cond, IfSome, IsTrue};
 ghost use Rattle.shard_part.specs.Part.{HandledMany, HandledWithin, RunsOn};
 ghost use Rattle.shard_part.specs.Readings.{has_ended};
 ghost use Rattle.post_floor.specs.Hints.{IsLimit};
 ghost use Rattle.post_floor.specs.Plays.{HoldsEndedShare, HoldsReachedShare};
 ghost use Rattle.station.specs.Station.{IsOverPart};
 ghost use Rattle.station.specs.Steps.{AreReady, AreBehind, CameIn, AllCameIn, TriedFrom, AllTriedFrom, WentOff, TriedTo, AllTriedTo, Looked};
-ghost use Rattle.station.specs.Turn.{IsAsFar};
+ghost use Rattle.shard_store.specs.declared.queue_order.QueueOrder.TheVariants.{Arrival};
+ghost use Rattle.station.specs.Turn.{HoldsNothingBack, IsAsFar};
 
 use path_algebra::PathAlgebra;
 use post_floor::{Floor, Limit, Seat};
 use shard_part::laws::part_holds;
-use shard_part::{Part, Plan, Shard};
+use shard_part::{Part, Plan, QueueOrder, Shard};
 
 /// What one turn did.
 #[derive(Clone, Copy, Debug, PartialEq, Eq)]
@@ -74,34 +75,41 @@ pub(crate) fn read_all<A: PathAlgebra>(
     taken
 }
 
-/// How far a part may run ahead now; one that is alone may always go on.
+/// Whether parts may be held back, if it was asked for: those that are alone, and those that take
+/// their items in the order of arrival, always go on.
+fn may_be_held_back(plan: &Plan, order: QueueOrder) -> bool
+    ensures { (plan.now.shards ≡ 1) ⊎ (order ≡ Arrival) → result ≡ false }
+{
+    match order {
+        QueueOrder::Arrival => false,
+        QueueOrder::BestFirst => plan.shards() > 1,
+    }
+}
+
+/// How far a part may run ahead now, if it may be held back.
 fn limit_of<A: PathAlgebra>(
     floor: &Floor<A>,
-    plan: &Plan,
     part: &Part<'_, A>,
+    may_wait: bool,
 ) -> Option<Limit<A::Value>>
     requires floor { floor.now.setup ≡ part.now.setup }
     ensures order { IfSome result (λ l. IsTrue (A.order l.best l.value)) }
-    ensures limit { IfSome result (λ l. (ahead : ℕ) ×
+    ensures limit { IfSome result (λ l. (ahead : ℕ) × (floor.now.ahead ≡ Some ahead) ×
         IsLimit (A.meaning part.now.setup.diffusion.algebra) (λ _ _. ⊤) part.now.setup.plan.shards
         part.now.shard ahead (Some l)) }
-    ensures alone { plan.now.shards ≡ 1 → result ≡ None }
+    ensures none { may_wait ≡ false → result ≡ None }
 {
-    if plan.shards() == 1 {
+    if !may_wait {
         return None;
     }
     floor.limit(part)
 }
 
-/// By what weight a part may run ahead of what it has sent; one that is alone may always go on.
-fn ahead_of<A: PathAlgebra>(floor: &Floor<A>, plan: &Plan) -> Option<u32>
-    ensures { plan.now.shards ≡ 1 → result ≡ None }
+/// By what weight a part may run ahead of what it has sent, if it may be held back.
+fn ahead_of<A: PathAlgebra>(floor: &Floor<A>, may_wait: bool) -> Option<u32>
+    ensures { result ≡ cond may_wait floor.now.ahead None }
 {
-    if plan.shards() > 1 {
-        floor.ahead()
-    } else {
-        None
-    }
+    if may_wait { floor.ahead() } else { None }
 }
 
 /// Handles items, at most `budget`, as far as the floor lets the part run ahead. Says how many, and
@@ -109,27 +117,31 @@ fn ahead_of<A: PathAlgebra>(floor: &Floor<A>, plan: &Plan) -> Option<u32>
 pub(crate) fn handle_all<A: PathAlgebra>(
     floor: &Floor<A>,
     plan: &Plan,
+    order: QueueOrder,
     part: &mut Part<'_, A>,
     budget: u32,
 ) -> (u32, bool)
     requires floor { floor.now.setup ≡ part.old.setup }
     requires plan { plan.now ≡ part.old.setup.plan }
+    requires order { order ≡ part.old.setup.order }
     ensures taken { HandledMany A.meaning part.old result.0 part.new }
     ensures setup { part.new.setup ≡ part.old.setup }
     ensures shard { part.new.shard ≡ part.old.shard }
     ensures events { RunsOn A.meaning part.old result.0 part.new }
     ensures budget { result.0 ≤ budget }
     ensures all { (limit : Option A.Value) × HandledWithin A.meaning limit part.old result.0
-        part.new × (ahead : Option ℕ) × IsAsFar (A.meaning part.old.setup.diffusion.algebra) budget
-        result.0 result.1 limit ahead part.new }
-    ensures alone { part.old.setup.plan.shards ≡ 1 → (result.0 ≡ budget) ⊎ (part.new.queue ≡ []) }
+        part.new × IsAsFar (A.meaning part.old.setup.diffusion.algebra) budget
+        result.0 result.1 limit floor.now.ahead part.new }
+    ensures alone { HoldsNothingBack floor.now → (result.0 ≡ budget) ⊎ (part.new.queue ≡ []) }
+    ensures held { IsTrue result.1 → (result.0 < budget) × (0 < length part.new.queue) }
 {
-    let limit = limit_of(floor, plan, part);
+    let may_wait = may_be_held_back(plan, order);
+    let limit = limit_of(floor, part, may_wait);
     let value = match limit {
         Some(limit) => Some(limit.value),
         None => None,
     };
-    let ahead = ahead_of(floor, plan);
+    let ahead = ahead_of(floor, may_wait);
     let handled = part.handle_within(budget, value, ahead);
     floor.advertise(part);
     let held = is_held_back(part, handled, budget);
@@ -138,7 +150,8 @@ pub(crate) fn handle_all<A: PathAlgebra>(
 
 /// Whether items wait, though not as many were handled as might have been.
 fn is_held_back<A: PathAlgebra>(part: &Part<'_, A>, handled: u32, budget: u32) -> bool
-    ensures { (handled < budget) → (0 < length part.now.queue) → IsTrue result }
+    ensures held { (handled < budget) → (0 < length part.now.queue) → IsTrue result }
+    ensures waits { IsTrue result → (handled < budget) × (0 < length part.now.queue) }
 {
     handled < budget && part.queued() > 0
 }

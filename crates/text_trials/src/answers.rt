@@ -1,5 +1,4 @@
-//! Worked answers written and read, and a writer that fails at each byte; faults by their lines are
-//! in `system_tests/worked`.
+//! Worked answers written and read, and a writer that fails at each byte.
 ghost use Rattle.std.specs.Prelude.{◌≡◌, ◌<◌, ◌≤◌, Some, length, refl, []};
 
 use crate::pages::Page;

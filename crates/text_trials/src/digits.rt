@@ -55,7 +55,7 @@ fn behind_comment(alloc: Global, comment: usize, weight: &str) -> Result<Vec<u8>
 
 /// The graph file that is written after a text was read in pieces of this many bytes; empty if it
 /// has a fault.
-fn again(alloc: Global, text: &[u8], piece: usize) -> Vec<u8>
+pub(crate) fn again(alloc: Global, text: &[u8], piece: usize) -> Vec<u8>
     requires { 0 < piece }
 {
     let mut to = Plain::new(Vec::new(alloc));

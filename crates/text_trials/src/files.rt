@@ -1,4 +1,4 @@
-//! Files read in pieces, and written back; their faults are in `system_tests/worked`.
+//! Files read in pieces, and written back.
 ghost use Rattle.std.specs.Prelude.{◌<◌};
 
 use crate::ends::Pieces;

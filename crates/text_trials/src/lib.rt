@@ -9,6 +9,8 @@ mod answers;
 mod digits;
 mod ends;
 #[cfg(test)]
+mod faults;
+#[cfg(test)]
 mod files;
 #[cfg(test)]
 mod lines;

@@ -1,5 +1,5 @@
 -- Diffusions with one shard each, dealt to workers: none of these stalls if its limit is enough.
-use Rattle.std.proofs.Common.{◌≡◌, ℕ, suc, ◌+◌, ◌*◌, ◌<◌, ◌≤◌, Bool, true, false, List, [], ◌∷◌, map, length, get_or, refl, sym, ap, ◌∙◌, subst, arith, if◌then◌else◌, nat_eq, length-append, Vec}
+use Rattle.std.proofs.Common.{◌≡◌, Option, ℕ, suc, ◌+◌, ◌*◌, ◌<◌, ◌≤◌, Bool, true, false, List, [], ◌∷◌, map, length, get_or, refl, sym, ap, ◌∙◌, subst, arith, if◌then◌else◌, nat_eq, length-append, Vec}
 use Rattle.std.specs.List.{All}
 use Rattle.std.proofs.Math.Nat.{mul-le-mul_right}
 use Rattle.std.proofs.lemmas.List.{get_or_default}
@@ -44,14 +44,14 @@ module _ {X : Type 0} where
 
 module _ {A V : Type 0} (meaning : A → Algebra V) (algebra : A) (turns : ℕ) where
   -- the one station of a diffusion that was opened
-  one_station : (t : SetupData A) → HasOneShard t → (f : FloorData A) (stations : List (StationData A V)) → AreOpened meaning t f stations
+  one_station : (t : SetupData A) → HasOneShard t → (f : FloorData A) (stations : List (StationData A V)) {ahead : Option ℕ} → AreOpened meaning t ahead f stations
       → stations ≡ station_of f.id f.setup.plan.shards (opened_part (meaning f.setup.diffusion.algebra) f.setup 0) ∷ []
   one_station t O f stations opened =
       opened.stations_are ∙ ap (λ n. map (station_of f.id t.plan.shards) (first_parts meaning t n)) O.one
       ∙ ap (λ (u : SetupData A). station_of f.id u.plan.shards (opened_part (meaning u.diffusion.algebra) u 0) ∷ []) (sym opened.setup)
 
   whole_station : (floors : List (FloorData A)) (q : ℕ) (f : FloorData A) → q < length floors → (t : SetupData A) → IsBrief algebra turns t → (stations : List (StationData A V))
-      → AreOpened meaning t (get_or floors q f) stations → All (λ s. IsWhole meaning algebra floors turns (q, s)) stations
+      {ahead : Option ℕ} → AreOpened meaning t ahead (get_or floors q f) stations → All (λ s. IsWhole meaning algebra floors turns (q, s)) stations
   whole_station floors q f low t B stations opened =
       let floor : FloorData A = get_or floors q f in
       let s : StationData A V = station_of floor.id floor.setup.plan.shards (opened_part (meaning floor.setup.diffusion.algebra) floor.setup 0) in

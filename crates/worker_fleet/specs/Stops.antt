@@ -1,5 +1,5 @@
 -- Why a group of diffusions is not run to its end.
-use Rattle.std.specs.Prelude.{◌≡◌, ℕ, ◌+◌, ◌<◌, ◌≤◌, Bool, false, List, length, Vec, slice_index_or}
+use Rattle.std.specs.Prelude.{◌≡◌, ℕ, ◌+◌, ◌<◌, ◌≤◌, Bool, false, Option, List, length, Vec, slice_index_or}
 use Rattle.std.specs.List.{AllWithin, HoldsAt}
 use Rattle.std.specs.declared.alloc.Global.{Global}
 use Rattle.path_algebra.specs.Algebra.{Algebra}
@@ -44,12 +44,13 @@ pub record StopsGroup {A V : Type 0} (meaning : A → Algebra V) (IsOne : SetupD
   pub few : count ≤ width
   pub setup : ℕ → SetupData A
   pub each : (q : ℕ) → q < count → IsOne (setup q)
+  pub ahead : Option ℕ  -- by what weight a shard of them may run ahead
   pub floors : List (FloorData A)
   pub floors_are : length floors ≡ count
   pub diffusions : List (Vec (StationData A V) Global)
   pub diffusions_are : length diffusions ≡ count
   pub opened : (q : ℕ) (f : FloorData A) (stations : Vec (StationData A V) Global) → q < count →
-      AreOpened meaning (setup q) (slice_index_or floors q f) (slice_index_or diffusions q stations).items
+      AreOpened meaning (setup q) ahead (slice_index_or floors q f) (slice_index_or diffusions q stations).items
   pub stop : IsStop meaning floors rule budget limit workers answers diffusions fault
 
 -- some worker made each turn up to the limit

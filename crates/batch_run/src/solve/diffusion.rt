@@ -1,7 +1,8 @@
 //! A diffusion that was run to its end, and how it is gathered.
 ghost use Rattle.std.specs.Prelude.{◌≡◌, true, IfOk};
 ghost use Rattle.std.specs.List.{All};
-ghost use Rattle.station.specs.Gather.{IsGathered};
+ghost use Rattle.shard_store.specs.Tallies.{tally_of};
+ghost use Rattle.station.specs.Gather.{IsGathered, counts_in};
 ghost use Rattle.batch_run.specs.Diffusions.{AreEnded};
 
 use path_algebra::{Labels, PathAlgebra};
@@ -51,7 +52,9 @@ pub(crate) fn gather_ended<'g, A: PathAlgebra>(
     ended: EndedDiffusion<'g, A>,
 ) -> Result<Gathered<A::Value>, AllocError>
     requires { AreEnded ended.floor.setup ended.floor ended.stations.items }
-    ensures { IfOk result (IsGathered A.meaning ended.entry.floor.setup) }
+    ensures gathered { IfOk result (IsGathered A.meaning ended.entry.floor.setup) }
+    ensures counted { IfOk result
+        (λ g. g.tally ≡ tally_of (counts_in ended.entry.stations.items)) }
 {
     let EndedDiffusion {
         source: _,

@@ -2,6 +2,8 @@
 ghost use Rattle.std.specs.Prelude.{◌≡◌, ℕ, ◌<◌, ◌≤◌, [], ◌∷◌, ◌++◌, length, get_or, IfOk, IfErr, vec_len};
 ghost use Rattle.std.specs.List.{All};
 ghost use Rattle.road_graph.specs.GraphData.{HasVertex};
+ghost use Rattle.shard_store.specs.Tallies.{tally_of};
+ghost use Rattle.station.specs.Gather.{counts_in};
 ghost use Rattle.station.specs.Opened.{AreOpened};
 ghost use Rattle.batch_run.specs.Batches.{StopsOver};
 ghost use Rattle.batch_run.specs.Cut.{IsCut};
@@ -34,7 +36,8 @@ fn open_at_pace<'g, A: PathAlgebra, R, T>(
     requires plan { IsPlanOf batch.now.graph.now plan.now }
     requires source { HasVertex batch.now.graph.now source }
     ensures { IfOk result (λ r. AreOpened A.meaning
-        (setup_of batch.now.algebra batch.now.graph.now source plan.now pace.order) r.0 r.1.items) }
+        (setup_of batch.now.algebra batch.now.graph.now source plan.now pace.order) pace.ahead r.0
+        r.1.items) }
 {
     let (alloc, algebra, graph) = (batch.run.alloc, batch.algebra, batch.graph);
     let opened = open_diffusion(alloc, algebra, graph, plan, source, pace.order)?;
@@ -58,7 +61,7 @@ fn open_all<'g, A: PathAlgebra, R, T>(
     ensures stations { IfOk result (λ r. vec_len r.1 ≡ length sources.now) }
     ensures opened { IfOk result (λ r. (q : ℕ) (s : ℕ) (f : _) (v : _) → q < length sources.now →
         AreOpened A.meaning (setup_of batch.now.algebra batch.now.graph.now
-        (get_or sources.now q s) plan.now pace.order) (get_or r.0.items q f)
+        (get_or sources.now q s) plan.now pace.order) pace.ahead (get_or r.0.items q f)
         (get_or r.1.items q v).items) }
 {
     let alloc = batch.run.alloc;
@@ -111,6 +114,8 @@ fn gathered_from<'g, A: PathAlgebra, R, T>(
         plan.now ended }
     ensures gathered { IfOk result (IsGatheredOver (A.meaning batch.now.algebra)
         batch.now.run.now.settings.now batch.now.graph.now) }
+    ensures counted { IfOk result
+        (λ d. d.tally ≡ tally_of (counts_in ended.entry.stations.items)) }
     ensures source { IfOk result (λ d. d.source ≡ ended.entry.source) }
 {
     let source = ended.source;

@@ -1,6 +1,6 @@
 //! How the parts of a diffusion take their items.
 ghost use Rattle.std.specs.Prelude.{◌≡◌};
-ghost use Rattle.batch_run.specs.Cut.{order_of};
+ghost use Rattle.batch_run.specs.Cut.{ahead_of, mean_weight, order_of};
 
 use batch_settings::Settings;
 use road_graph::{ArcNo, Graph};
@@ -16,9 +16,10 @@ pub(crate) struct Pace {
 
 impl Pace {
     /// The pace that settings ask for. Best first, a shard may run ahead by a fifth of the mean
-    /// weight of the arcs, unless they say by what weight.
+    /// weight of the arcs, unless they say by what weight. In order of arrival none is held back.
     pub(crate) fn of(settings: &Settings, graph: &Graph) -> Pace
-        ensures { result.order ≡ order_of settings.now }
+        ensures order { result.order ≡ order_of settings.now }
+        ensures ahead { result.ahead ≡ ahead_of settings.now graph.now }
     {
         let ahead = match settings.ahead {
             _ if !settings.best_first => None,
@@ -44,17 +45,16 @@ fn queue_order(settings: &Settings) -> QueueOrder
 }
 
 /// The mean weight of the arcs; 0 if there are none.
-fn mean_weight(graph: &Graph) -> u32 {
+fn mean_weight(graph: &Graph) -> u32
+    ensures { result ≡ mean_weight graph.now }
+{
     graph.holds();
     let mut sum = 0u64;
     for number in 0..graph.arcs() as u32 {
-        sum = sum.saturating_add(u64::from(graph.road(ArcNo(number + 1)).weight));
+        sum += u64::from(graph.road(ArcNo(number + 1)).weight);
     }
     let Some(mean) = sum.checked_div(graph.arcs() as u64) else {
         return 0;
     };
-    match u32::try_from(mean) {
-        Ok(mean) => mean,
-        Err(_) => u32::MAX,
-    }
+    mean as u32
 }

@@ -1,5 +1,5 @@
 //! Shards that are held back while better messages wait elsewhere.
-use super::{Schedule, Turned, assert_answer};
+use super::{Schedule, Turned, Wanted, assert_answer};
 use crate::graphs::ground_of;
 use path_algebra::Shortest;
 use shard_part::QueueOrder;
@@ -85,15 +85,12 @@ fn assert_paces(
             ahead,
             budget,
         };
-        assert_answer(
-            rt,
-            Shortest,
-            &ground,
-            schedule,
+        let wanted = Wanted {
             reports,
             labels,
-            Some(count),
-        );
+            count: Some(count),
+        };
+        assert_answer(rt, Shortest, &ground, schedule, wanted);
     }
 }
 

@@ -1,13 +1,26 @@
-use Rattle.std.proofs.Common.{◌≡◌, ◌++◌, ◌∷◌, [], Some, refl, sym, subst, rules, arith}
+use Rattle.std.proofs.Common.{◌≡◌, ◌++◌, ◌∷◌, [], refl, sym, subst, rules}
 use Rattle.std.specs.List.{All}
-use Rattle.std.proofs.lemmas.List.Elements.{All-pop, All-push}
+use Rattle.std.proofs.lemmas.List.Elements.{All-push}
 use Rattle.station.specs.Station.{BelongsTo}
 use Rattle.worker_fleet.specs.Turns.{IsOnItsFloor}
+use Rattle.worker_fleet.proofs.Carried.{All-first, All-rest}
 use Rattle.engine_trials.proofs.workers.placed.Goals as goal
 
-pub returns : goal.returns
-returns g c =
-    let f = c.args.floor.now in let s = c.in-Some.station in
-    let pushed : c.push.new.self.items ≡ [] ++ (0, s) ∷ [] = search rules in
-    subst (All (IsOnItsFloor (f ∷ []))) (sym pushed) (All-push (IsOnItsFloor (f ∷ [])) [] (0, s) (λ k d low. absurd (omega (arith, low)))
-    (record { floor = f; is_floor = refl; own = (All-pop (BelongsTo f) c.args.stations.items c.pop.new.self.items (Some s) c.in-Some.ensures.items c.requires).1 }))
+pub loop-station-init : goal.loop-station-init
+loop-station-init g c =
+    let gives = c.into_iter-station-iterator.ensures.into_iter_gives in
+    record { next = (tt, tt); left = rw (gives.0) c.requires; placed = λ k d low. absurd (let none = c.new-placed.ensures in search rules) }
+
+pub loop-station-preserved : goal.loop-station-preserved
+loop-station-preserved g c =
+    let was = c.loop-station.invariant in
+    let step = c.in-Some.ensures.steps in
+    let floor = c.args.floor.now in
+    let s = c.in-Some.station in
+    let pushed : c.push.new.self.items ≡ c.loop-station.placed.items ++ (0, s) ∷ [] = search rules in
+    record {
+      next = was.next;
+      left = All-rest (BelongsTo floor) _ _ s step.0 was.left;
+      placed = subst (All (IsOnItsFloor (floor ∷ []))) (sym pushed) (All-push (IsOnItsFloor (floor ∷ [])) c.loop-station.placed.items (0, s) was.placed
+          (record { floor = floor; is_floor = refl; own = All-first (BelongsTo floor) _ _ s step.0 was.left }));
+    }

@@ -1,4 +1,4 @@
-use Rattle.std.proofs.Common.{◌≡◌, subst, sym, refl, ◌∙◌}
+use Rattle.std.proofs.Common.{◌≡◌, subst, sym, refl, ap, ◌∙◌}
 use Rattle.shard_part.specs.Weights.{All}
 use Rattle.post_floor.specs.Plays.{HoldsReachedShare}
 use Rattle.station.specs.Opened.{IsFreshPart}
@@ -25,9 +25,17 @@ pair-requires-clause-parts g c κs within =
     (all_fresh meaning f (setup_of c.args.algebra c.args.graph.now c.args.source c.args.plan.now c.args.order) 0 c.args.plan.now.shards q
     (subst (All (HoldsReachedShare meaning)) e.parts e.known))
 
+pub pair-requires-clause-order : goal.pair-requires-clause-order
+pair-requires-clause-order g c κs within =
+    let e = c.in_ok-parts.ensures in let f = c.in_ok-floor.floor in
+    ap (λ t. t.order) (sym (floor_setup (g.A.PathAlgebra.meaning c.args.algebra) f
+    (setup_of c.args.algebra c.args.graph.now c.args.source c.args.plan.now c.args.order)
+    c.in_ok-parts.parts.items
+    c.plan_holds.ensures.within.0 e.parts (subst (All (λ p. p.setup ≡ f.setup)) c.deref.ensures.value c.in_ok-floor.ensures.floor.1)))
+
 pub returns : goal.returns
 returns g c =
     are_opened g.A.PathAlgebra.meaning c.in_ok-floor.floor
     (setup_of c.args.algebra c.args.graph.now c.args.source c.args.plan.now c.args.order)
     c.in_ok-parts.parts.items c.in_ok-stations.stations.items
-    c.plan_holds.ensures.within.0 c.in_ok-parts.ensures.parts (subst (All (λ p. p.setup ≡ c.in_ok-floor.floor.setup)) c.deref.ensures.value c.in_ok-floor.ensures.floor.1) c.in_ok-stations.ensures
+    c.plan_holds.ensures.within.0 c.in_ok-parts.ensures.parts (subst (All (λ p. p.setup ≡ c.in_ok-floor.floor.setup)) c.deref.ensures.value c.in_ok-floor.ensures.floor.1) c.in_ok-stations.ensures c.in_ok-floor.ensures.unheld

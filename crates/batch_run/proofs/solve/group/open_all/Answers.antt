@@ -18,7 +18,7 @@ loop-source-preserved g c =
       lists = rw was.lists at c.in_ok-push-2.ensures.len;
       opened = λ q s f v low. one_more
           (λ (q : ℕ) (f : FloorData g.row.A.Denot) (v : Vec (StationData g.row.A.Denot g.row.A-Value.Denot) Global). (s : ℕ) →
-          AreOpened g.A.PathAlgebra.meaning (setup_of c.args.batch.now.algebra c.args.batch.now.graph.now (get_or c.args.sources.now q s) c.args.plan.now c.args.pace.order) f v.items)
+          AreOpened g.A.PathAlgebra.meaning (setup_of c.args.batch.now.algebra c.args.batch.now.graph.now (get_or c.args.sources.now q s) c.args.plan.now c.args.pace.order) c.args.pace.ahead f v.items)
           i c.loop-source.floors.items c.push.new.self.items c.loop-source.lists.items c.push-in-loop-source.new.self.items c.in-Ok.floor c.in-Ok.stations
           c.in_ok-push.ensures.items c.in_ok-push-2.ensures.items lf lq
           (λ s. let at : get_or c.args.sources.now i s ≡ c.source-item.result = get_or_default c.args.sources.now i s c.source-item.result c.loop-source-test.true

@@ -7,6 +7,6 @@ abbrev pub invariant-loop-source : goal.invariant-loop-source
 invariant-loop-source g l = record {
   floors : vec_len l.floors ≡ l.source-index;
   lists : vec_len l.lists ≡ l.source-index;
-  opened : (q : ℕ) (s : ℕ) (f : _) (v : _) → q < l.source-index → AreOpened g.A.PathAlgebra.meaning (setup_of l.batch.algebra l.batch.graph.now (get_or l.sources q s) l.plan l.pace.order)
+  opened : (q : ℕ) (s : ℕ) (f : _) (v : _) → q < l.source-index → AreOpened g.A.PathAlgebra.meaning (setup_of l.batch.algebra l.batch.graph.now (get_or l.sources q s) l.plan l.pace.order) l.pace.ahead
       (get_or l.floors.items q f) (get_or l.lists.items q v).items;
 }

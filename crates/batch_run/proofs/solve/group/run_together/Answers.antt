@@ -29,7 +29,7 @@ loop-k-init g c =
     record {
       floors = omega (arith, f);
       lists = omega (arith, l);
-      each = λ q s e v low. rw (← c.of-pace.ensures)
+      each = λ q s e v low. rw (← c.of-pace.ensures.order)
           (run_ended g.A.PathAlgebra.meaning (λ q. setup_of c.args.batch.now.algebra c.args.batch.now.graph.now (get_or c.args.sources.now q s) c.args.plan.now c.of-pace.result.order)
           c.in_ok-floors.floors.items c.in_ok-floors.opened.items
           (length c.args.sources.now) f (λ q f v low. c.in_ok-floors.ensures.opened q s f v low) c.in_ok-lists.lists.items
@@ -94,24 +94,28 @@ returns-in_err-lists-clause-stops g c =
     let batch = c.args.batch.now in
     rw (p.1, p.2) (elim c.in_err-lists.ensures.fault [
       | inl memory ↦ inl memory
-      | inr stop ↦ inr (record {
-        count = length c.args.sources.now;
-        few = c.requires.width;
-        setup = λ q. setup_of batch.algebra batch.graph.now (get_or c.args.sources.now q 0) c.args.plan.now c.of-pace.result.order;
-        each = λ q low. record {
-          source = get_or c.args.sources.now q 0;
-          is_vertex = c.requires.sources q 0 low;
-          roads = c.roads_hold.ensures;
-          plan = c.args.plan.now;
-          is_plan = c.plan_holds.ensures.plan;
-          cut = c.requires.plan;
-          setup_is = ap (λ o. setup_of batch.algebra batch.graph.now (get_or c.args.sources.now q 0) c.args.plan.now o) c.of-pace.ensures;
-        };
-        floors = c.in_ok-floors.floors.items;
-        floors_are = floors_are g at;
-        diffusions = c.in_ok-floors.opened.items;
-        diffusions_are = (let e = c.in_ok-floors.ensures.stations in search rules);
-        opened = λ q f v low. c.in_ok-floors.ensures.opened q 0 f v low;
-        stop = rw c.as_slice.ensures.value at stop;
-      })
+      | inr stop ↦ inr (
+        record {
+          ahead = c.of-pace.result.ahead;
+          count = length c.args.sources.now;
+          few = c.requires.width;
+          setup = λ q. setup_of batch.algebra batch.graph.now (get_or c.args.sources.now q 0) c.args.plan.now c.of-pace.result.order;
+          each = λ q low. record {
+            source = get_or c.args.sources.now q 0;
+            is_vertex = c.requires.sources q 0 low;
+            roads = c.roads_hold.ensures;
+            plan = c.args.plan.now;
+            is_plan = c.plan_holds.ensures.plan;
+            cut = c.requires.plan;
+            setup_is = ap (λ o. setup_of batch.algebra batch.graph.now (get_or c.args.sources.now q 0) c.args.plan.now o) c.of-pace.ensures.order;
+          };
+          floors = c.in_ok-floors.floors.items;
+          floors_are = floors_are g at;
+          diffusions = c.in_ok-floors.opened.items;
+          diffusions_are = (let e = c.in_ok-floors.ensures.stations in search rules);
+          opened = λ q f v low. c.in_ok-floors.ensures.opened q 0 f v low;
+          stop = rw c.as_slice.ensures.value at stop;
+        },
+        c.of-pace.ensures.ahead,
+      )
     ])

@@ -32,13 +32,14 @@ returns-clause-turned g c =
     })
     (record { part = c.fill_all-published.new.part; seat = c.look_for_end-self-inside.new.seat; ended = c.look_for_end-self-inside.result })) c.self.view_is
     (turned g.A.PathAlgebra.meaning laws.lawful c.args.floor.now c.args.budget c.handle_all-handled.result.0 c.read_all-taken.result
-    c.fill_all-published.result c.handle_all-handled.result.1 h.all.0 h.all.2 (record { part = i.part; seat = i.seat; ended = i.ended })
+    c.fill_all-published.result c.handle_all-handled.result.1 h.all.0 (record { part = i.part; seat = i.seat; ended = i.ended })
     c.read_all-taken.new.seat c.fill_all-published.new.seat c.look_for_end-self-inside.new.seat c.read_all-taken.new.part c.handle_all-handled.new.part
     c.fill_all-published.new.part c.look_for_end-self-inside.result c.if-self.false
-    c.read_all-taken.ensures.part h.setup h.shard h.taken h.events h.budget h.all.1 h.all.3 h.alone e.announced e.ready c.read_all-taken.ensures.own c.read_all-taken.ensures.tried c.fill_all-published.ensures.tried e.looked)
+    c.read_all-taken.ensures.part h.setup h.shard h.taken h.events h.budget h.all.1 h.all.2 h.alone h.held e.announced e.ready c.read_all-taken.ensures.own c.read_all-taken.ensures.tried c.fill_all-published.ensures.tried e.looked)
 
 pub invariant_of-self : goal.invariant_of-self
 invariant_of-self g c = let e = c.look_for_end-self-inside.ensures in (
   record { shard = e.ready.shard; shows = e.ready.shows; free = e.ready.free; known = e.known; over = λ o. record { seen = e.seen o; ended = e.ended o; part = e.over o } },
   c.self.invariant.1 ∙ ap (λ s. s.part.setup.plan) c.self.view_is ∙ ap (λ t. t.plan) (c.requires.setup ∙ sym e.ready.setup),
+  c.self.invariant.2 ∙ ap (λ s. s.part.setup.order) c.self.view_is ∙ ap (λ t. t.order) (c.requires.setup ∙ sym e.ready.setup),
 )

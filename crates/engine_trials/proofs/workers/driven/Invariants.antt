@@ -1,0 +1,6 @@
+use Rattle.std.specs.List.{All}
+use Rattle.worker_fleet.specs.Turns.{IsOnItsFloor}
+use Rattle.engine_trials.proofs.workers.driven.Given as goal
+
+abbrev pub invariant-loop : goal.invariant-loop
+invariant-loop g l = All (IsOnItsFloor l.floors) l.stations.items

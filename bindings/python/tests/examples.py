@@ -1,4 +1,6 @@
 """What several tests ask about, worked out by hand."""
+import importlib
+
 import diffuse
 
 NONE = diffuse.UNREACHED
@@ -25,3 +27,14 @@ except ImportError:
 def listed(tree):
     """The lists of a tree as plain lists."""
     return [list(map(int, column)) for column in (tree.values, tree.hops, tree.parents)]
+
+
+def module(name):
+    """An installed module, or None."""
+    try:
+        return importlib.import_module(name)
+    except ImportError:
+        return None
+
+
+geopandas, shapely, matplotlib, scipy = map(module, ("geopandas", "shapely.geometry", "matplotlib", "scipy"))

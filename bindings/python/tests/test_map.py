@@ -14,8 +14,7 @@ from unittest import mock
 
 import diffuse
 from diffuse import Network
-from diffuse.connected import largest_part
-from diffuse.osm import direction_of, read_ways
+from diffuse.osm import largest_part, read_ways
 
 from .examples import networkx
 from .test_network import WithFiles
@@ -38,21 +37,21 @@ class Maps(WithFiles):
         """Places are crossings, ends, and the middle of the ring; not 3, where Harbour Road goes on over the end of a way, nor 14,
         whose other road is private."""
         island = Network.read_osm(ISLAND)
-        self.assertEqual(sorted(island.names), [1, 2, 4, 6, 7, 9, 10, 12, 13, 18, 20])
-        self.assertEqual((len(island.roads.table), len(island.roads.tails), list(island.costs)), (14, 23, ["seconds", "metres"]))
-        self.assertEqual(island.places.points[13], (0.008, 0.004))
+        self.assertEqual(sorted(island.places), [1, 2, 4, 6, 7, 9, 10, 12, 13, 18, 20])
+        self.assertEqual((len(island._roads.table), len(island._roads.tails), list(island.costs)), (14, 23, ["seconds", "metres"]))
+        self.assertEqual(island.coordinates.points[13], (0.008, 0.004))
 
     def test_ways(self):
         with without_osmium():
-            plain = read_ways(ISLAND, diffuse.DRIVING.__contains__)
+            plain, _ = read_ways(ISLAND, diffuse.DRIVING)
         self.assertEqual([way.number for way in plain], [101, 102, 103, 104, 105, 106, 107, 110, 111, 112])
-        self.assertEqual((plain[4].nodes, plain[4].points, plain[4].one_way), ([10, 11, 2], [(0.001, 0.003), (0.001, 0.0015), (0.001, 0.0)], True))
+        self.assertEqual((plain[4].nodes, plain[4].points, plain[4].kind[3]), ([10, 11, 2], [(0.001, 0.003), (0.001, 0.0015), (0.001, 0.0)], True))
 
     @unittest.skipUnless(osmium, "pyosmium is not installed")
     def test_both_readers_see_the_same(self):
         with without_osmium():
-            plain = read_ways(ISLAND, diffuse.WALKING.__contains__)
-        self.assertEqual(read_ways(ISLAND, diffuse.WALKING.__contains__), plain)
+            plain = read_ways(ISLAND, diffuse.WALKING)
+        self.assertEqual(read_ways(ISLAND, diffuse.WALKING), plain)
 
     def test_a_route_by_streets(self):
         """3 units of Harbour Road, 2 sides of the roundabout, 7 units of Coast Road, each piece in hundredths and tenths."""
@@ -73,7 +72,7 @@ class Maps(WithFiles):
         self.assertEqual(island.route(10, 1, by="seconds").cells("street"), ["Church Lane", "Harbour Road"])
         self.assertEqual(island.route(1, 10, by="seconds").places, [1, 2, 4, 6, 7, 9, 10])
         self.assertEqual(island.route(9, 7, by="seconds").places[1], 13)
-        walk = Network.read_osm(ISLAND, diffuse.WALKING, one_ways=False)
+        walk = Network.read_osm(ISLAND, diffuse.WALKING)
         self.assertEqual((walk.route(2, 10, by="metres").cells("street"), walk.route(2, 10, by="metres").cost), (["Church Lane"], 333.6))
         self.assertEqual((walk.route(1, 10, by="seconds").cells("street"), walk.route(1, 10, by="seconds").cost), (["Beach Walk"], 320.24))
 
@@ -81,29 +80,31 @@ class Maps(WithFiles):
         for tags, wanted in (({}, 0), ({"oneway": "yes"}, 1), ({"oneway": "-1"}, -1), ({"oneway": "no"}, 0), ({"highway": "motorway"}, 1),
                              ({"highway": "motorway", "oneway": "no"}, 0), ({"junction": "roundabout"}, 1), ({"junction": "roundabout", "oneway": "-1"}, -1),
                              ({"oneway": "reversible"}, 0), ({"highway": "primary", "oneway": "1"}, 1)):
-            self.assertEqual(direction_of(tags), wanted, tags)
+            self.assertEqual(diffuse.DRIVING.direction(tags), wanted, tags)
 
     def test_speeds(self):
         """At 10 m a second 333.6 and 778.4 metres take 33.36 and 77.84 seconds, at 5 m a second two sides 62.90."""
-        island = Network.read_osm(ISLAND, {"secondary": "36", "tertiary": 18, "primary": 36})
-        self.assertEqual((island.route(1, 13, by="seconds").cost, sorted(island.names)), (174.1, [1, 4, 6, 13]))
-        for speeds, kind, message in ((5, diffuse.InputError, "speeds: classes of roads with km/h are needed, as in {'primary': 70}, not 5"),
+        island = Network.read_osm(ISLAND, diffuse.DRIVING.but(speeds={"secondary": "36", "tertiary": 18, "primary": 36}), connected=False)
+        self.assertEqual((island.route(1, 13, by="seconds").cost, sorted(island.places)), (174.1, [1, 4, 6, 13]))
+        for speeds, kind, message in ((5, diffuse.InputError, "speeds: words with km/h are needed, as in {'primary': 70}, not 5"),
                                       ({"primary": 0}, diffuse.OutOfRange, "the speed of primary: 0 is not above 0"),
                                       ({"secondary": "1e-6"}, diffuse.OutOfRange, "island.osm, road 1, column seconds: 1200906866.52 times the scale 100 is not from 0 to 4294967295"),
                                       ({"primary": "fast"}, diffuse.NotANumber, "the speed of primary: 'fast' is no number")):
-            self.refused(kind, message, lambda: Network.read_osm(ISLAND, speeds))
+            self.refused(kind, message, lambda: Network.read_osm(ISLAND, diffuse.DRIVING.but(speeds=speeds), connected=False))
 
     def test_the_largest_part(self):
         """Without Hospital Road and High Street nothing leads out of 9 and its ring, since Market Street leads in only, and nothing
         to 10."""
         text = ISLAND.read_text().replace('v="residential"/><tag k="name" v="Hospital Road"', 'v="none"/><tag k="name" v="Hospital Road"')
         path = self.file("parts.osm", text.replace("living_street", "none"))
-        self.assertEqual(sorted(Network.read_osm(path, connected=True).names), [1, 2, 4, 6, 7, 12, 13, 20])
-        self.assertEqual(sorted(Network.read_osm(ISLAND, connected=True).names), sorted(Network.read_osm(ISLAND).names))
+        self.assertEqual(sorted(Network.read_osm(path).places), [1, 2, 4, 6, 7, 12, 13, 20])
+        self.assertEqual(Network.read_osm(path).report.cut_off, 4)
+        self.assertEqual(len(Network.read_osm(path, connected=False).places), 11)
+        self.assertEqual(sorted(Network.read_osm(ISLAND).places), sorted(Network.read_osm(ISLAND, connected=False).places))
 
     def test_all_nodes(self):
         island = Network.read_osm(ISLAND, simplify=False)
-        self.assertEqual(sorted(island.names), [*range(1, 15), 17, 18, 19, 20])
+        self.assertEqual(sorted(island.places), [*range(1, 15), 17, 18, 19, 20])
         route = island.route(1, 13, by="metres")
         self.assertEqual((route.places, route.total("metres")), ([1, 2, 3, 4, 5, 6, 12, 13], 1426.6))  # 3 * 111.2, 2 * 157.3, 333.6, 444.8
 
@@ -114,8 +115,8 @@ class Maps(WithFiles):
         self.assertEqual(island.tree(HOSPITAL, by="seconds").sources, [13])
         self.assertEqual(island.tree([HOSPITAL, 1, HARBOUR], by="seconds").sources, [13, 1, 1])
         self.assertEqual(island.table([HARBOUR], [HOSPITAL, 4], by="seconds"), [[82.68, 20.01]])
-        self.refused(diffuse.NoVertex, "no place is within 1000 m of (1.0, 0.0); the nearest is 110306 m away; within= takes others", lambda: island.route(HARBOUR, (1.0, 0.0), by="seconds"))
-        self.assertEqual(island.nearest(1, 0, within=200000), 12)
+        self.refused(diffuse.NoVertex, "no place is within 1000 m of (1.0, 0.0); the nearest is 110306 m away; radius= takes others", lambda: island.route(HARBOUR, (1.0, 0.0), by="seconds"))
+        self.assertEqual(island.nearest(1, 0, radius=200000), 12)
 
     def test_who_reaches_the_hospital(self):
         near = Network.read_osm(ISLAND).isochrone(HOSPITAL, by="seconds", limits=[20, 40, 60, 80], towards=True)
@@ -131,7 +132,7 @@ class Maps(WithFiles):
         for context in (contextlib.nullcontext, without_osmium):
             for name in ("island.osm.gz", "island.osm.bz2"):
                 with context():
-                    self.assertEqual(len(Network.read_osm(f"{self._room.name}/{name}").names), 11)
+                    self.assertEqual(len(Network.read_osm(f"{self._room.name}/{name}").places), 11)
 
     def test_files_that_are_no_maps(self):
         self.assertRaises(OSError, Network.read_osm, "/nowhere/island.osm")
@@ -145,9 +146,11 @@ class Maps(WithFiles):
             Network.read_osm(self.file("a.osm.pbf", ""))
 
     def test_a_map_without_roads(self):
-        island = Network.read_osm(self.file("empty.osm", "<osm version='0.6'></osm>"))
-        self.assertEqual((len(island.names), len(island.roads.tails)), (0, 0))
-        self.assertRaises(diffuse.NoVertex, island.nearest, 0, 0)
+        path = self.file("empty.osm", "<osm version='0.6'></osm>")
+        for context in (contextlib.nullcontext, without_osmium):
+            with context():
+                self.refused(diffuse.InputError, f"{path}: no road for driving: of 0 ways of its classes, 0 are closed to it, 0 are left out by its filter, "
+                             "0 lack nodes in the file", lambda: Network.read_osm(path))
 
     def test_nodes_that_are_cut_off(self):
         """A way of an extract may name nodes that the extract does not have, or not on the earth, and a node twice."""
@@ -156,7 +159,8 @@ class Maps(WithFiles):
             "<way id='6' version='1'><nd ref='2'/><nd ref='8'/><tag k='highway' v='residential'/></way></osm>"
         for context in (contextlib.nullcontext, without_osmium):
             with context():
-                self.assertEqual(Network.read_osm(self.file("cut.osm", text)).route(1, 2, by="metres").cost, 111.2)
+                with self.assertWarnsRegex(diffuse.MapWarning, "2 nodes of 2 ways are not in the file"):
+                    self.assertEqual(Network.read_osm(self.file("cut.osm", text)).route(1, 2, by="metres").cost, 111.2)
 
 
 class Parts(unittest.TestCase):
@@ -185,14 +189,14 @@ class Joining(WithFiles):
             tags = {"highway": "residential", "name": name, **tags}
             text += f"<way id='{number}' version='1'>" + "".join(f"<nd ref='{n}'/>" for n in nodes)
             text += "".join(f"<tag k='{k}' v='{v}'/>" for k, v in tags.items()) + "</way>"
-        return Network.read_osm(self.file("ways.osm", text + "</osm>"))
+        return Network.read_osm(self.file("ways.osm", text + "</osm>"), connected=False)
 
     def roads(self, *ways):
         """The ends of its roads, with what lies between."""
         network = self.network(*ways)
-        rows = {row: arc for arc, row in reversed(list(enumerate(network.roads.rows)))}
-        return sorted((network.names[network.roads.tails[arc] - 1], network.names[network.roads.heads[arc] - 1],
-                       [round(1000 * x) for x, _ in network.roads.shapes[row]]) for row, arc in rows.items())
+        rows = {row: arc for arc, row in reversed(list(enumerate(network._roads.rows)))}
+        return sorted((network.places[network._roads.tails[arc] - 1], network.places[network._roads.heads[arc] - 1],
+                       [round(1000 * x) for x, _ in network._roads.shapes[row]]) for row, arc in rows.items())
 
     def test_a_chain_of_ways_is_one_road(self):
         self.assertEqual(self.roads(([3, 2], "A", {}), ([4, 3], "A", {}), ([1, 2], "A", {})), [(4, 1, [3, 2])])

@@ -14,32 +14,30 @@ WEIGHTS = [weight for _, _, weight in ARCS]
 
 
 def columns(near):
-    """The lists as plain ones, with vertices of equal value by their numbers."""
-    rows = sorted(zip(*(map(int, column) for column in (near.values, near.vertices, near.hops, near.parents))))
-    return [list(column) for column in zip(*rows)]
+    """The lists as plain ones."""
+    return [list(map(int, column)) for column in (near.values, near.vertices, near.hops, near.parents)]
 
 
 class Nearest(unittest.TestCase):
     def test_the_best_first(self):
         near = Graph(5, ARCS).near(1)
-        self.assertEqual([list(map(int, column)) for column in (near.vertices, near.values, near.hops, near.parents)],
-                         [[1, 3, 2, 4], [0, 1, 3, 8], [0, 1, 2, 3], [0, 1, 3, 2]])
-        self.assertEqual((len(near), near.line(2), near.line(5), near.reaches(5)), (4, (3, 2, 3), (NONE, 0, 0), False))
+        self.assertEqual(columns(near), [[0, 1, 3, 8], [1, 3, 2, 4], [0, 1, 2, 3], [0, 1, 3, 2]])
+        self.assertEqual((len(near), near.entry(2), near.entry(5), near.reaches(5)), (4, (3, 2, 3), (NONE, 0, 0), False))
         self.assertEqual(near.route(4), Route(8, 3, [1, 3, 2, 4]))
         self.assertRaises(diffuse.NoRoute, near.route, 5)
-        self.assertRaises(diffuse.NoVertex, near.line, 6)
+        self.assertRaises(diffuse.NoVertex, near.entry, 6)
 
     def test_a_limit_and_other_algebras(self):
         graph = Graph(5, ARCS)
         for _ in range(2):
-            self.assertEqual(columns(graph.near(1, 5)), [[0, 1, 3], [1, 3, 2], [0, 1, 2], [0, 1, 3]])
+            self.assertEqual(columns(graph.near(1, limit=5)), [[0, 1, 3], [1, 3, 2], [0, 1, 2], [0, 1, 3]])
             self.assertEqual(columns(graph.near([4, 5], limit=4)), [[0, 0, 3, 4], [4, 5, 1, 3], [0, 0, 1, 2], [0, 0, 5, 1]])
             self.assertEqual(list(map(int, graph.near(1, algebra="widest").values)), [2**32, 4, 4, 1])
             self.assertEqual(columns(graph.near(1, algebra="hops")), [[0, 1, 1, 2], [1, 2, 3, 4], [0, 1, 1, 2], [0, 1, 1, 2]])
             self.assertEqual(len(graph.near([])), 0)
             graph.factor()
-        self.assertRaises(diffuse.NoAlgebra, graph.near, 1, 5, "hops")
-        self.assertRaises(diffuse.NoAlgebra, graph.near, 1, 5, diffuse.Algebra.SHORTEST)
+        self.assertRaises(diffuse.NoAlgebra, graph.near, 1, "hops", 5)
+        self.assertRaises(diffuse.NoAlgebra, graph.near, 1, diffuse.Algebra.SHORTEST, 5)
         self.assertRaises(diffuse.NoVertex, graph.near, 6)
 
     def test_beside_trees(self):
@@ -50,12 +48,13 @@ class Nearest(unittest.TestCase):
             sources = [lot.randint(1, count) for _ in range(lot.randint(0, 3))]
             for algebra in diffuse.ALGEBRAS:
                 limit = 12 if algebra == "within" else None
-                near, tree = graph.near(sources, limit, algebra), graph.tree(sources, algebra, limit)
+                near, tree = graph.near(sources, algebra, limit), graph.tree(sources, algebra, limit)
                 self.assertEqual(near.tree(), tree)
-                self.assertEqual(dict(near.lines()), dict(tree.lines()))
+                self.assertEqual(dict(near.entries()), dict(tree.entries()))
                 self.assertEqual(near, pickle.loads(pickle.dumps(near)))
-                values = list(map(int, near.values))
-                self.assertEqual(values, sorted(values, reverse=algebra in ("widest", "reliable")))
+                sign = -1 if algebra in ("widest", "reliable") else 1
+                order = [(sign * value, hops, vertex) for value, vertex, hops, _ in zip(*columns(near))]
+                self.assertEqual(order, sorted(order))
 
     def test_it_costs_what_it_returns(self):
         """Without a full tree, by one call for a few vertices and two for many."""
@@ -64,7 +63,7 @@ class Nearest(unittest.TestCase):
         only = mock.Mock(spec=["diffuse_graph_near"])
         only.diffuse_graph_near.side_effect = lambda *words: calls.append(1) or found.diffuse_graph_near(*words)
         with mock.patch("diffuse.graph.library", return_value=only):
-            self.assertEqual((list(map(int, graph.near(2, 9).vertices)), len(calls)), ([2, 3, 4, 5], 1))
+            self.assertEqual((list(map(int, graph.near(2, limit=9).vertices)), len(calls)), ([2, 3, 4, 5], 1))
             self.assertEqual((len(graph.near(1)), len(calls)), (many, 3))
 
     def test_isochrones_have_no_whole_tree(self):
@@ -72,7 +71,7 @@ class Nearest(unittest.TestCase):
         with mock.patch.object(Graph, "tree", side_effect=AssertionError):
             isochrone = network.isochrone(["B", "E"], "m", [2, 4])
             self.assertEqual(isochrone.within(4), ["B", "E", "A", "C", "D"])
-        self.assertIsInstance(isochrone.lines, Near)
+        self.assertIsInstance(isochrone.answer, Near)
         self.assertEqual([isochrone.source(place) for place in "ABCDE"], ["B", "B", "B", "E", "E"])
         self.assertEqual(isochrone.route("D").places, ["E", "D"])
         self.assertEqual(isochrone.tree, network.tree(["B", "E"], "m", "within", 4).tree)

@@ -4,16 +4,14 @@ import unittest
 from unittest import mock
 
 import diffuse
-from diffuse import Network, Places
-from diffuse.geometry import at_distances, metres, on_a_plane, part_of
-from diffuse.nearest import Grid, grouped
+from diffuse import Network
+from diffuse.geometry import Points, at_distances, grouped, metres, on_a_plane, part_of
 
 from .test_network import WithFiles
 
 
 def grid(points, degrees=True):
-    places = Places(dict(enumerate(points)), degrees)
-    return Grid(places, places.points)
+    return Points(points, degrees)
 
 
 class Nearest(unittest.TestCase):
@@ -21,7 +19,7 @@ class Nearest(unittest.TestCase):
         distance, found = metres if degrees else on_a_plane, grid(points, degrees)
         for question in questions:
             wanted = min(range(len(points)), key=lambda place: (distance(question, points[place]), place))
-            place, way = found.nearest(question)
+            way, place = found.nearest(question)
             self.assertEqual(place, wanted, question)
             self.assertAlmostEqual(way, distance(question, points[wanted]), places=5)
 
@@ -40,14 +38,14 @@ class Nearest(unittest.TestCase):
         self.compare([(179.99, -17), (-179.99, -17.5), (170, -17), (-170, -17)], [(-179.995, -17), (179.999, -17.4), (-180, 0)], True)
 
     def test_without_numpy(self):
-        with mock.patch("diffuse.nearest.np", None):
+        with mock.patch("diffuse.geometry.np", None):
             self.assertEqual(grouped([2, 0, 2, 1, 0], 4), ([0, 2, 3, 5, 5], [1, 4, 3, 0, 2]))
             self.compare([(1, 1), (2, 2), (2, 1)], [(1.4, 1), (1.6, 1), (1.6, 1.6)], True)
         self.assertEqual(grouped([2, 0, 2, 1, 0], 4), ([0, 2, 3, 5, 5], [1, 4, 3, 0, 2]))
 
     def test_equal_distances(self):
-        self.assertEqual(grid([(0, 1), (0, -1), (0, -1)], False).nearest((0, 0)), (0, 1))
-        self.assertEqual(grid([]).nearest((0, 0)), (None, float("inf")))
+        self.assertEqual(grid([(0, 1), (0, -1), (0, -1)], False).nearest((0, 0)), (1, 0))
+        self.assertEqual(grid([]).nearest((0, 0)), (float("inf"), -1))
 
 
 class Lines(unittest.TestCase):
@@ -58,10 +56,10 @@ class Lines(unittest.TestCase):
 
     def test_parts(self):
         line = [(0, 0), (4, 0), (4, 0), (4, 4)]
-        self.assertEqual(part_of(line, 0.25, 0.75), [(2, 0), (4, 0), (4, 0), (4, 2)])
-        self.assertEqual(part_of(line, 0, 0.5), [(0, 0), (4, 0)])
-        self.assertEqual(part_of(line, 0.5, 1), [(4, 0), (4, 4)])
-        self.assertEqual(part_of([(1, 1), (1, 1)], 0, 1), [(1, 1), (1, 1)])
+        self.assertEqual(part_of(line, 0.25, 0.75, False), [(2, 0), (4, 0), (4, 0), (4, 2)])
+        self.assertEqual(part_of(line, 0, 0.5, False), [(0, 0), (4, 0)])
+        self.assertEqual(part_of(line, 0.5, 1, False), [(4, 0), (4, 4)])
+        self.assertEqual(part_of([(1, 1), (1, 1)], 0, 1, True), [(1, 1), (1, 1)])
 
     def test_points_along_a_line(self):
         self.assertEqual(at_distances([(0, 0), (1, 0), (1, .2)], 0.5), [(0, 0), (1 / 3, 0), (2 / 3, 0), (1, 0), (1, .2)])
@@ -76,7 +74,7 @@ class InNetworks(WithFiles):
                                   ((0, "north"), diffuse.NotANumber, "latitude: 'north' is no number"), ((float("nan"), 0), diffuse.NotANumber, "longitude: nan is no number")):
             with self.assertRaisesRegex(kind, message.replace("(", "[(]").replace(")", "[)]")):
                 network.nearest(*at)
-        self.assertRaisesRegex(diffuse.OutOfRange, "within: 0 is not above 0", network.nearest, 10, 50, 0)
+        self.assertRaisesRegex(diffuse.OutOfRange, "radius: 0 is not above 0", network.nearest, 10, 50, 0)
         self.assertRaisesRegex(diffuse.InputError, "which this network does not have", self.network(places=None).nearest, 10, 50)
 
     def test_a_name_comes_before_a_point(self):

@@ -51,9 +51,9 @@ class WithFiles(unittest.TestCase):
 class Questions(WithFiles):
     def test_places_and_arcs(self):
         network = self.network()
-        self.assertEqual(list(network.names), ["A", "B", "C", "D", "Island"])
-        self.assertEqual(len(network.roads.tails), 8)
-        self.assertEqual([network.vertex(name) for name in network.names], [1, 2, 3, 4, 5])
+        self.assertEqual(list(network.places), ["A", "B", "C", "D", "Island"])
+        self.assertEqual(len(network._roads.tails), 8)
+        self.assertEqual([network.vertex(name) for name in network.places], [1, 2, 3, 4, 5])
         self.assertEqual(repr(network), "<diffuse.Network of 5 places and 8 arcs, by minutes, euro, lanes>")
 
     def test_a_route_and_its_other_costs(self):
@@ -147,8 +147,8 @@ class Questions(WithFiles):
         network = self.network()
         before = network.tree("C", by="minutes", towards=True)
         network.factor("minutes", towards=True)
-        self.assertEqual(network.graph("minutes", True)._handles._factored, {diffuse.Algebra.SHORTEST})
-        self.assertEqual(network.graph("minutes")._handles._factored, set())
+        self.assertEqual(network.graph("minutes", True)._handles.pool.factored, {diffuse.Algebra.SHORTEST})
+        self.assertEqual(network.graph("minutes")._handles.pool.factored, set())
         self.assertEqual(network.tree("C", by="minutes", towards=True), before)
 
     def test_a_sum_of_costs_is_one_more_cost(self):
@@ -172,9 +172,9 @@ class Questions(WithFiles):
         table = {"a": "ABCDE", "b": "BCDEF", "m": [0.5, "1.5", Decimal("2.5"), 3.5, "0.4" + 120 * "9"]}
         table = {name: list(column) for name, column in table.items()}
         network = Network.from_table(table, tail="a", head="b", costs={"m": 1}, rounding=True)
-        self.assertEqual(list(network.costs["m"].weights), [1, 2, 3, 4, 0])
+        self.assertEqual(list(network._roads.costs["m"].weights), [1, 2, 3, 4, 0])
         finer = Network.from_table({**table, "m": [0.5, 1.5, 2.5, 3.5, 0.4]}, tail="a", head="b", costs={"m": 10})
-        self.assertEqual(list(finer.with_sum("n", {"m": 1}, scale=1, rounding=True).costs["n"].weights), [1, 2, 3, 4, 0])
+        self.assertEqual(list(finer.with_sum("n", {"m": 1}, scale=1, rounding=True)._roads.costs["n"].weights), [1, 2, 3, 4, 0])
 
     def test_sums_that_are_refused(self):
         network = self.network()
@@ -192,7 +192,7 @@ class Questions(WithFiles):
         self.refused(diffuse.NoVertex, "there is no place 'Z'", lambda: network.route("A", "Z", by="minutes"))
         self.refused(diffuse.NoVertex, "there is no place 'Z'", lambda: network.tree(["A", "Z"], by="minutes"))
         self.refused(diffuse.InputError, "there is no cost 'hours'; there are minutes, euro, lanes", lambda: network.route("A", "B", by="hours"))
-        self.refused(diffuse.NoRoute, "no route leads from A to Island", lambda: network.route("A", "Island", by="minutes"))
+        self.refused(diffuse.NoRoute, "no route leads from A to Island: from there 4 of 5 places are reached", lambda: network.route("A", "Island", by="minutes"))
 
     def test_numbers_and_texts_as_names(self):
         texts = Network.from_table({"a": ["426"], "b": ["7"], "m": [1]}, tail="a", head="b", costs={"m": 1})
@@ -230,7 +230,7 @@ class Tables(WithFiles):
         faulty("50.01", "91", diffuse.OutOfRange, "places.csv, line 4, column lat: 91.0 is not from -90 to 90; degrees=False takes others")
         faulty("B,10.01", "B,east", diffuse.NotANumber, "places.csv, line 3, column lon: 'east' is no number")
         faulty("Island", "A", diffuse.InputError, "places.csv, line 6, column place: 'A' comes twice")
-        self.assertEqual(self.network(places=PLACES.replace("50.01", "5001"), degrees=False).places.points["C"], (10.01, 5001.0))
+        self.assertEqual(self.network(places=PLACES.replace("50.01", "5001"), degrees=False).coordinates.points["C"], (10.01, 5001.0))
 
     def test_decimals_are_exact(self):
         """0.1 + 0.2 of floats is not 0.3, and 2.3 times 100 is 229.99999999999997."""
@@ -284,8 +284,8 @@ class Tables(WithFiles):
         self.assertRaisesRegex(diffuse.InputError, "delimiter: None can't be used", read("f,t,m\n", delimiter=None))
 
     def test_all_or_no_roads_lead_back(self):
-        self.assertEqual(len(self.network(both_ways=True).roads.tails), 12)
-        self.assertEqual(len(self.network(both_ways=False).roads.tails), 6)
+        self.assertEqual(len(self.network(both_ways=True)._roads.tails), 12)
+        self.assertEqual(len(self.network(both_ways=False)._roads.tails), 6)
 
     def test_columns(self):
         words = {"tail": "a", "head": "b"}
@@ -318,8 +318,8 @@ class OtherSources(WithFiles):
         network = Network.read_dimacs(gr, co)
         route = network.route(1, 4, by="weight")
         self.assertEqual((route.places, route.cost), ([1, 3, 2, 4], 8.0))
-        self.assertEqual(network.places.points[2], (-72.998, 40.000002))
-        self.assertEqual(network.roads.table.where(route.arcs[0], "weight"), f"{gr}, line 4, column weight")
+        self.assertEqual(network.coordinates.points[2], (-72.998, 40.000002))
+        self.assertEqual(network._roads.table.where(route.arcs[0], "weight"), f"{gr}, line 4, column weight")
         self.assertRaises(diffuse.TooFewArcs, Network.read_dimacs, self.file("bad.gr", "p sp 2 1\n"))
 
     def test_faults_of_co_texts(self):
@@ -344,8 +344,8 @@ class OtherSources(WithFiles):
         graph.add_edge("A", "B", minutes=1.5)
         graph.add_node("C", x=10.0, y=50.0)
         network = Network.from_networkx(graph, costs={"minutes": 10})
-        self.assertEqual((network.route("A", "B", by="minutes").cost, list(network.names)), (1.5, ["A", "B", "C"]))
-        self.assertEqual(network.places.points, {"C": (10.0, 50.0)})
+        self.assertEqual((network.route("A", "B", by="minutes").cost, list(network.places)), (1.5, ["A", "B", "C"]))
+        self.assertEqual(network.coordinates.points, {"C": (10.0, 50.0)})
         self.assertRaises(diffuse.NoRoute, network.route, "B", "A", "minutes")
         streets = networkx.Graph([("A", "B", {"minutes": 3})])
         self.assertEqual(Network.from_networkx(streets, costs={"minutes": 1}).route("B", "A", by="minutes").cost, 3)
@@ -359,12 +359,12 @@ class OtherSources(WithFiles):
         graph.add_edge(1, 2, head=3, tail=5, name="Pipe Lane")
         graph.add_edge(2, 4, head=4, tail=6)
         network = Network.from_networkx(graph, costs={"head": 1, "tail": 1})
-        self.assertEqual(list(network.names), [1, 2, 4])
+        self.assertEqual(list(network.places), [1, 2, 4])
         route = network.route(1, 4, by="head")
         self.assertEqual((route.places, route.cost, route.total("tail"), route.cells("name")), ([1, 2, 4], 7, 11, ["Pipe Lane", None]))
         self.assertRaises(diffuse.NoVertex, network.route, 1, 3, "head")
         graph.nodes[1].update(node=10.5, y=50)
-        self.assertEqual(Network.from_networkx(graph, costs={"head": 1}, x="node").places.points, {1: (10.5, 50.0)})
+        self.assertEqual(Network.from_networkx(graph, costs={"head": 1}, x="node").coordinates.points, {1: (10.5, 50.0)})
         self.refused(diffuse.InputError, "graph: a graph of networkx is needed, not [(1, 2)]", lambda: Network.from_networkx([(1, 2)], costs={}))
 
     @unittest.skipUnless(numpy, "numpy is not installed")

@@ -5,10 +5,13 @@ import subprocess
 import sys
 import unittest
 from pathlib import Path
+from tempfile import TemporaryDirectory
+from zipfile import ZipFile
 
 import diffuse
 
 HERE = Path(diffuse.__file__).parent
+BACKEND = Path(__file__).resolve().parents[1] / "backend" / "wheel_of_library.py"
 
 
 class Package(unittest.TestCase):
@@ -20,8 +23,28 @@ class Package(unittest.TestCase):
 
     def test_version(self):
         self.assertRegex(diffuse.version(), r"^1\.\d+\.\d+$")
-        backend = Path(__file__).resolve().parents[1] / "backend" / "wheel_of_library.py"
-        self.assertIn(f'VERSION, TAG = "diffuse", "{diffuse.__version__}"', backend.read_text())
+        self.assertIn(f'NAME, VERSION = "diffuse", "{diffuse.__version__}"', BACKEND.read_text())
+
+    def test_the_wheel(self):
+        """It is for the systems that have what the library needs, with both licences and the extras."""
+        with TemporaryDirectory() as room:
+            library = Path(room, "libdiffuse.so")
+            code = f"import sys; sys.path.insert(0, {str(BACKEND.parent)!r}); import wheel_of_library; print(wheel_of_library.build_wheel({room!r}))"
+            for symbols, tag in ((b"GLIBC_2.2.5 GLIBC_2.14", "manylinux_2_17_x86_64.manylinux2014_x86_64"), (b"GLIBC_2.14 GLIBC_2.34", "manylinux_2_34_x86_64")):
+                library.write_bytes(symbols)
+                name = self.said(code, DIFFUSE_LIBRARY=str(library)).strip()
+                self.assertEqual(name, f"diffuse-{diffuse.__version__}-py3-none-{tag}.whl")
+                with ZipFile(f"{room}/{name}") as wheel:
+                    info = f"diffuse-{diffuse.__version__}.dist-info"
+                    self.assertIn("Apache License", wheel.read(f"{info}/LICENSE-APACHE").decode())
+                    self.assertIn("Permission is hereby granted", wheel.read(f"{info}/LICENSE-MIT").decode())
+                    for line in ("Provides-Extra: pandas", "Requires-Dist: osmium; extra == 'osm'", "Provides-Extra: plot"):
+                        self.assertIn(line, wheel.read(f"{info}/METADATA").decode().split("\n"))
+
+    def test_lines_are_short(self):
+        for path in (*HERE.glob("*.py"), BACKEND):
+            for number, line in enumerate(path.read_text().split("\n"), 1):
+                self.assertLess(len(line), 100, f"{path.name}, line {number}")
 
     def test_a_library_that_is_not_there(self):
         said = self.said("import diffuse; print('imported'); diffuse.Graph(1, [])", DIFFUSE_LIBRARY="/nowhere/libdiffuse.so")

@@ -18,7 +18,7 @@ from diffuse.errors import BY_STATUS
 from .examples import ARCS, listed
 from .test_network import WithFiles
 
-PATIENCE = 30
+PATIENCE = 120
 
 
 def check_a_wrong_tree(_):
@@ -54,9 +54,9 @@ class Pickles(WithFiles):
 
     def test_a_route_brings_its_own_roads(self):
         route = again(self.network().route("B", "D", by="minutes"))
-        self.assertEqual(list(route.network.names), ["B", "C", "D"])
+        self.assertEqual(list(route.network.places), ["B", "C", "D"])
         self.assertEqual((route.cells("road"), route.cost, route.total("euro"), str(route)), (["Lane", "Spur"], 10.95, 0, "B - C - D: 10.95 minutes"))
-        self.assertEqual(route.network.places.points, {"B": (10.01, 50), "C": (10.01, 50.01), "D": (10.02, 50.01)})
+        self.assertEqual(route.network.coordinates.points, {"B": (10.01, 50), "C": (10.01, 50.01), "D": (10.02, 50.01)})
         back = again(self.network().tree("C", by="minutes", towards=True).route("A"))
         self.assertEqual((back.places, back.cells("road")), (["A", "B", "C"], ["Tunnel", "Lane"]))
 
@@ -133,10 +133,17 @@ class Forks(unittest.TestCase):
 
     def test_a_fork_while_a_network_makes_its_graph(self):
         network = Network.from_table({"a": ["A"], "b": ["B"], "m": [1]}, tail="a", head="b", costs={"m": 1})
-        with mock.patch("diffuse.questions.Graph.from_columns", side_effect=lambda *words, **more: time.sleep(0.5)):
+        begun = threading.Event()
+
+        def slowly(*words, **more):
+            begun.set()
+            time.sleep(0.5)
+            return Graph(2, [(1, 2, 1)])
+
+        with mock.patch("diffuse.network.Graph.from_columns", side_effect=slowly):
             thread = threading.Thread(target=lambda: network.graph("m"))
             thread.start()
-            time.sleep(0.1)
+            begun.wait(PATIENCE)
         self.assertEqual(self.child(lambda: network.route("A", "B", by="m").cost == 1), 0)
         thread.join(PATIENCE)
 

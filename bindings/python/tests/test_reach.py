@@ -4,7 +4,7 @@ import unittest
 
 import diffuse
 from diffuse import Network
-from diffuse.reach import parts_of, rings_of
+from diffuse.trees import parts_of, rings_of
 
 from .test_network import WithFiles
 

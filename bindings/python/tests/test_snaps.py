@@ -46,9 +46,9 @@ class Snaps(WithFiles):
 
     def test_the_shapes_of_roads(self):
         island = Network.read_osm(Path(__file__).resolve().parents[3] / "examples/planning/island.osm")
-        for row in range(len(island.roads.table)):
-            arc = list(island.roads.rows).index(row)
-            line = island.roads.line(arc, island.places)
+        for row in range(len(island._roads.table)):
+            arc = list(island._roads.rows).index(row)
+            line = island._roads.line(arc, island.coordinates)
             middle = tuple((a + b) / 2 for a, b in zip(line[0], line[1]))
             found = island.snap(*middle)
             self.assertLess(found.distance, 1e-6)
@@ -67,7 +67,7 @@ class Snaps(WithFiles):
                 narrow, unit = math.cos(math.radians(point[1])), math.radians(1) * 6371008.8
                 flat = [((at["lon"][v] - point[0]) * narrow * unit, (at["lat"][v] - point[1]) * unit) for v in range(count)]
                 best = min(to_segment((0, 0), flat[tail], flat[head]) for tail, head in zip(*ends))
-                self.assertAlmostEqual(network.snap(*point, within=1e6).distance / best, 1, 2)
+                self.assertAlmostEqual(network.snap(*point, radius=1e6).distance / best, 1, 2)
         for _ in range(30):
             count = lot.randint(2, 40)
             at = {"place": range(count), "lon": [lot.uniform(0, 9) for _ in range(count)], "lat": [lot.uniform(0, 3) for _ in range(count)]}
@@ -162,7 +162,7 @@ class Many(WithFiles):
         self.assertEqual(network.nearest([]), [])
         self.assertRaisesRegex(diffuse.NoVertex, r"points\[1\]: no place is within 1000 m", network.nearest, [(10.0, 50.0), (50.0, 10.0)])
         self.assertRaisesRegex(diffuse.OutOfRange, r"points\[0\]: longitude: 200.0 is not", network.nearest, [(200, 0)])
-        self.assertRaisesRegex(diffuse.BadShape, r"points\[0\]: 10.0 is not a pair", network.nearest, [10.0, 50.0])
+        self.assertRaisesRegex(diffuse.BadShape, r"points\[0\]: 10.0 is not a pair", network.nearest, [10.0, 50.0, 10.0])
         self.assertRaises(diffuse.BadShape, network.nearest, 10.0)
 
 

@@ -66,7 +66,7 @@ class Threads(unittest.TestCase):
             future.result()
         found += [(source, listed(graph.tree(source))) for source in wanted]
         self.assertTrue(all(wanted[source] == tree for source, tree in found))
-        self.assertEqual({handle.generation for handle in graph._handles._free}, {2})
+        self.assertEqual(graph._handles.pool.factored, {diffuse.Algebra.SHORTEST, diffuse.Algebra.HOPS})
 
     def test_closing_while_others_ask(self):
         for _ in range(20):
@@ -89,11 +89,17 @@ class Threads(unittest.TestCase):
 
     def test_a_handle_is_used_by_one_call_at_a_time(self):
         graph = Graph(5, ARCS)
-        with graph._handles.borrowed() as one, graph._handles.borrowed() as another:
-            self.assertIsNot(one, another)
-            self.assertNotEqual(one.at, another.at)
-        with graph._handles.borrowed() as again:
-            self.assertIn(again, (one, another))
+        used = []
+
+        def nested(one):
+            graph._handles.ask(lambda another: used.extend((one, another)) or 0, None, False)
+            return 0
+
+        graph._handles.ask(nested, None, False)
+        self.assertIsNot(*used)
+        self.assertNotEqual(*(handle._as_parameter_.contents.at for handle in used))
+        graph._handles.ask(lambda again: used.append(again) or 0, None, False)
+        self.assertIn(used[2], used[:2])
 
 
 if __name__ == "__main__":

@@ -9,7 +9,7 @@ import xml.etree.ElementTree as ElementTree
 
 import diffuse
 from diffuse import Network
-from diffuse.frame import Boxes, Frame
+from diffuse.drawing import Boxes, Frame
 
 from .examples import numpy, pandas
 from .test_map import ISLAND
@@ -152,7 +152,7 @@ class Pictures(WithFiles):
             self.assertEqual(sum(map(len, self.drawn(network, network.tree("A", by=by, algebra=algebra))[1].values())), 4 + 3)
 
     def test_labels_do_not_cover_each_other(self):
-        places = diffuse.Places({"A": (0.0, 0.0), "B": (1.0, 1.0)})
+        places = diffuse.Coordinates({"A": (0.0, 0.0), "B": (1.0, 1.0)})
         labels = Boxes(Frame(places, "AB", 1000))
         sides = [labels.place("name", (500, 500), False) for _ in range(5)]
         self.assertEqual(sides, [(508, 500, "start"), (492, 500, "end"), (500, 485, "middle"), (500, 515, "middle"), None])

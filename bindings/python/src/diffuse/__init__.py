@@ -1,35 +1,36 @@
-"""Best values, routes, trees and tables in road graphs, by a library that is proved right for every input.
+"""Best values, routes, trees and tables in road graphs, by a library that is proved right for
+every input.
 
-`Graph` takes numbered vertices and whole weights; `Network` takes maps of OpenStreetMap and tables with names, decimals and
-several costs, and writes CSV, GeoJSON and pictures. docs/PLANNING.md is a walk through `Network`, docs/EMBEDDING.md says what
-is proved.
+`Graph` takes numbered vertices and whole weights; `Network` takes maps of OpenStreetMap and tables
+with names, decimals and several costs, and writes CSV, GeoJSON, frames and pictures.
+docs/PLANNING.md is a walk through `Network`, docs/EMBEDDING.md says what is proved.
 """
+from ._handles import Stop
 from ._library import version
-from .algebras import ALGEBRAS, UNREACHED, Algebra
-from .answers import Near, Route, Tree
+from .answers import ALGEBRAS, UNREACHED, Algebra, Near, Route, Tree
 from .errors import (
-    AlreadyOpen, BadProblemLine, BadShape, Closed, DiffuseError, InputError, NoAlgebra, NoFactors, NoLink, NoNumbers, NoProblemLine,
-    NoRoom, NoRoute, NotANumber, NotFactored, NoVertex, OtherArcs, OutOfMemory, OutOfRange, Reason, SecondProblemLine, Stopped, TextFault, TooDense, TooFewArcs,
-    TooHeavy, TooManyArcs, UnknownLine, WrongFields, WrongTree,
+    AlreadyOpen, BadProblemLine, BadShape, Closed, DiffuseError, InputError, MapWarning, NoAlgebra,
+    NoFactors, NoLink, NoNumbers, NoProblemLine, NoRoom, NoRoute, NotANumber, NotFactored,
+    NoVertex, OtherArcs, OutOfMemory, OutOfRange, Reason, SecondProblemLine, Stopped, TextFault,
+    TooDense, TooFewArcs, TooHeavy, TooManyArcs, UnknownLine, WrongFields, WrongTree,
 )
-from .between import BetweenPoints
-from .distances import NamedTable
 from .graph import Graph
-from .isochrones import Isochrone
 from .network import Network
-from .places import Places
-from .routes import NamedRoute, Step
-from .stops import Stop
-from .streets import DRIVING, WALKING
-from .snaps import Snap
-from .trees import NamedTree
+from .osm import CYCLING, DRIVING, WALKING, Profile, Report
+from .roads import Coordinates
+from .routes import NamedRoute, Routes, Step
+from .snaps import BetweenPoints, Snap, Snaps
+from .trees import Isochrone, NamedTable, NamedTree
 
-__version__ = "1.1.0"
+__version__ = "1.2.0"
 
 __all__ = [
-    "Algebra", "ALGEBRAS", "AlreadyOpen", "BadProblemLine", "BadShape", "BetweenPoints", "Closed", "DiffuseError", "DRIVING", "Graph",
-    "InputError", "Isochrone", "NamedRoute", "NamedTable", "NamedTree", "Near", "Network", "NoAlgebra", "NoFactors", "NoLink", "NoNumbers", "NoProblemLine",
-    "NoRoom", "NoRoute", "NotANumber", "NotFactored", "NoVertex", "OtherArcs", "OutOfMemory", "OutOfRange", "Places", "Reason", "Route",
-    "SecondProblemLine", "Snap", "Step", "Stop", "Stopped", "TextFault", "TooDense", "TooFewArcs", "TooHeavy", "TooManyArcs", "Tree", "UnknownLine",
-    "UNREACHED", "version", "WALKING", "WrongFields", "WrongTree",
+    "ALGEBRAS", "Algebra", "AlreadyOpen", "BadProblemLine", "BadShape", "BetweenPoints", "CYCLING",
+    "Closed", "Coordinates", "DRIVING", "DiffuseError", "Graph", "InputError", "Isochrone",
+    "MapWarning", "NamedRoute", "NamedTable", "NamedTree", "Near", "Network", "NoAlgebra",
+    "NoFactors", "NoLink", "NoNumbers", "NoProblemLine", "NoRoom", "NoRoute", "NoVertex",
+    "NotANumber", "NotFactored", "OtherArcs", "OutOfMemory", "OutOfRange", "Profile", "Reason",
+    "Report", "Route", "Routes", "SecondProblemLine", "Snap", "Snaps", "Step", "Stop", "Stopped",
+    "TextFault", "TooDense", "TooFewArcs", "TooHeavy", "TooManyArcs", "Tree", "UNREACHED",
+    "UnknownLine", "WALKING", "WrongFields", "WrongTree", "version",
 ]

@@ -1,26 +1,34 @@
-"""Numbers that callers give, copied and checked one by one for range and shape, as the memory that the C library reads.
+"""Numbers that callers give, copied and checked one by one for range and shape, as the memory that
+the C library reads.
 
-What the library reads is always a copy that nobody else has: a caller's array may be written to by another thread after it was
-checked, and may be given twice in one call.
-"""
+What the library reads is always a copy that nobody else has: a caller's array may be written to by
+another thread after it was checked, and may be given twice in one call."""
 from __future__ import annotations
 
 import operator
 from array import array
 from ctypes import addressof, c_uint64
 from dataclasses import dataclass
-from typing import Any, Iterable, NoReturn, Optional, Union
+from typing import TYPE_CHECKING, Any, Iterable, NoReturn, Optional, Sequence, Union
 
-from .errors import BadShape, NotANumber, NoVertex, OutOfRange, TextFault, shown
+from .errors import BadShape, NotANumber, NoVertex, OutOfMemory, OutOfRange, TextFault, shown
+
+if TYPE_CHECKING:
+    from numpy import integer, uint32, uint64
+    from numpy.typing import NDArray
+
+    Column = Union[Iterable[int], "NDArray[integer[Any]]"]
+    """Whole numbers: any iterable, or an array of numpy, pandas or the module array."""
+    Numbers32 = Union["NDArray[uint32]", "array[int]", Sequence[int]]
+    """Numbers of 32 bits: an array of numpy, or of the module array without it."""
+    Numbers64 = Union["NDArray[uint64]", "array[int]", Sequence[int]]
+    """The same of 64 bits."""
 
 np: Any
 try:
     import numpy as np
 except ImportError:
     np = None
-
-Column = Any
-"""A sequence or an iterable of whole numbers, or an array of numpy, pandas or the module array."""
 
 MOST_VERTICES, MOST_ARCS = 2**25, 2**27
 MOST_32, MOST_64 = 2**32 - 1, 2**64 - 1
@@ -51,7 +59,8 @@ ARCS = Argument("arcs", needed="a list of arcs (tail, head, weight)")
 
 @dataclass(frozen=True)
 class Span:
-    """The numbers from `low` to `high`, in 32 bits by the code I or in 64 by Q, and the fault of any other number."""
+    """The numbers from `low` to `high`, in 32 bits by the code I or in 64 by Q, and the fault of
+    any other number."""
 
     low: int
     high: int
@@ -77,7 +86,8 @@ def index_of(value: object) -> Optional[int]:
         return None
 
 
-def whole_number(value: object, place: str, low: int, high: int, fault: type[TextFault] = OutOfRange) -> int:
+def whole_number(value: object, place: str, low: int, high: int,
+                 fault: type[TextFault] = OutOfRange) -> int:
     """One whole number from `low` to `high`. Raises NotANumber or the fault, with its place."""
     number = index_of(value)
     if number is None:
@@ -95,9 +105,8 @@ def vertex_number(value: object, place: str, vertices: int) -> int:
 def numbers(values: Column, argument: Argument, span: Span) -> Any:
     """A copy of the numbers: an array of numpy, or of the module array without numpy.
 
-    Raises NotANumber or the fault for the first number that is none or out of range, with its row, and BadShape for more
-    than one dimension, or for what is no list.
-    """
+    Raises NotANumber or the fault for the first number that is none or out of range, with its row,
+    and BadShape for more than one dimension, or for what is no list."""
     if np is not None and (isinstance(values, np.ndarray) or hasattr(values, "__array__")):
         return _from_numpy(_copied(values, argument), argument, span)
     shape = getattr(values, "shape", None)
@@ -118,9 +127,11 @@ def listed(values: Any, argument: Argument) -> list[Any]:
 
 
 def _copied(values: Any, argument: Argument) -> Any:
-    """An array that nobody else has. Raises NotANumber for a masked number, and BadShape for no array."""
+    """An array that nobody else has. Raises NotANumber for a masked number, and BadShape for no
+    array."""
     if isinstance(values, np.ma.MaskedArray) and values.ndim == 1 and np.ma.is_masked(values):
-        raise NotANumber(f"{argument.at(int(np.ma.getmaskarray(values).argmax()))}: a masked number is none")
+        row = int(np.ma.getmaskarray(values).argmax())
+        raise NotANumber(f"{argument.at(row)}: a masked number is none")
     own = np.array(values, order="C")
     if own.ndim == 0:
         raise argument.refused(values)
@@ -159,13 +170,15 @@ def _not_one_dimension(argument: Argument, shape: tuple[int, ...]) -> BadShape:
     return BadShape(f"{argument.at(0)}: one dimension is needed, not the shape {shape}")
 
 
-def arcs_of_columns(columns: Iterable[Column], arguments: Iterable[Argument], vertices: int) -> Any:
+def arcs_of_columns(columns: Iterable[Column], arguments: Iterable[Argument],
+                    vertices: int) -> Any:
     """Three columns as the memory of arcs: tail, head and weight of each in turn."""
     ends = Span(1, vertices, "I", NoVertex)
     parts = [numbers(*given) for given in zip(columns, arguments, (ends, ends, WEIGHTS))]
     count = len(parts[0])
     if any(len(column) != count for column in parts):
-        raise BadShape("the columns of tails, heads and weights have {}, {} and {} rows".format(*map(len, parts)))
+        raise BadShape("the columns of tails, heads and weights have {}, {} and {} rows".format(
+            *map(len, parts)))
     if np is not None:
         return np.stack(parts, axis=1)
     arcs = array("I", bytes(12 * count))
@@ -180,7 +193,8 @@ def arcs_of(arcs: Any, vertices: int) -> Any:
     if np is not None and (isinstance(arcs, np.ndarray) or hasattr(arcs, "__array__")):
         values = arcs if isinstance(arcs, np.ma.MaskedArray) else np.asarray(arcs)
         if values.ndim != 2 or values.shape[1] != 3:
-            raise BadShape(f"arcs: an array of three columns (tail, head, weight) is needed, not the shape {values.shape}")
+            raise BadShape("arcs: an array of three columns (tail, head, weight) is needed, "
+                           f"not the shape {values.shape}")
         return arcs_of_columns(values.T, arguments, vertices)
     rows = listed(arcs.tolist() if isinstance(arcs, memoryview) else arcs, ARCS)
     for number, row in enumerate(rows):
@@ -205,27 +219,48 @@ def reweighed(arcs: Any, weights: Any) -> Any:
 
 def first_of(column: Any, count: int) -> Any:
     """So many numbers from the first on, in memory of their own."""
-    return column if len(column) == count else column[:count].copy() if np is not None else column[:count]
+    if len(column) == count:
+        return column
+    return column[:count].copy() if np is not None else column[:count]
 
 
 def room(code: str, count: int) -> Any:
-    """A new array of zeros that the library may write to: numpy's, or one of the module array without numpy."""
-    return np.zeros(count, dtype=_DTYPES[code]) if np is not None else array(code, bytes(array(code).itemsize * count))
+    """A new array of zeros that the library may write to: numpy's, or one of the module array
+    without numpy. Raises OutOfMemory."""
+    try:
+        if np is not None:
+            return np.zeros(count, dtype=_DTYPES[code])
+        return array(code, bytes(array(code).itemsize * count))
+    except (MemoryError, ValueError, OverflowError):
+        raise OutOfMemory(f"there is no room for {count} numbers") from None
+
+
+def view_of(memory: Any) -> Any:
+    """Numbers of 32 bits in memory, of which a part is soon a list: as numpy sees them, or else a
+    memoryview."""
+    if np is not None:
+        return np.frombuffer(memory, dtype=np.uint32)
+    return memoryview(memory).cast("B").cast("I")
 
 
 def rows_of(values: Any, count: int, width: int) -> Any:
     """A list of numbers as so many rows of so many: numpy's, or a list of arrays without numpy."""
-    return values.reshape(count, width) if np is not None else [values[i * width:(i + 1) * width] for i in range(count)]
+    if np is not None:
+        return values.reshape(count, width)
+    return [values[row * width:(row + 1) * width] for row in range(count)]
 
 
 def greatest(column: Any) -> int:
     """The greatest number of a column, or 0 if it is empty."""
-    return 0 if not len(column) else max(column) if isinstance(column, array) else int(column.max())
+    if not len(column):
+        return 0
+    return max(column) if isinstance(column, array) else int(column.max())
 
 
 def are_equal(one: Any, another: Any) -> bool:
     """Whether two columns have the same numbers."""
-    return len(one) == len(another) and all(a == b for a, b in zip(map(int, one), map(int, another)))
+    pairs = zip(map(int, one), map(int, another))
+    return len(one) == len(another) and all(a == b for a, b in pairs)
 
 
 def address(values: Union[Any, "array[int]"]) -> int:

@@ -1,7 +1,8 @@
-"""Refusals as exceptions: one class for each status of the C library, and all of them a `DiffuseError`.
+"""Refusals as exceptions: one class for each status of the C library, and all of them a
+`DiffuseError`.
 
-The numbers are those of include/diffuse.h. A class also says which status of HTTP suits the reply of a service.
-"""
+The numbers are those of include/diffuse.h. A class also says which status of HTTP suits the reply
+of a service."""
 from __future__ import annotations
 
 from enum import IntEnum
@@ -31,13 +32,18 @@ class DiffuseError(Exception):
 
     def as_dict(self) -> dict[str, object]:
         """What a service may send as JSON: the class's name, both numbers, and the message."""
-        return {"error": type(self).__name__, "status": self.status, "http": self.http, "detail": str(self)}
+        return {"error": type(self).__name__, "status": self.status, "http": self.http,
+                "detail": str(self)}
 
 
 class InputError(DiffuseError, ValueError):
     """An argument or a cell of a table that can't be used; the message names its place."""
 
     http = 400
+
+
+class MapWarning(UserWarning):
+    """What a map does not say, so that the network differs from the roads."""
 
 
 class BadShape(InputError):
@@ -51,7 +57,8 @@ class NoRoute(DiffuseError):
 
 
 class NoRoom(InputError):
-    """A list that does not have just one place for each vertex, or for each answer; or a text longer than 2^32 bytes."""
+    """A list that does not have just one place for each vertex, or for each answer; or a text
+    longer than 2^32 bytes."""
 
     status = 2
 
@@ -75,7 +82,8 @@ class AlreadyOpen(DiffuseError):
 
 
 class Reason(IntEnum):
-    """Why the line of a vertex (its value, hops and parent) is wrong: the numbers of `diffuse check`."""
+    """Why the line of a vertex (its value, hops and parent) is wrong: the numbers of `diffuse
+    check`."""
 
     NOT_A_SOURCE_LINE = 1
     NOT_BEST = 2
@@ -101,7 +109,8 @@ _REASONS = {
 
 
 class WrongTree(DiffuseError):
-    """The lists are not the tree: `vertex` is the first whose line the others refute, `reason` the first `Reason`."""
+    """The lists are not the tree: `vertex` is the first whose line the others refute, `reason` the
+    first `Reason`."""
 
     status, http = 6, 422
 
@@ -138,7 +147,8 @@ class NoFactors(NotFactored):
 
 
 class TextFault(InputError):
-    """A fault that a text or a number may have. `line` is the line of a .gr or .co text, from 1 on; or 0."""
+    """A fault that a text or a number may have. `line` is the line of a .gr or .co text, from 1
+    on; or 0."""
 
     def __init__(self, message: str, line: int = 0) -> None:
         super().__init__(message)
@@ -212,7 +222,8 @@ class TooFewArcs(TextFault):
 
 
 class NoAlgebra(InputError):
-    """There is no such algebra; or `within` has no limit from 0 to 2^63; or another algebra has a limit."""
+    """There is no such algebra; or `within` has no limit from 0 to 2^63; or another algebra has a
+    limit."""
 
     status = 43
 
@@ -242,9 +253,10 @@ class NoNumbers(DiffuseError):
 
 
 _KINDS: tuple[type[DiffuseError], ...] = (
-    NoRoute, NoRoom, OutOfMemory, Closed, AlreadyOpen, WrongTree, TooDense, TooHeavy, NoFactors, NoProblemLine, SecondProblemLine,
-    BadProblemLine, UnknownLine, WrongFields, NotANumber, OutOfRange, NoVertex, TooManyArcs, TooFewArcs, NoAlgebra,
-    NoLink, Stopped, OtherArcs, NoNumbers,
+    NoRoute, NoRoom, OutOfMemory, Closed, AlreadyOpen, WrongTree, TooDense, TooHeavy, NoFactors,
+    NoProblemLine, SecondProblemLine, BadProblemLine, UnknownLine, WrongFields, NotANumber,
+    OutOfRange, NoVertex, TooManyArcs, TooFewArcs, NoAlgebra, NoLink, Stopped, OtherArcs,
+    NoNumbers,
 )
 BY_STATUS = {kind.status: kind for kind in _KINDS}
 
@@ -253,6 +265,7 @@ def refusal(status: int, message: str = "") -> DiffuseError:
     """The exception of a status, with the meaning of its class if there is no message."""
     kind = BY_STATUS.get(status)
     if kind is None:
-        return DiffuseError(f"the library returned status {status}, which this package does not know")
+        return DiffuseError(
+            f"the library returned status {status}, which this package does not know")
     return kind(message or (kind.__doc__ or "").split("\n")[0])
 

@@ -2,7 +2,7 @@ use crate::error::{self, Error};
 use crate::tree::{Label, Tree, Wrong};
 use crate::{Algebra, Arc, NumberedRoute, Route, Stop, Table};
 use diffuse_sys::*;
-use std::cell::UnsafeCell;
+use std::cell::{Cell, UnsafeCell};
 use std::fmt;
 
 const NO_ROUTE: i32 = 1;
@@ -11,14 +11,6 @@ const WRONG: i32 = 6;
 
 /// Room for so many vertices is given first; if more are near, it is asked again with room for them.
 const FEW: usize = 1024;
-
-/// Whether a call has written a route, and not found that there is none.
-fn is_route(status: i32) -> Result<bool, Error> {
-    if status == NO_ROUTE {
-        return Ok(false);
-    }
-    error::done(status).map(|()| true)
-}
 
 /// The first places of a list, and no memory for the others.
 fn first(mut list: Vec<u32>, count: u32) -> Vec<u32> {
@@ -30,6 +22,8 @@ fn first(mut list: Vec<u32>, count: u32) -> Vec<u32> {
 /// A graph in memory. It is freed with the last that shares it.
 pub struct Graph {
     handle: UnsafeCell<Handle>,
+    /// The room for vertices with which a route is asked: the longest had it.
+    room: Cell<usize>,
 }
 
 // SAFETY: a handle may go from one thread to another. It is not `Sync`, so that only one call at a time uses it.
@@ -38,7 +32,7 @@ unsafe impl Send for Graph {}
 impl Graph {
     /// A graph whose handle is still closed.
     fn closed() -> Graph {
-        Graph { handle: UnsafeCell::new(Handle::CLOSED) }
+        Graph { handle: UnsafeCell::new(Handle::CLOSED), room: Cell::new(FEW) }
     }
 
     /// The graph of vertices 1 to `vertices` and these arcs.
@@ -104,28 +98,41 @@ impl Graph {
         }
     }
 
+    /// Asks for a route, first in the room of the longest so far, and reports how many hops it has; none if there is no route.
+    fn hops_in_room(&self, mut ask: impl FnMut(usize, &mut u32) -> i32) -> Result<Option<u32>, Error> {
+        let n = self.vertices() as usize;
+        loop {
+            let mut hops = 0;
+            let status = ask(self.room.get().min(n), &mut hops);
+            if status != NO_ROOM {
+                return if status == NO_ROUTE { Ok(None) } else { error::done(status).map(|()| Some(hops)) };
+            }
+            self.room.set(2 * (hops as usize + 1));
+        }
+    }
+
     /// A best route from a source to a target; none if no walk between them has a value.
     pub fn route(&self, algebra: Algebra, source: u32, target: u32) -> Result<Option<Route>, Error> {
         let (number, limit) = algebra.number_and_limit();
-        let (mut code, mut hops, mut vertices) = (0, 0, vec![0; self.vertices() as usize]);
-        // SAFETY: as in `share`; the room is valid for its length, which suffices for every route.
-        let status = unsafe {
-            diffuse_graph_route(
-                self.handle.get(),
-                number,
-                limit,
-                source,
-                target,
-                &mut code,
-                &mut hops,
-                vertices.as_mut_ptr(),
-                vertices.len(),
-            )
-        };
-        if !is_route(status)? {
-            return Ok(None);
-        }
-        Ok(Some(Route { code, vertices: first(vertices, hops + 1) }))
+        let (mut code, mut vertices) = (0, Vec::new());
+        let found = self.hops_in_room(|room, hops| {
+            vertices.resize(room, 0);
+            // SAFETY: as in `share`; the room is valid for its length.
+            unsafe {
+                diffuse_graph_route(
+                    self.handle.get(),
+                    number,
+                    limit,
+                    source,
+                    target,
+                    &mut code,
+                    hops,
+                    vertices.as_mut_ptr(),
+                    room,
+                )
+            }
+        })?;
+        Ok(found.map(|hops| Route { code, vertices: first(vertices, hops + 1) }))
     }
 
     /// Numbers the arcs by their places in a list, for [`route_arcs`](Graph::route_arcs): the arcs that were given to
@@ -142,28 +149,17 @@ impl Graph {
     /// Refused with [`Error::NoNumbers`] if the arcs were not numbered.
     pub fn route_arcs(&self, algebra: Algebra, source: u32, target: u32) -> Result<Option<NumberedRoute>, Error> {
         let (number, limit) = algebra.number_and_limit();
-        let n = self.vertices() as usize;
-        let (mut code, mut hops, mut vertices, mut arcs) = (0, 0, vec![0; n], vec![0; n]);
-        // SAFETY: as in `share`; each slice is valid for its length, which suffices for every route.
-        let status = unsafe {
-            diffuse_graph_route_arcs(
-                self.handle.get(),
-                number,
-                limit,
-                source,
-                target,
-                &mut code,
-                &mut hops,
-                vertices.as_mut_ptr(),
-                vertices.len(),
-                arcs.as_mut_ptr(),
-                arcs.len(),
-            )
-        };
-        if !is_route(status)? {
-            return Ok(None);
-        }
-        Ok(Some(NumberedRoute { code, vertices: first(vertices, hops + 1), arcs: first(arcs, hops) }))
+        let (mut code, mut vertices, mut arcs) = (0, Vec::new(), Vec::new());
+        let found = self.hops_in_room(|room, hops| {
+            vertices.resize(room, 0);
+            arcs.resize(room, 0);
+            let (to, by) = (vertices.as_mut_ptr(), arcs.as_mut_ptr());
+            // SAFETY: as in `share`; each list is valid for the room.
+            unsafe {
+                diffuse_graph_route_arcs(self.handle.get(), number, limit, source, target, &mut code, hops, to, room, by, room)
+            }
+        })?;
+        Ok(found.map(|hops| NumberedRoute { code, vertices: first(vertices, hops + 1), arcs: first(arcs, hops) }))
     }
 
     /// For each vertex what is best from the nearest of the sources.

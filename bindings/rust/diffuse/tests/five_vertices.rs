@@ -169,6 +169,20 @@ fn the_arcs_of_a_route() {
 }
 
 #[test]
+fn routes_of_all_lengths() {
+    let arcs: Vec<Arc> = (1..9000).map(|v| arc(v, v + 1, 2)).collect();
+    let graph = Graph::open(9000, &arcs).unwrap();
+    graph.number(&arcs).unwrap();
+    for target in [2, 1024, 1025, 5, 2500, 9000, 3] {
+        let wanted =
+            NumberedRoute { code: 2 * u64::from(target - 1), vertices: (1..=target).collect(), arcs: (0..target - 1).collect() };
+        let route = graph.route(Algebra::Shortest, 1, target).unwrap().unwrap();
+        assert_eq!((route.code, &route.vertices), (wanted.code, &wanted.vertices));
+        assert_eq!(graph.route_arcs(Algebra::Within(1 << 40), 1, target), Ok(Some(wanted)));
+    }
+}
+
+#[test]
 fn arcs_are_numbered_in_another_order() {
     let (graph, mut arcs) = (Graph::open(4, &parallel()).unwrap(), parallel());
     arcs.sort_by_key(|arc| 4 - arc.tail);
@@ -250,5 +264,5 @@ fn threads_share_one_graph() {
 
 #[test]
 fn the_version_of_the_header() {
-    assert_eq!(version(), 10100);
+    assert_eq!(version(), 10200);
 }

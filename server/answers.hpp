@@ -1,8 +1,6 @@
 // What the graph answers, a function for each path, from the fields of a request.
 #pragma once
-#include "fields.hpp"
-#include "roads.hpp"
-#include <functional>
+#include "asked.hpp"
 
 // Room for the lines of a tree.
 struct Lines {
@@ -18,18 +16,33 @@ struct Lines {
 // What a thread that asks keeps: its handle on the graph of the moment, and room for answers.
 struct Asker {
     std::shared_ptr<Roads> roads;
+    Stop stop;
     Handle handle;
     std::vector<uint32_t> room;
     std::vector<diffuse_arc> arcs;
     Lines lines;
 
-    // Changes to another graph; the old one is freed with its last asker.
+    // Changes to another graph, or std::bad_alloc; the old one is freed with its last asker.
     void use(const std::shared_ptr<Roads> &others);
+    // The best value of a route, its hops, and its vertices in the room; false if there is none.
+    bool find(
+        const Algebra &algebra, uint32_t source, uint32_t target, uint64_t &code, uint32_t &hops);
 };
 
-// The reply to a question, or Refused. A table is given up, with 503, once nobody waits for it.
-std::string answer(Asker &asker, const std::string &path, const Fields &fields,
-    const std::function<bool()> &is_waited_for);
+// Refuses an answer that the library has not given.
+void check(diffuse_status status);
+
+// The reply to a question, or Refused; with 503 once the asker's stop is set.
+std::string answer(Asker &asker, const std::string &path, const Fields &fields, double snap_limit);
+std::string route(Asker &asker, const Asked &asked);
+std::string table(Asker &asker, const Asked &asked);
+std::string tree(Asker &asker, const Asked &asked);
+
+// The place of the arc of a step among those that leave its tail: of those that are best in the
+// graph, the one with the least weight in the second graph.
+size_t arc_of_step(Asker &asker, uint32_t tail, uint32_t head);
+// The sum of the second graph's weights along a list of vertices.
+uint64_t sum_along(Asker &asker, const uint32_t *route, size_t length);
 
 bool is_question(std::string_view path);
 // Whether answering may take a search for each of many sources, or one over the whole graph.

@@ -49,41 +49,75 @@ bool is_sum(const Algebra &algebra) {
     return algebra.number == DIFFUSE_ALGEBRA_SHORTEST || algebra.number == DIFFUSE_ALGEBRA_WITHIN;
 }
 
-std::vector<uint32_t> few(const Fields &fields, const std::string &name, const Roads &roads) {
-    const Value &value = fields.need(name);
-    if (value.kind != Kind::list) return {vertex_of(value, name, roads)};
-    if (value.items.empty() || value.items.size() > LONGEST_LIST)
-        throw refusal(
-            400, name + ": a list must have 1 to " + std::to_string(LONGEST_LIST) + " vertices");
-    std::vector<uint32_t> vertices;
-    for (auto &item : value.items)
-        vertices.push_back(
-            vertex_of(item, name + "[" + std::to_string(vertices.size()) + "]", roads));
-    return vertices;
+End Asked::end(const Value &value, const std::string &name, bool is_place) const {
+    if (!is_place) return {vertex_of(value, name, roads)};
+    auto near = nearest_to(value, name);
+    if (near.metres > snap_limit)
+        throw Refused{404, "TooFar",
+            name + ": the nearest vertex is " + shown(near.metres, 0) + " metres away, more than "
+                + shown(snap_limit, 0)};
+    return {near.vertex, near.metres};
 }
 
-Nearest nearest_to(const Value &value, const std::string &name, const Roads &roads) {
-    if (!roads.places || !roads.vertices)
-        throw refusal(400, name + ": this server has no coordinates");
-    bool good = value.kind == Kind::list && value.items.size() == 2;
-    for (size_t i = 0; good && i < 2; i++)
-        good = (value.items[i].kind == Kind::whole || value.items[i].kind == Kind::real
-                   || value.items[i].kind == Kind::beyond)
-            && std::abs(value.items[i].real) <= (i ? 90 : 180);
-    if (!good)
-        throw refusal(400,
-            name + ": " + value.shown()
-                + " is not a longitude from -180 to 180 and a latitude from -90 to 90");
-    return roads.places->nearest(value.items[0].real, value.items[1].real);
-}
-
-uint32_t end_of(const Fields &fields, const std::string &by_vertex, const std::string &by_place,
-    const Roads &roads) {
+End Asked::end_of(const std::string &by_vertex, const std::string &by_place) const {
     const Value *vertex = fields.find(by_vertex), *place = fields.find(by_place);
     if (vertex && place)
         throw refusal(400, "there must not be both '" + by_vertex + "' and '" + by_place + "'");
-    return place ? nearest_to(*place, by_place, roads).vertex
-                 : vertex_of(fields.need(by_vertex), by_vertex, roads);
+    return place ? end(*place, by_place, true) : end(fields.need(by_vertex), by_vertex, false);
+}
+
+std::vector<End> Asked::ends_of(const std::string &by_vertex, const std::string &by_place) const {
+    const Value *place = fields.find(by_place);
+    auto &name = place ? by_place : by_vertex;
+    bool is_list = place ? !place->items.empty() && place->items[0].kind == Kind::list
+                         : fields.need(name).kind == Kind::list;
+    if (!is_list) return {end_of(by_vertex, by_place)};
+    if (place && fields.find(by_vertex)) return {end_of(by_vertex, by_place)};
+    const Value &value = fields.need(name);
+    if (value.items.empty() || value.items.size() > LONGEST_LIST)
+        throw refusal(
+            400, name + ": a list must have 1 to " + std::to_string(LONGEST_LIST) + " vertices");
+    std::vector<End> ends;
+    for (auto &item : value.items)
+        ends.push_back(end(item, name + "[" + std::to_string(ends.size()) + "]",
+            place || item.kind == Kind::list));
+    return ends;
+}
+
+Nearest Asked::nearest_to(const Value &value, const std::string &name) const {
+    if (!roads.places) throw refusal(400, name + ": this server has no coordinates");
+    bool good = value.kind == Kind::list && value.items.size() == 2;
+    for (size_t i = 0; good && i < 2; i++)
+        good = value.items[i].is_number() && std::abs(value.items[i].real) <= (i ? 90 : 180);
+    if (!good)
+        throw refusal(
+            400, name + ": " + value.shown()
+                     + " is not a longitude from -180 to 180 and a latitude from -90 to 90");
+    return roads.places->nearest(value.items[0].real, value.items[1].real);
+}
+
+bool Asked::is_wanted(const char *name) const {
+    auto *value = fields.find(name);
+    bool is_word = value && (value->kind == Kind::text || value->kind == Kind::other);
+    if (value && !(is_word && (value->text == "true" || value->text == "false")))
+        throw refusal(400, std::string(name) + ": " + value->shown() + " is not true or false");
+    return value && value->text == "true";
+}
+
+std::vector<uint32_t> vertices_of(const std::vector<End> &ends) {
+    std::vector<uint32_t> vertices;
+    for (auto &end : ends) vertices.push_back(end.vertex);
+    return vertices;
+}
+
+void put_snaps(Object &reply, const std::vector<End> &ends) {
+    std::string list;
+    bool has_place = false;
+    for (auto &end : ends) {
+        has_place = has_place || end.metres >= 0;
+        list += (list.empty() ? "" : ", ") + (end.metres >= 0 ? shown(end.metres, 1) : "null");
+    }
+    if (has_place) reply.raw("snap", "[" + list + "]");
 }
 
 Geometry geometry_of(const Fields &fields, const Roads &roads) {

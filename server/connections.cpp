@@ -1,5 +1,4 @@
 #include "connections.hpp"
-#include "refused.hpp"
 #include <algorithm>
 #include <linux/tcp.h>
 #include <netinet/in.h>
@@ -9,56 +8,97 @@ namespace {
 
 using State = Connection::State;
 
+// An idle connection is looked at in one of so many looks.
+constexpr size_t TURNS = 10;
+
 int64_t now() {
     return std::chrono::duration_cast<std::chrono::microseconds>(
         std::chrono::steady_clock::now().time_since_epoch())
         .count();
 }
 
-bool is_reading(const Connection &connection) {
-    auto state = connection.state.load();
-    return state == State::reading || (state == State::idle && connection.begun);
-}
-
 // For how many seconds a connection has done what it does.
-double age(const Connection &connection) {
-    bool is_further = connection.state == State::idle && connection.begun;
-    return double(now() - (is_further ? connection.begun : connection.since.load())) / 1e6;
-}
+double age(const Connection &connection) { return double(now() - connection.since) / 1e6; }
 
 bool is_slow(const Connection &connection) {
-    return (is_reading(connection) || connection.state == State::writing) && age(connection) > 1;
+    State state = connection.state;
+    return (state == State::reading || state == State::writing) && age(connection) > 1;
 }
 
-// How many bytes have come on a connection.
-uint64_t received(const Connection &connection) {
+// Whether nothing is lost with a connection: none of its requests has begun.
+bool is_idle(const Connection &connection) {
+    State state = connection.state;
+    return state == State::idle || (state == State::fresh && age(connection) > 1);
+}
+
+// What the system knows of a connection: how many bytes have come, with one for its end, and
+// whether its client has closed it, which some do that still wait for a reply.
+struct Heard {
+    uint64_t bytes = 0;
+    bool is_closed = false;
+};
+
+Heard hear(const Connection &connection) {
+    constexpr int ESTABLISHED = 1;
     tcp_info info{};
     socklen_t size = sizeof info;
-    return getsockopt(connection.socket, IPPROTO_TCP, TCP_INFO, &info, &size) == 0
-        ? info.tcpi_bytes_received
-        : 0;
+    if (getsockopt(connection.socket, IPPROTO_TCP, TCP_INFO, &info, &size) != 0) return {};
+    return {info.tcpi_bytes_received, info.tcpi_state != ESTABLISHED};
 }
 
-// An idle connection on which more bytes have come since its last reply began reads a further
-// request.
-void look_for_bytes(Connection &connection) {
-    bool is_idle = connection.state == State::idle;
-    uint64_t bytes = connection.bytes;
-    if (!is_idle || bytes != connection.seen) connection.begun = 0;
-    if (is_idle && !connection.begun && received(connection) > bytes) connection.begun = now();
-    connection.seen = bytes;
+// A connection on which more bytes have come since its last reply began reads a request.
+void note_bytes(Connection &connection, uint64_t bytes) {
+    State state = connection.state;
+    if ((state != State::idle && state != State::fresh) || bytes <= connection.bytes) return;
+    if (connection.change(state, State::reading) && state == State::idle) connection.since = now();
 }
 
 }  // namespace
 
-void Connection::enter(State next) {
+bool Connection::enter(State next) {
     since = now();
-    state = next;
+    for (State here = state; here != State::ended;)
+        if (state.compare_exchange_weak(here, next)) return true;
+    return false;
 }
 
-void Connection::begin_reply() {
-    bytes = received(*this);
-    enter(State::writing);
+bool Connection::begin_request() {
+    State here = state;
+    return here == State::reading || enter(State::reading);
+}
+
+bool Connection::begin_reply() {
+    bytes = hear(*this).bytes;
+    return enter(State::writing);
+}
+
+void Connection::send_alone(int status, const char *why) const noexcept {
+    try {
+        std::string body = refusal(status, why).reply();
+        std::string text =
+            "HTTP/1.1 " + std::to_string(status)
+            + (status == 408 ? " Request Timeout" : " Request Header Fields Too Large")
+            + "\r\nContent-Type: application/json\r\nConnection: close\r\nContent-Length: "
+            + std::to_string(body.size()) + "\r\n\r\n" + body;
+        (void)!send(socket, text.data(), text.size(), MSG_DONTWAIT | MSG_NOSIGNAL);
+    } catch (const std::bad_alloc &) {
+    }
+}
+
+bool Connections::is_full() const {
+    std::lock_guard<std::mutex> held(lock);
+    return all.size() + coming.size() >= options.connections + 2 * SPARE && ended > 0;
+}
+
+bool Connections::admit(int socket) {
+    std::lock_guard<std::mutex> held(lock);
+    // The library may have closed one without a word: its socket is this one now.
+    coming.erase(socket);
+    if (living() >= options.connections) end_longest_idle();
+    size_t others = living();
+    if (others >= options.connections + SPARE) return false;
+    coming[socket] = others >= options.connections;
+    return true;
 }
 
 Connection *Connections::open(int socket, std::string address) {
@@ -66,27 +106,32 @@ Connection *Connections::open(int socket, std::string address) {
     auto *connection = made.get();
     connection->socket = socket;
     connection->address = std::move(address);
-    connection->enter(State::reading);
+    connection->enter(State::fresh);
     std::lock_guard<std::mutex> held(lock);
-    connection->is_spare = all.size() >= options.connections;
-    metrics.refused_connections += connection->is_spare;
+    auto place = coming.find(socket);
+    if (place != coming.end()) {
+        connection->is_spare = place->second;
+        coming.erase(place);
+    }
     all[connection] = std::move(made);
     return connection;
 }
 
 void Connections::close(Connection *connection) {
     std::lock_guard<std::mutex> held(lock);
+    ended -= connection->state == State::ended;
     all.erase(connection);
 }
 
 size_t Connections::count() const {
     std::lock_guard<std::mutex> held(lock);
-    return all.size();
+    return living();
 }
 
 bool Connections::is_over(const Connection &connection, bool is_draining) const {
-    if (is_reading(connection)) return age(connection) > options.read;
     switch (connection.state.load()) {
+    case State::fresh:
+    case State::reading: return age(connection) > options.read;
     case State::writing: return age(connection) > options.write;
     case State::idle:
         return age(connection) > (is_draining ? std::min(1.0, options.idle) : options.idle);
@@ -94,52 +139,70 @@ bool Connections::is_over(const Connection &connection, bool is_draining) const 
     }
 }
 
-// Shuts a connection down; whoever is in the middle of a request is told why.
+// Shuts a connection down, unless it has begun something else meanwhile; whoever is in the middle
+// of a request is told why.
 void Connections::end(Connection &connection, const char *why) {
-    connection.is_ended = true;
-    if (is_reading(connection)) {
-        std::string body = refusal(408, "the request has not come in time").reply();
-        std::string text = "HTTP/1.1 408 Request Timeout\r\nContent-Type: "
-                           "application/json\r\nConnection: close\r\nContent-Length: "
-            + std::to_string(body.size()) + "\r\n\r\n" + body;
-        (void)!send(connection.socket, text.data(), text.size(), MSG_DONTWAIT | MSG_NOSIGNAL);
-        metrics.answered("other", 408, age(connection));
+    State state = connection.state;
+    bool is_reading = state == State::reading || state == State::fresh;
+    double seconds = age(connection);
+    if (state == State::ended || !connection.change(state, State::ended)) return;
+    ended++;
+    if (is_reading && why) {
+        connection.send_alone(408, "the request has not come in time");
+        metrics.answered("other", 408, seconds);
     }
-    if (is_reading(connection) || connection.state != State::idle) {
+    if (state != State::idle && why) {
         metrics.slow_connections++;
-        log.add(event(why)
-                    .text("client", connection.address)
-                    .raw("seconds", shown(age(connection), 3)));
+        log.note([&] {
+            return event(why).text("client", connection.address).raw("seconds", shown(seconds, 3));
+        });
     }
     shutdown(connection.socket, SHUT_RDWR);
 }
 
 // Of the slow connections of one address those that are slow for longest go, if they are too many.
-void Connections::end_slow(std::vector<Connection *> &slow) {
+void Connections::end_slow(const std::vector<Connection *> &slow) {
     if (slow.size() <= options.slow) return;
-    std::sort(slow.begin(), slow.end(), [](auto *a, auto *b) { return a->since < b->since; });
-    for (size_t i = 0; i + options.slow < slow.size(); i++)
-        end(*slow[i], "too many slow connections of one address");
+    // The times may change meanwhile, so they are read once.
+    std::vector<std::pair<int64_t, Connection *>> by_time;
+    for (auto *connection : slow) by_time.emplace_back(connection->since, connection);
+    std::sort(by_time.begin(), by_time.end());
+    for (size_t i = 0; i + options.slow < by_time.size(); i++)
+        end(*by_time[i].second, "too many slow connections of one address");
+}
+
+void Connections::look_at(Connection &connection, bool is_draining,
+    std::map<std::string, std::vector<Connection *>> &slow) {
+    State state = connection.state;
+    bool may_wait = !is_draining && (state == State::idle || state == State::fresh);
+    if (may_wait && (size_t(connection.socket) + turn) % TURNS != 0) return;
+    const auto heard = hear(connection);
+    if (!heard.is_closed) note_bytes(connection, heard.bytes);
+    bool has_left = heard.is_closed && age(connection) > 1;
+    if (has_left && state == State::asking) connection.has_left = true;
+    // The library does not always see that.
+    if (has_left && state == State::idle) end(connection, nullptr);
+    if (is_over(connection, is_draining)) end(connection, "too slow");
+    else if (is_slow(connection)) slow[connection.address].push_back(&connection);
 }
 
 void Connections::look(bool is_draining) {
     std::lock_guard<std::mutex> held(lock);
     std::map<std::string, std::vector<Connection *>> slow;
-    for (auto &[connection, owner] : all) {
-        look_for_bytes(*connection);
-        if (connection->is_ended) continue;
-        if (is_over(*connection, is_draining)) end(*connection, "too slow");
-        else if (is_slow(*connection)) slow[connection->address].push_back(connection);
-    }
+    turn++;
+    for (auto &[connection, owner] : all) look_at(*connection, is_draining, slow);
     for (auto &[address, connections] : slow) end_slow(connections);
+}
+
+void Connections::end_longest_idle() {
+    Connection *longest = nullptr;
+    for (auto &[connection, owner] : all)
+        if (is_idle(*connection) && (!longest || connection->since < longest->since))
+            longest = connection;
+    if (longest) end(*longest, nullptr);
 }
 
 void Connections::make_room() {
     std::lock_guard<std::mutex> held(lock);
-    Connection *longest = nullptr;
-    for (auto &[connection, owner] : all)
-        if (connection->state == State::idle && !connection->begun && !connection->is_ended
-            && (!longest || connection->since < longest->since))
-            longest = connection;
-    if (longest) end(*longest, "idle");
+    end_longest_idle();
 }

@@ -1,13 +1,10 @@
 #include "fields.hpp"
-#include <algorithm>
-#include <nlohmann/json.hpp>
+#include <cmath>
 
 namespace {
 
 using Kind = Value::Kind;
 constexpr size_t LONGEST_SHOWN = 40;
-// More of a list than any field may have.
-constexpr size_t MOST_ITEMS = 1000;
 
 std::string cut(std::string_view text) {
     return std::string(text.substr(0, LONGEST_SHOWN)) + (text.size() > LONGEST_SHOWN ? ".." : "");
@@ -25,37 +22,46 @@ Value value_of(std::string_view text) {
         return value;
     }
     bool digits = text.size() > 1 && (text[0] == '-' || text[0] != '.')
-        && text.find_first_not_of("0123456789", text[0] == '-') == text.npos;
+                  && text.find_first_not_of("0123456789", text[0] == '-') == text.npos;
     auto is_real = std::from_chars(begin, end, value.real);
-    if (is_real.ec == std::errc() && is_real.ptr == end) value.kind = Kind::real;
+    // A number of hundreds of digits is not zero.
+    if (is_real.ec == std::errc::result_out_of_range) value.real = INFINITY;
+    else if (is_real.ec == std::errc() && is_real.ptr == end) value.kind = Kind::real;
     if (digits) value.kind = Kind::beyond;
     value.text = value.kind == Kind::text ? std::string(text) : cut(text);
     return value;
 }
 
-// A value of the body. What lies deeper than a list is not looked at.
-Value value_of(const nlohmann::json &from, bool in_list) {
-    Value value;
-    if (from.is_number_unsigned()) {
-        value.kind = Kind::whole;
-        value.whole = from.get<uint64_t>();
-        value.real = double(value.whole);
-    } else if (from.is_number()) {
-        value.kind = from.is_number_integer() ? Kind::beyond : Kind::real;
-        value.real = from.get<double>();
-        value.text = from.dump();
-    } else if (from.is_string()) {
-        value.kind = Kind::text;
-        value.text = from.get_ref<const std::string &>();
-    } else if (from.is_array() && !in_list) {
-        value.kind = Kind::list;
-        for (size_t i = 0; i < from.size() && i < MOST_ITEMS; i++)
-            value.items.push_back(value_of(from[i], true));
-    } else if (!from.is_null()) {
-        value.kind = Kind::other;
-        value.text = from.is_boolean() ? from.dump() : from.is_array() ? "[..]" : "{..}";
+// A text, a number, or a list of what is between signs; of lists, if there is a further sign.
+Value list_of(std::string_view text, std::string_view signs) {
+    if (signs.empty()) return value_of(text);
+    if (text.find(signs[0]) == text.npos) return list_of(text, signs.substr(1));
+    Value list;
+    list.kind = Kind::list;
+    for (size_t begin = 0, end = 0; end != text.npos; begin = end + 1) {
+        end = text.find(signs[0], begin);
+        list.items.push_back(
+            list_of(text.substr(begin, end == text.npos ? end : end - begin), signs.substr(1)));
     }
-    return value;
+    return list;
+}
+
+int digit_of(char sign) {
+    auto place = std::string_view("0123456789abcdef").find(char(sign | 0x20));
+    if (sign >= '0' && sign <= '9') return sign - '0';
+    return place == std::string_view::npos || place < 10 ? -1 : int(place);
+}
+
+// A part of a query as it was meant: a blank for +, and a byte for % and two digits.
+std::string decoded(std::string_view text) {
+    std::string out;
+    for (size_t i = 0; i < text.size(); i++) {
+        int high = text[i] == '%' && i + 2 < text.size() ? digit_of(text[i + 1]) : -1;
+        int low = high < 0 ? -1 : digit_of(text[i + 2]);
+        if (low >= 0) out += char(16 * high + low), i += 2;
+        else out += text[i] == '+' ? ' ' : text[i];
+    }
+    return out;
 }
 
 }  // namespace
@@ -72,36 +78,19 @@ std::string Value::shown() const {
 
 void Fields::add(std::string_view name, Value value) {
     if (find(name)) throw refusal(400, "the field '" + cut(name) + "' is given twice");
+    if (all.size() == MOST)
+        throw refusal(400, "there are more than " + std::to_string(MOST) + " fields");
     all.emplace_back(name, std::move(value));
 }
 
-void Fields::add_query(std::string_view name, std::string_view text) {
-    if (text.find(',') == text.npos) return add(name, value_of(text));
-    Value list;
-    list.kind = Kind::list;
-    for (size_t begin = 0, end = 0; end != text.npos; begin = end + 1) {
-        end = text.find(',', begin);
-        list.items.push_back(value_of(text.substr(begin, end == text.npos ? end : end - begin)));
+void Fields::add_query(std::string_view query) {
+    for (size_t begin = 0, end = 0; end != query.npos && begin < query.size(); begin = end + 1) {
+        end = query.find('&', begin);
+        auto field = query.substr(begin, end == query.npos ? end : end - begin);
+        auto equals = field.find('=');
+        std::string text = equals == field.npos ? "" : decoded(field.substr(equals + 1));
+        if (!field.empty()) add(decoded(field.substr(0, equals)), list_of(text, ";,"));
     }
-    add(name, std::move(list));
-}
-
-void Fields::add_body(const std::string &body) {
-    using nlohmann::json;
-    std::vector<std::string> names;
-    bool is_twice = false;
-    auto look = [&](int depth, json::parse_event_t event, json &key) {
-        if (event != json::parse_event_t::key || depth != 1) return true;
-        is_twice = is_twice
-            || std::find(names.begin(), names.end(), key.get_ref<const std::string &>())
-                != names.end();
-        if (names.size() < 16) names.push_back(key.get<std::string>());
-        return true;
-    };
-    json object = json::parse(body, look, false);
-    if (!object.is_object()) throw refusal(400, "the body is not a JSON object");
-    if (is_twice) throw refusal(400, "a field of the body is given twice");
-    for (auto &[name, value] : object.items()) add(name, value_of(value, false));
 }
 
 void Fields::allow(std::initializer_list<std::string_view> names) const {

@@ -15,22 +15,27 @@ struct Value {
     std::string text = {};
     std::vector<Value> items = {};
 
+    bool is_number() const {
+        return kind == Kind::whole || kind == Kind::beyond || kind == Kind::real;
+    }
     // As a message shows it, at most 40 bytes of it.
     std::string shown() const;
 };
 
 class Fields {
   public:
-    // A field twice is refused, since only one of the two could be meant.
+    // A field twice is refused, since only one of the two could be meant; and so are too many.
     void add(std::string_view name, Value value);
-    // A field of the query: a number, numbers with commas between them, or a text.
-    void add_query(std::string_view name, std::string_view text);
+    // The fields of a query: each a number, a text, a list with commas between its items, or a list
+    // of such lists with semicolons between them.
+    void add_query(std::string_view query);
+    // The fields of a JSON object, in a time that its length bounds.
     void add_body(const std::string &body);
     void allow(std::initializer_list<std::string_view> names) const;
     const Value *find(std::string_view name) const;
     const Value &need(std::string_view name) const;
-    size_t count() const { return all.size(); }
 
   private:
+    static constexpr size_t MOST = 16;
     std::vector<std::pair<std::string, Value>> all;
 };

@@ -21,14 +21,23 @@ struct Opened {
     throw BadFile(path + ": " + why);
 }
 
-// The bytes of memory that the system could give, as far as it says so.
+// The number that a file of the system has, or the greatest one.
+uint64_t number_in(const char *path) {
+    uint64_t number = 0;
+    return std::ifstream(path) >> number ? number : UINT64_MAX;
+}
+
+// The bytes of memory that the system, or its container, could give, as far as they say so.
 uint64_t available_memory() {
+    uint64_t most = number_in("/sys/fs/cgroup/memory.max"),
+             used = number_in("/sys/fs/cgroup/memory.current");
+    uint64_t within = most == UINT64_MAX || used == UINT64_MAX ? most : most - std::min(most, used);
     std::ifstream file("/proc/meminfo");
     for (std::string name; file >> name;) {
         uint64_t kilobytes = 0;
-        if (name == "MemAvailable:" && file >> kilobytes) return kilobytes * 1024;
+        if (name == "MemAvailable:" && file >> kilobytes) return std::min(within, kilobytes * 1024);
     }
-    return UINT64_MAX;
+    return within;
 }
 
 }  // namespace

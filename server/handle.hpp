@@ -1,4 +1,4 @@
-// A handle of the library, which is closed with its owner.
+// Handles of the library, which are closed with their owners.
 #pragma once
 #include <diffuse.h>
 #include <utility>
@@ -17,4 +17,17 @@ class Handle {
   private:
     static constexpr diffuse_graph CLOSED = DIFFUSE_CLOSED;
     diffuse_graph graph = DIFFUSE_CLOSED;
+};
+
+// A flag by which another thread ends a search.
+class Stop {
+  public:
+    Stop() = default;
+    Stop(const Stop &) = delete;
+    ~Stop() { diffuse_stop_free(&stop); }
+    diffuse_stop *at() { return &stop; }
+    bool is_open() const { return stop.is_open; }
+
+  private:
+    diffuse_stop stop = DIFFUSE_CLOSED;
 };

@@ -4,12 +4,11 @@
 
 // Refuses a head that a proxy could read otherwise, a body that is too long or has no length, and
 // methods other than GET, HEAD, POST and OPTIONS.
-void check_head(const Request &request);
+void check_head(Request &request, std::string_view version);
+Refused too_long_body();
 
-// The path of a request's first line, without its query, and without the host if it has one.
+// The path of a request's first line, without its query, its host and the version /v1.
 std::string path_of(std::string_view line);
+std::string_view query_of(std::string_view line);
 
-// Puts the fields of the query into the request.
-void read_query(Request &request);
-
-constexpr uint64_t LONGEST_BODY = 1000000;
+constexpr uint64_t LONGEST_HEAD = 15000, LONGEST_BODY = 16384;

@@ -8,8 +8,9 @@
 
 namespace {
 
-constexpr int PAUSE =
-    100;  // milliseconds, until a connection is tried again for which there was no descriptor
+// Milliseconds until a connection is tried again: for which there was no descriptor, and if many
+// are being closed.
+constexpr int PAUSE = 100, CLOSING = 2;
 
 [[noreturn]] void fail(const Options &options, const std::string &why) {
     throw std::runtime_error(options.host + ":" + std::to_string(options.port) + ": " + why);
@@ -27,8 +28,8 @@ Listener::Listener(const Options &options) : options(options) {
     int one = 1;
     socket = ::socket(found->ai_family, SOCK_STREAM | SOCK_NONBLOCK | SOCK_CLOEXEC, 0);
     bool good = socket >= 0 && setsockopt(socket, SOL_SOCKET, SO_REUSEADDR, &one, sizeof one) == 0
-        && bind(socket, found->ai_addr, found->ai_addrlen) == 0 && listen(socket, BACKLOG) == 0
-        && pipe(wakes) == 0;
+                && bind(socket, found->ai_addr, found->ai_addrlen) == 0
+                && listen(socket, BACKLOG) == 0 && pipe(wakes) == 0;
     int error = errno;
     freeaddrinfo(found);
     if (!good) fail(options, strerror(error));
@@ -55,8 +56,14 @@ int Listener::take(Connections &connections, Metrics &metrics, const Taker &take
     int taken =
         accept4(socket, reinterpret_cast<sockaddr *>(&from), &size, SOCK_NONBLOCK | SOCK_CLOEXEC);
     if (taken < 0) return errno;
-    if (connections.count() >= options.connections) connections.make_room();
-    if (!taker(taken, reinterpret_cast<sockaddr *>(&from), size)) metrics.refused_connections++;
+    bool is_admitted = false;
+    try {
+        is_admitted = connections.admit(taken);
+    } catch (const std::bad_alloc &) {
+    }
+    if (!is_admitted) close(taken);
+    if (!is_admitted || !taker(taken, reinterpret_cast<sockaddr *>(&from), size))
+        metrics.refused_connections++;
     return 0;
 }
 
@@ -67,15 +74,23 @@ bool Listener::wait(int pause) const {
     return !both[1].revents;
 }
 
+// Takes a connection, if it can; gives the pause until the next one.
+int Listener::step(
+    Connections &connections, Log &log, Metrics &metrics, const Taker &taker, bool was_short) {
+    if (connections.is_full()) return CLOSING;
+    int error = take(connections, metrics, taker);
+    bool is_short = error == EMFILE || error == ENFILE || error == ENOBUFS || error == ENOMEM;
+    if (!is_short) return 0;
+    if (!was_short)
+        log.note(
+            [&] { return event("no connection can be taken").text("error", strerror(error)); });
+    connections.make_room();
+    return PAUSE;
+}
+
 void Listener::run(Connections &connections, Log &log, Metrics &metrics, const Taker &taker) {
-    for (int pause = 0; wait(pause);) {
-        int error = take(connections, metrics, taker);
-        bool is_short = error == EMFILE || error == ENFILE || error == ENOBUFS || error == ENOMEM;
-        if (is_short && !pause)
-            log.add(event("no connection can be taken").text("error", strerror(error)));
-        if (is_short) connections.make_room();
-        pause = is_short ? PAUSE : 0;
-    }
+    for (int pause = 0; wait(pause);)
+        pause = step(connections, log, metrics, taker, pause == PAUSE);
     auto end = std::chrono::steady_clock::now() + std::chrono::seconds(1);
     for (int taken = 0; taken < BACKLOG && std::chrono::steady_clock::now() < end; taken++)
         if (take(connections, metrics, taker) == EAGAIN) break;

@@ -25,5 +25,7 @@ class Listener {
 
     void run(Connections &connections, Log &log, Metrics &metrics, const Taker &taker);
     bool wait(int pause) const;
+    int step(
+        Connections &connections, Log &log, Metrics &metrics, const Taker &taker, bool was_short);
     int take(Connections &connections, Metrics &metrics, const Taker &taker);
 };

@@ -40,6 +40,8 @@ Object event(const char *name) {
 }
 
 void Log::start() {
+    waiting.reserve(MOST);
+    writing.reserve(MOST);
     std::thread([this] { write_all(); }).detach();
 }
 
@@ -55,7 +57,6 @@ void Log::add(Object line) {
 }
 
 void Log::write_all() {
-    std::string text;
     for (;;) {
         {
             std::unique_lock<std::mutex> held(lock);
@@ -68,10 +69,10 @@ void Log::write_all() {
         std::this_thread::sleep_for(std::chrono::milliseconds(5));
         {
             std::lock_guard<std::mutex> held(lock);
-            text.clear();
-            text.swap(waiting);
+            writing.clear();
+            writing.swap(waiting);
         }
-        lost += write_text(text);
+        lost += write_text(writing);
     }
 }
 

@@ -13,7 +13,14 @@ class Log {
   public:
     // Starts the thread; what is added before waits for it.
     void start();
-    void add(Object line);
+    // Adds the line that `make` gives; without memory for it, it is dropped and counted.
+    template <class Make> void note(const Make &make) noexcept {
+        try {
+            add(make());
+        } catch (...) {
+            lost++;
+        }
+    }
     uint64_t dropped() const { return lost; }
     // Waits until all is written, or for a second.
     void finish();
@@ -22,10 +29,11 @@ class Log {
     static constexpr size_t MOST = 1 << 20;
     std::mutex lock;
     std::condition_variable changed;
-    std::string waiting;
+    std::string waiting, writing;
     bool is_writing = false;
     std::atomic<uint64_t> lost{0};
 
+    void add(Object line);
     void write_all();
 };
 

@@ -4,6 +4,7 @@
 // README.md lists the paths.
 #include "http.hpp"
 #include "listener.hpp"
+#include "manager.hpp"
 #include "reloads.hpp"
 #include <csignal>
 #include <sys/resource.h>
@@ -16,7 +17,7 @@ namespace {
 // As many descriptors as connections need; or else fewer connections.
 void allow_descriptors(Options &options) {
     rlimit limit{};
-    const rlim_t others = 32 + Connections::SPARE;
+    const rlim_t others = Connections::OTHERS;
     if (getrlimit(RLIMIT_NOFILE, &limit) != 0) return;
     limit.rlim_cur = limit.rlim_max;
     setrlimit(RLIMIT_NOFILE, &limit);
@@ -40,60 +41,105 @@ void watch(Connections &connections, Searches &searches, const std::atomic<bool>
         }
 }
 
-// Answers what has come, and closes each connection with its next reply, or when it is silent; what
-// is not answered near the end of the time is refused. A further signal ends this at once.
-void drain(const Options &options, const sigset_t &signals, Listener &listener,
-    Connections &connections, Searches &searches) {
+// Waits for a time, as long as there is something to wait for; false if a signal has come.
+template <class Holds> bool wait(double seconds, const sigset_t &enders, const Holds &holds) {
     auto begin = Clock::now();
-    auto wait = [&](double seconds) {
-        timespec moment{0, 10000000};
-        while (connections.count() && seconds_since(begin) < seconds)
-            if (sigtimedwait(&signals, nullptr, &moment) > 0) return false;
-        return connections.count() > 0;
-    };
-    listener.finish();
-    if (!wait(0.9 * options.drain)) return;
-    searches.expire(true);
-    wait(options.drain);
+    const timespec moment{0, 10000000};
+    while (holds() && seconds_since(begin) < seconds)
+        if (sigtimedwait(&enders, nullptr, &moment) > 0) return false;
+    return true;
 }
 
-// The parts are never destroyed, since threads use them up to the end.
-[[noreturn]] void serve(const Options &given) {
-    static Options options = given;
-    static Log log;
-    static Metrics metrics;
-    allow_descriptors(options);
+// Answers what has come, and closes each connection with its next reply, or when it is silent; what
+// is not answered near the end of the time is refused. A further signal to end ends this at once.
+void drain(const Options &options, Listener &listener, Connections &connections, Searches &searches,
+    const sigset_t &enders) {
+    auto is_open = [&] { return connections.count() > 0; };
+    listener.finish();
+    if (!wait(0.9 * options.drain, enders, is_open)) return;
+    searches.expire(true);
+    wait(0.1 * options.drain, enders, is_open);
+}
+
+// Reads the files; with --parts, only says what it has found.
+std::shared_ptr<Roads> read_roads(const Options &options) {
     auto roads = Roads::read(options);
+    if (options.parts) {
+        std::fputs(roads->parts_text().c_str(), stdout);
+        std::fflush(stdout);
+        _exit(0);
+    }
+    return roads;
+}
+
+void announce(Log &log, const Listener &listener, const Roads &roads) {
+    if (!roads.not_factored.empty())
+        log.note([&] { return event("not factored").text("why", roads.not_factored); });
+    log.note([&] {
+        return event("listening")
+            .number("port", listener.port())
+            .number("vertices", roads.vertices)
+            .number("arcs", roads.arcs);
+    });
+    notify_manager("READY=1");
+}
+
+// The parts of the server, which are never destroyed, since threads use them up to the end.
+struct Server {
+    Options options;
+    Log log;
+    Metrics metrics;
+    Listener listener{options};
+    Connections connections{options, log, metrics};
+    Searches searches;
+    Http http{options, log, metrics, connections, searches};
+    Reloads reloads{options, log, metrics, searches};
+    std::atomic<bool> is_draining{false};
+
+    Server(const Options &given, const std::shared_ptr<Roads> &roads)
+        : options(given), searches(options, roads, Http::hold, Http::resume) {}
+
+    void start() {
+        log.start();
+        searches.start();
+        reloads.start();
+        std::thread([this] { watch(connections, searches, is_draining); }).detach();
+        auto take = [this](int socket, const sockaddr *from, socklen_t size) {
+            return http.take(socket, from, size);
+        };
+        listener.start(connections, log, metrics, take);
+    }
+
+    // Goes on for the time of grace, and then answers what has come.
+    void end() {
+        const auto enders = set_of({SIGTERM, SIGINT});
+        notify_manager("STOPPING=1");
+        http.end();
+        log.note([] { return event("ending"); });
+        if (wait(options.grace, enders, [] { return true; })) {
+            is_draining = true;
+            log.note([] { return event("draining"); });
+            http.drain();
+            drain(options, listener, connections, searches, enders);
+        }
+        log.note([&] { return event("ended").number("connections", connections.count()); });
+        log.finish();
+    }
+};
+
+[[noreturn]] void serve(Options options) {
+    allow_descriptors(options);
+    auto roads = read_roads(options);
     // Up to here SIGTERM ends the program by itself; from now on whoever waits for it hears it.
     const auto signals = set_of({SIGHUP, SIGTERM, SIGINT});
     pthread_sigmask(SIG_BLOCK, &signals, nullptr);
-    log.start();
-    static Listener listener(options);
-    static Connections connections(options, log, metrics);
-    static Searches searches(options, roads, Http::hold, Http::resume);
-    static Http http(options, log, metrics, connections, searches);
-    static Reloads reloads(options, log, metrics, searches);
-    static std::atomic<bool> is_draining{false};
-    searches.start();
-    reloads.start();
-    std::thread([] { watch(connections, searches, is_draining); }).detach();
-    listener.start(connections, log, metrics, [](int socket, const sockaddr *from, socklen_t size) {
-        return http.take(socket, from, size);
-    });
-    if (!roads->not_factored.empty())
-        log.add(event("not factored").text("why", roads->not_factored));
-    log.add(event("listening")
-                .number("port", listener.port())
-                .number("vertices", roads->vertices)
-                .number("arcs", roads->arcs));
+    auto &server = *new Server(options, roads);
+    if (!options.user.empty()) become(options.user);
+    server.start();
+    announce(server.log, server.listener, *roads);
     roads = nullptr;
-    for (int signal = 0; sigwait(&signals, &signal) == 0 && signal == SIGHUP;) reloads.ask();
-    is_draining = true;
-    log.add(event("draining"));
-    http.drain();
-    drain(options, signals, listener, connections, searches);
-    log.add(event("ended").number("connections", connections.count()));
-    log.finish();
+    for (int signal = 0; sigwait(&signals, &signal) == 0 && signal == SIGHUP;) server.reloads.ask();
+    server.end();
     _exit(0);
 }
 

@@ -1,5 +1,7 @@
 #include "metrics.hpp"
+#include "json.hpp"
 #include <algorithm>
+#include <cmath>
 #include <cstdio>
 
 namespace {
@@ -10,15 +12,17 @@ std::string number(double value) {
     return room;
 }
 
-void put_type(std::string &out, const std::string &name, const char *kind) {
-    out += "# TYPE " + name + " " + kind + "\n";
-}
-
 }  // namespace
 
-void put_family(std::string &out, const char *name, const char *kind, uint64_t number) {
-    put_type(out, name, kind);
-    out += std::string(name) + " " + std::to_string(number) + "\n";
+void put_type(std::string &out, const std::string &name, const char *kind, const char *help) {
+    out += "# HELP " + name + " " + help + ".\n# TYPE " + name + " " + kind + "\n";
+}
+
+void put_family(
+    std::string &out, const char *name, const char *kind, const char *help, double number) {
+    put_type(out, name, kind, help);
+    bool is_whole = number == std::floor(number) && std::abs(number) < 1e15;
+    out += std::string(name) + " " + shown(number, is_whole ? 0 : 6) + "\n";
 }
 
 void Metrics::answered(std::string_view path, int status, double seconds) {
@@ -41,13 +45,13 @@ void Metrics::put_histogram(std::string &out, const std::string &label, const Of
     char sum[64];
     std::snprintf(sum, sizeof sum, "%.6f", double(of.nanoseconds) / 1e9);
     out += name + "_sum{" + label + "} " + sum + "\n" + name + "_count{" + label + "} "
-        + std::to_string(count) + "\n";
+           + std::to_string(count) + "\n";
 }
 
 std::string Metrics::text() const {
     std::string out, histograms;
-    put_type(out, "diffuse_requests_total", "counter");
-    put_type(histograms, "diffuse_request_seconds", "histogram");
+    put_type(out, "diffuse_requests_total", "counter", "Requests that were answered");
+    put_type(histograms, "diffuse_request_seconds", "histogram", "From a request to its answer");
     for (size_t place = 0; place < PATHS.size(); place++) {
         auto &of = paths[place];
         bool is_asked = false;
@@ -56,17 +60,20 @@ std::string Metrics::text() const {
             if (!of.statuses[status]) continue;
             is_asked = true;
             out += "diffuse_requests_total{" + label + ",status=\"" + std::to_string(status)
-                + "\"} " + std::to_string(of.statuses[status]) + "\n";
+                   + "\"} " + std::to_string(of.statuses[status]) + "\n";
         }
         if (is_asked) put_histogram(histograms, label, of);
     }
     out += histograms;
-    put_type(out, "diffuse_reloads_total", "counter");
+    put_type(out, "diffuse_reloads_total", "counter", "Times that the files were read again");
     out += "diffuse_reloads_total{result=\"done\"} " + std::to_string(reloads) + "\n";
     out += "diffuse_reloads_total{result=\"failed\"} " + std::to_string(failed_reloads) + "\n";
-    put_family(out, "diffuse_reloads_reweighed_total", "counter", reweighed_reloads);
-    put_family(out, "diffuse_connections_refused_total", "counter", refused_connections);
-    put_family(out, "diffuse_connections_slow_total", "counter", slow_connections);
-    put_family(out, "diffuse_requests_cut_total", "counter", cut_requests);
+    auto put = [&](const char *name, const char *help, uint64_t count) {
+        put_family(out, name, "counter", help, double(count));
+    };
+    put("diffuse_reloads_reweighed_total", "Reloads over the old links", reweighed_reloads);
+    put("diffuse_connections_refused_total", "Connections that were too many", refused_connections);
+    put("diffuse_connections_slow_total", "Connections that were too slow", slow_connections);
+    put("diffuse_requests_cut_total", "Requests without a reply", cut_requests);
     return out;
 }

@@ -17,8 +17,8 @@ class Metrics {
     std::string text() const;
 
   private:
-    static constexpr std::array<const char *, 7> PATHS = {
-        "/route", "/tree", "/table", "/nearest", "/health", "/metrics", "other"};
+    static constexpr std::array<const char *, 8> PATHS = {
+        "/route", "/tree", "/table", "/nearest", "/roads", "/health", "/metrics", "other"};
     static constexpr std::array<double, 13> BOUNDS = {
         0.001, 0.0025, 0.005, 0.01, 0.025, 0.05, 0.1, 0.25, 0.5, 1, 2.5, 5, 10};
     struct OfPath {
@@ -31,5 +31,7 @@ class Metrics {
     static void put_histogram(std::string &out, const std::string &label, const OfPath &of);
 };
 
-// The lines of a family that is one number.
-void put_family(std::string &out, const char *name, const char *kind, uint64_t number);
+// The lines that begin a family, and those of a family that is one number.
+void put_type(std::string &out, const std::string &name, const char *kind, const char *help);
+void put_family(
+    std::string &out, const char *name, const char *kind, const char *help, double number);

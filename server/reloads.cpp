@@ -1,4 +1,5 @@
 #include "reloads.hpp"
+#include "manager.hpp"
 #include <thread>
 
 void Reloads::start() {
@@ -9,7 +10,9 @@ void Reloads::start() {
                 changed.wait(held, [this] { return is_asked; });
                 is_asked = false;
             }
+            notify_reload();
             reload();
+            notify_manager("READY=1");
         }
     }).detach();
 }
@@ -21,23 +24,27 @@ void Reloads::ask() {
 }
 
 void Reloads::reload() {
-    std::string error = "unknown";
     try {
         auto roads = Roads::read(options, searches.now().get());
-        Object line = event("reloaded");
-        line.number("vertices", roads->vertices).number("arcs", roads->arcs);
-        line.raw("reweighed", roads->is_reweighed ? "true" : "false");
-        if (!roads->not_factored.empty()) line.text("not factored", roads->not_factored);
         searches.use(roads);
         metrics.reloads++;
         metrics.reweighed_reloads += roads->is_reweighed;
-        return log.add(std::move(line));
+        return log.note([&] {
+            Object line = event("reloaded");
+            line.number("vertices", roads->vertices).number("arcs", roads->arcs);
+            line.raw("reweighed", roads->is_reweighed ? "true" : "false");
+            if (!roads->not_factored.empty()) line.text("not factored", roads->not_factored);
+            return line;
+        });
     } catch (const std::bad_alloc &) {
-        error = "out of memory";
     } catch (const std::exception &why) {
-        error = why.what();
-    } catch (...) {
+        note_failure(why.what());
+        return;
     }
+    note_failure("out of memory");
+}
+
+void Reloads::note_failure(const char *error) {
     metrics.failed_reloads++;
-    log.add(event("not reloaded").text("error", error));
+    log.note([&] { return event("not reloaded").text("error", error); });
 }

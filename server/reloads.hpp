@@ -23,4 +23,5 @@ class Reloads {
     bool is_asked = false;
 
     void reload();
+    void note_failure(const char *error);
 };

@@ -3,8 +3,7 @@
 
 namespace {
 
-Handle read_graph(const std::string &path, Origin &origin) {
-    std::string text = read_file(path, origin);
+Handle graph_of(const std::string &text, const std::string &path) {
     Handle graph;
     uint64_t line = 0;
     auto status = diffuse_graph_read(
@@ -15,24 +14,13 @@ Handle read_graph(const std::string &path, Origin &origin) {
     return graph;
 }
 
-// The arcs that leave a vertex.
-void arcs_from(Handle &graph, uint32_t vertex, std::vector<diffuse_arc> &arcs) {
-    size_t count = 0;
-    auto status = diffuse_graph_arcs_from(graph.at(), vertex, arcs.data(), arcs.size(), &count);
-    if (status == DIFFUSE_STATUS_NO_ROOM) {
-        arcs.resize(count);
-        return arcs_from(graph, vertex, arcs);
-    }
-    arcs.resize(count);
-}
-
 // All arcs, by their tails.
 std::vector<diffuse_arc> all_arcs(Handle &graph) {
     std::vector<diffuse_arc> all, some;
     all.reserve(diffuse_graph_arcs(graph.at()));
     for (uint32_t tail = 1; tail <= diffuse_graph_vertices(graph.at()); tail++) {
-        arcs_from(graph, tail, some);
-        all.insert(all.end(), some.begin(), some.end());
+        size_t count = arcs_from(graph, tail, some);
+        all.insert(all.end(), some.begin(), some.begin() + ptrdiff_t(count));
     }
     return all;
 }
@@ -41,23 +29,38 @@ std::vector<diffuse_arc> all_arcs(Handle &graph) {
 
 std::shared_ptr<Roads> Roads::read(const Options &options, Roads *before) {
     auto roads = std::make_shared<Roads>();
-    roads->first = read_graph(options.graph, roads->origin);
+    std::string text = read_file(options.graph, roads->origin);
+    roads->first = graph_of(text, options.graph);
+    roads->unit = options.unit;
     roads->vertices = diffuse_graph_vertices(roads->first.at());
+    if (!roads->vertices) throw BadFile(options.graph + ": the graph has no vertex");
     roads->arcs = diffuse_graph_arcs(roads->first.at());
+    if (!options.names.empty())
+        roads->streets = std::make_unique<Streets>(options.names, text, roads->vertices);
+    text = {};
     if (!options.also.empty()) roads->read_also(options.also_name, options.also);
-    if (!options.places.empty())
-        roads->places = std::make_unique<Places>(options.places, roads->vertices);
+    if (!options.places.empty()) roads->read_places(options.places);
     roads->is_reweighed = before && roads->reweigh(*before);
     if (options.factors && !roads->is_reweighed) roads->factor();
-    // What handles share is made now, and not at the first question.
-    roads->share();
+    for (unsigned i = 0; i < options.handles; i++) roads->shares.push_back(roads->share());
     return roads;
+}
+
+void Roads::read_places(const std::string &path) {
+    places = std::make_unique<Places>(path, vertices);
+    auto network = network_of(first);
+    auto found = parts_of(network);
+    largest_part = found.largest;
+    // If no part is large, no place is worse than another.
+    if (!found.has_large()) found.is_in.assign(vertices, true);
+    places->find_among(found.is_in);
+    drawing = std::make_unique<Drawing>(network, *places);
 }
 
 bool Roads::reweigh(Roads &before) {
     if (!before.is_factored || before.vertices != vertices) return false;
     auto list = all_arcs(first);
-    Handle factored = before.share(), second;
+    Handle factored = before.take(), second;
     auto status = diffuse_graph_reweigh(factored.at(), list.data(), list.size(), second.at());
     if (status == DIFFUSE_STATUS_MEMORY) throw std::bad_alloc();
     if (status != DIFFUSE_STATUS_DONE) return false;
@@ -75,29 +78,42 @@ void Roads::factor() {
 void Roads::read_also(const std::string &name, const std::string &path) {
     also = std::make_unique<Also>();
     also->name = name;
-    Handle second = read_graph(path, also->origin);
+    Handle second = graph_of(read_file(path, also->origin), path);
     if (diffuse_graph_vertices(second.at()) != vertices || diffuse_graph_arcs(second.at()) != arcs)
         throw BadFile(path + ": another number of vertices or arcs than " + origin.file);
     also->weights.reserve(arcs);
     std::vector<diffuse_arc> ours, theirs;
     for (uint32_t tail = 1; tail <= vertices; tail++) {
-        arcs_from(first, tail, ours);
-        arcs_from(second, tail, theirs);
-        bool same = ours.size() == theirs.size();
-        for (size_t i = 0; same && i < ours.size(); i++) same = ours[i].head == theirs[i].head;
+        size_t count = arcs_from(first, tail, ours);
+        bool same = arcs_from(second, tail, theirs) == count;
+        for (size_t i = 0; same && i < count; i++) same = ours[i].head == theirs[i].head;
         if (!same)
             throw BadFile(path + ": other arcs, or in another order, than " + origin.file
-                + " from vertex " + std::to_string(tail));
+                          + " from vertex " + std::to_string(tail));
         also->first.push_back(also->weights.size());
-        for (auto &arc : theirs) also->weights.push_back(arc.weight);
+        for (size_t i = 0; i < count; i++) also->weights.push_back(theirs[i].weight);
     }
+}
+
+Handle Roads::take() {
+    std::lock_guard<std::mutex> held(lock);
+    if (shares.empty()) return share();
+    auto taken = std::move(shares.back());
+    shares.pop_back();
+    return taken;
 }
 
 Handle Roads::share() {
     Handle second;
-    std::lock_guard<std::mutex> held(lock);
     if (diffuse_graph_share(first.at(), second.at()) != DIFFUSE_STATUS_DONE) throw std::bad_alloc();
     return second;
+}
+
+std::string Roads::parts_text() {
+    auto found = parts_of(network_of(first));
+    return std::to_string(vertices) + " vertices, " + std::to_string(found.count)
+        + " parts in which each reaches each; the largest has " + std::to_string(found.largest)
+        + "\n";
 }
 
 std::string Roads::health() const {
@@ -107,7 +123,9 @@ std::string Roads::health() const {
         .number("vertices", vertices)
         .number("arcs", arcs)
         .raw("graph", graph.end());
-    if (places) object.raw("places", places->shown().end());
-    if (also) object.raw(also->name, also->origin.shown().end());
+    if (places) object.raw("places", places->shown().end()).number("largest_part", largest_part);
+    if (streets) object.raw("names", streets->origin.shown().end());
+    if (also) object.text("also", also->name).raw(also->name, also->origin.shown().end());
+    if (!unit.empty()) object.text("unit", unit);
     return object.end() + "\n";
 }

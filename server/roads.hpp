@@ -1,10 +1,10 @@
 // What is served: a graph with its factors, the places of its vertices, and a second graph over the
 // same arcs.
 #pragma once
-#include "files.hpp"
-#include "handle.hpp"
+#include "drawing.hpp"
 #include "options.hpp"
-#include "places.hpp"
+#include "parts.hpp"
+#include "streets.hpp"
 #include <chrono>
 #include <memory>
 #include <mutex>
@@ -22,8 +22,9 @@ class Roads {
     // Reads all files that the options name; else BadFile or std::bad_alloc, and nothing is left.
     // If the graph before is factored and has links for all arcs, they are taken over.
     static std::shared_ptr<Roads> read(const Options &options, Roads *before = nullptr);
-    // A further handle on the one graph, for a thread that asks.
-    Handle share();
+    // A further handle on the one graph, for a thread that asks; those of all threads are made
+    // when the graph is read, so that none is refused for want of memory later.
+    Handle take();
     // What /health says.
     std::string health() const;
 
@@ -33,15 +34,24 @@ class Roads {
     std::string not_factored;
     bool is_reweighed = false;
     std::unique_ptr<Places> places;
+    std::unique_ptr<Drawing> drawing;
+    std::unique_ptr<Streets> streets;
     std::unique_ptr<Also> also;
+    // What `--parts` says.
+    std::string parts_text();
 
   private:
     Origin origin;
+    std::string unit;
     bool is_factored = false;
+    uint32_t largest_part = 0;
     std::mutex lock;
     Handle first;
+    std::vector<Handle> shares;
 
+    Handle share();
     void factor();
+    void read_places(const std::string &path);
     // Whether it is factored over the links of another graph: not if an arc has none there, or if
     // the weights are too great.
     bool reweigh(Roads &before);

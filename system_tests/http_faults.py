@@ -2,7 +2,6 @@
 import atexit
 import os
 import re
-import resource
 import signal
 import socket
 import subprocess
@@ -11,14 +10,7 @@ import time
 from pathlib import Path
 
 from http_requests import FIVE, TOWN
-from http_server import PATIENCE, Server, free_port, received, soon, statuses, together
-
-GET = b"GET /health HTTP/1.1\r\nHost: here\r\n\r\n"
-ROUTE = "/route?source=1&target=4"
-
-
-def connect(server, source="127.0.0.1", timeout=10):
-    return socket.create_connection(("127.0.0.1", server.port), timeout=timeout, source_address=(source, 0))
+from http_server import GET, PATIENCE, ROUTE, Server, free_port, received, soon, statuses
 
 
 class Trickle:
@@ -26,7 +18,7 @@ class Trickle:
 
     def __init__(self, server, count, source="127.0.0.1", data=GET[:-2] + b"X: " + b"x" * 1000):
         self.stop, self.replies = threading.Event(), b""
-        self.sockets = [connect(server, source) for _ in range(count)]
+        self.sockets = [server.connect(source) for _ in range(count)]
         self.data, self.thread = data, threading.Thread(target=self.run)
         self.thread.start()
 
@@ -53,10 +45,10 @@ def slow_clients():
     """A head and a body have a time in all; of one address few may be slow; the others are answered meanwhile."""
     server = Server(FIVE, "--read", "1")
     for data in (b"", GET[:10], b"POST /table HTTP/1.1\r\nHost: here\r\nContent-Length: 50\r\n\r\n{"):
-        began, got = time.monotonic(), server.raw(data, wait=10)
-        if statuses(got) != [408] or not 0.5 < time.monotonic() - began < 5:
+        began, got = time.monotonic(), statuses(server.raw(data))
+        if got != [408] or time.monotonic() - began < 0.5:
             yield f"{data}: {got} after {time.monotonic() - began:.1f} s"
-    kept = connect(server)
+    kept = server.connect()
     kept.sendall(GET)
     if statuses(kept.recv(65536)) != [200]:
         yield "a kept connection is not answered"
@@ -64,39 +56,40 @@ def slow_clients():
     if statuses(received(kept)) != [408]:
         yield "a second request on a kept connection has no time in all"
     trickle = Trickle(server, 20)
-    ended = soon(lambda: server.counted("diffuse_connections_slow_total") >= 24, 10)
+    ended = soon(lambda: server.counted("diffuse_connections_slow_total") >= 24)
     trickle.end()
     if not ended or statuses(trickle.replies) != [408] * 20:
         yield f"one byte after the other is for ever: {statuses(trickle.replies)}"
-    if server.end() != 0:
-        yield f"status {server.run.returncode}"
-    few = Server(FIVE, "--slow", "8", "--read", "60")
+    yield from server.ends()
+    few = Server(FIVE, "--slow", "8", "--read", "600")
     slow, other = Trickle(few, 40), Trickle(few, 4, "127.0.0.2")
-    if not soon(lambda: few.counted("diffuse_connections_slow_total") >= 32, 10) or few.counted("diffuse_connections ") > 14:
+    if not soon(lambda: few.counted("diffuse_connections_slow_total") >= 32) or few.counted("diffuse_connections ") > 14:
         yield f"{few.counted('diffuse_connections ')} slow connections stay, of eight that are allowed and four of another address"
     slow.end()
     other.end()
-    if few.end() != 0:
-        yield f"status {few.run.returncode}"
+    yield from few.ends()
 
 
 def all_connections_taken():
     """With all connections taken by slow or idle clients, /health and /metrics are answered, and idle ones make room."""
-    server = Server(FIVE, "--connections", "40", "--slow", "100")
-    slow = [connect(server) for _ in range(40)]
-    client = server.client()
-    if [server.ask(path, client=server.client())[0] for path in ("/health", "/metrics", ROUTE)] != [200, 200, 503]:
-        yield "too many connections are not refused as they should be"
+    server = Server(FIVE, "--connections", "40", "--slow", "100", "--read", "600")
+    body = b'{"source": 1, "target": 4}'
+    slow = [server.connect() for _ in range(40)]
     for one in slow:
-        one.sendall(GET)
+        one.sendall(b"POST /route HTTP/1.1\r\nHost: here\r\nExpect: 100-continue\r\nContent-Length: %d\r\n\r\n" % len(body))
         one.recv(65536)
-    if not soon(lambda: server.ask(ROUTE)[0] == 200, 5):
+    if [server.ask(path)[0] for path in ("/health", "/metrics", ROUTE)] != [200, 200, 503]:
+        yield "too many connections are not refused as they should be"
+    if server.counted("diffuse_connections_refused_total") != 1:
+        yield "what is answered is counted as refused, or what is refused is not"
+    for one in slow:
+        one.sendall(body)
+        one.recv(65536)
+    if not soon(server.answers):
         yield "forty idle clients close the server to all"
     for one in slow:
         one.close()
-    client.close()
-    if server.end() != 0:
-        yield f"status {server.run.returncode}"
+    yield from server.ends()
 
 
 def log_of_nobody():
@@ -111,7 +104,7 @@ def log_of_nobody():
         soon(lambda: is_open(port))
         if is_gone:
             os.close(reading)
-        client = server.client(timeout=10)
+        client = server.client()
         # A line has 256 bytes of the request: a pipe and what may wait hold some 3,500 of them.
         for turn in range(200 if is_gone else 6000):
             if turn % 100 == 0:
@@ -119,11 +112,10 @@ def log_of_nobody():
             server.ask("/health?" + "x" * 300 if turn % 2 or not is_gone else ROUTE, client=client)
         if not is_gone and server.counted("diffuse_log_lines_dropped_total") == 0:
             yield "no line is dropped of a log that nobody reads"
-        if server.counted('diffuse_reloads_total{result="done"}') < 1:
+        if not soon(lambda: server.counted('diffuse_reloads_total{result="done"}') >= 1):
             yield "no reload without a reader"
         client.close()
-        if server.end() != 0:
-            yield f"status {run.returncode} with a reader that {'is gone' if is_gone else 'stalls'}"
+        yield from (f"a reader that {'is gone' if is_gone else 'stalls'}: {wrong}" for wrong in server.ends())
         if not is_gone:
             os.close(reading)
 
@@ -154,7 +146,7 @@ def bad_reloads(room):
         elif kind != "missing":
             path.write_bytes(kind)
 
-    for kind in ("huge", "missing", "directory", "fifo", b"", b"p sp 5\n", b"p sp 2 1\na 1 9 1\n", b"p sp 5 2\na 1 2 3\n"):
+    for kind in ("huge", "missing", "directory", "fifo", b"", b"p sp 5\n", b"p sp 0 0\n", b"p sp 2 1\na 1 9 1\n", b"p sp 5 2\na 1 2 3\n"):
         make(kind)
         server.send(signal.SIGHUP)
         failed += 1
@@ -169,29 +161,13 @@ def bad_reloads(room):
 def few_descriptors():
     """Sixty connections with forty descriptors: no busy loop, a word in the log, and the server goes on."""
     server = Server(FIVE, prefix=("prlimit", "--nofile=40"))
-    clients = [connect(server) for _ in range(60)]
-    began = processor_time(server)
-    time.sleep(1.5)
-    spent = processor_time(server) - began
-    if spent > 0.5:
-        yield f"{spent} s of processor time in 1.5 s"
+    clients = [server.connect() for _ in range(60)]
+    _, spent = server.cost(lambda: time.sleep(1.5))
+    if spent > 0.5 or not server.logged("no connection can be taken"):
+        yield f"{spent} s of processor time in 1.5 s, {server.log[-2:]}"
     for one in clients:
         one.close()
-    if not soon(lambda: tries(server), 10) or server.end() != 0:
-        yield f"it does not go on: {server.log[-2:]}"
-
-
-def processor_time(server):
-    fields = Path(f"/proc/{server.run.pid}/stat").read_text().rpartition(")")[2].split()
-    return (int(fields[11]) + int(fields[12])) / os.sysconf("SC_CLK_TCK")
-
-
-def tries(server):
-    """Whether a route is answered."""
-    try:
-        return server.ask(ROUTE, client=server.client(timeout=2))[0] == 200
-    except OSError:
-        return False
+    yield from server.goes_on()
 
 
 def little_memory(room):
@@ -203,18 +179,16 @@ def little_memory(room):
     path = Path(room) / "growing.gr"
     path.write_bytes(FIVE.read_bytes())
     server = Server(path, "--handles", "2", "--connections", "2000")
-    size = int(Path(f"/proc/{server.run.pid}/statm").read_text().split()[0]) * resource.getpagesize()
-    subprocess.run(["prlimit", f"--pid={server.run.pid}", f"--as={size + (4 << 20)}"], check=True)
+    server.allow_memory(4 << 20)
     with open(path, "wb") as file:
         file.truncate(1 << 30)
     server.send(signal.SIGHUP)
     if not server.wait_for("not reloaded") or server.ask(ROUTE)[1].get("value") != 8:
         yield f"a reload without memory: {server.log[-1]}"
-    clients = [connect(server) for _ in range(900)]
+    clients = [server.connect() for _ in range(900)]
     for one in clients:
         one.close()
-    if not soon(lambda: tries(server), 10) or server.end() != 0:
-        yield f"connections without memory: {server.log[-2:]}"
+    yield from server.goes_on()
 
 
 def options():
@@ -238,10 +212,11 @@ def options():
 
 
 def no_graph(room):
-    """Files that are not there or no graph: said on standard error, and no server."""
-    bad = Path(room) / "bad.gr"
+    """Files that are not there or no graph, or a graph without a vertex: said on standard error, and no server."""
+    bad, empty = Path(room) / "bad.gr", Path(room) / "empty.gr"
     bad.write_text("p sp 5 1\na 1 9 1\n")
-    for path in (Path(room) / "none.gr", bad, Path(room)):
+    empty.write_text("p sp 0 0\n")
+    for path in (Path(room) / "none.gr", bad, empty, Path(room)):
         ran = subprocess.run([Server.program, path, "--port", "0"], stderr=subprocess.PIPE, text=True, timeout=PATIENCE)
         if ran.returncode != 1 or not ran.stderr.startswith(f"diffuse-server: {path}: "):
             yield f"{path}: status {ran.returncode}, {ran.stderr}"
@@ -251,28 +226,27 @@ def waits_for_100():
     """A client that waits for 100 Continue gets it at once."""
     server = Server(FIVE)
     body = b'{"source": 1, "target": 4}'
-    with connect(server) as one:
+    with server.connect() as one:
         one.sendall(b"POST /route HTTP/1.1\r\nHost: here\r\nExpect: 100-continue\r\nContent-Length: %d\r\n\r\n" % len(body))
         if statuses(one.recv(4096)) != [100]:
             yield "no 100 Continue"
         one.sendall(body)
         if statuses(one.recv(4096)) != [200]:
             yield "no reply after 100 Continue"
-    with connect(server) as one:
+    with server.connect() as one:
         one.sendall(b"POST /route HTTP/1.1\r\nHost: here\r\nExpect: 100-continue\r\nContent-Length: 2000000\r\n\r\n")
         if statuses(one.recv(4096)) != [413]:
             yield "a body that is too long is asked for"
     data = b"POST /route HTTP/1.1\r\nHost: here\r\nContent-Length: 2000000\r\n\r\n" + b" " * 2000000
     if statuses(server.raw(data)) != [413]:
         yield "a long body that is sent at once hears no 413"
-    if server.end() != 0:
-        yield f"status {server.run.returncode}"
+    yield from server.ends()
 
 
 def kept_connections(count):
     """Many kept connections, each asked in turn several times: every reply is right."""
-    server, wrong = Server(TOWN, "--queue", str(count), "--connections", str(count + 10)), []
-    sockets = [connect(server) for _ in range(count)]
+    server, wrong = Server(TOWN, "--queue", str(count), "--connections", str(count + 10), "--timeout", "600", "--slow", str(count)), []
+    sockets = [server.connect() for _ in range(count)]
     for turn in range(3):
         for place, one in enumerate(sockets):
             one.sendall(b"GET /route?source=%d&target=%d HTTP/1.1\r\nHost: here\r\n\r\n" % (place % 4000 + 1, (place + turn) % 4000 + 1))
@@ -284,5 +258,4 @@ def kept_connections(count):
         yield f"{len(wrong)} of {3 * count} replies are wrong: {wrong[:2]}"
     for one in sockets:
         one.close()
-    if server.end() != 0:
-        yield f"status {server.run.returncode}"
+    yield from server.ends()

@@ -1,10 +1,13 @@
 """Coordinates, geometry and a second graph, against the definition and by hand."""
 import math
+import os
 import random
 import subprocess
+import sys
 from pathlib import Path
 
-from http_requests import FIVE, TOWN
+from common import TOP
+from http_requests import TOWN
 from http_server import Server
 
 # The example of the format's documentation: (38.5, -120.2), (40.7, -120.95), (43.252, -126.453).
@@ -79,3 +82,27 @@ def nearest(room):
                 yield f"{lon},{lat} with {spread}: {vertex} and not {squares.index(min(squares)) + 1}"
         client.close()
         server.end()
+
+
+def from_a_map(room):
+    """A map of OpenStreetMap is served after one command: values are hundredths of a second, metres are those of the earth, and steps are its streets."""
+    package = TOP / "bindings/python/src"
+    if not (package / "diffuse/__main__.py").exists():
+        print("the Python package writes no roads: not run", flush=True)
+        return
+    nodes = "".join(f'<node id="{i}" lat="0.0" lon="0.00{i}"/>' for i in range(1, 5))
+    ways = "".join(f'<way id="{i}">{"".join(f"<nd ref={chr(34)}{node}{chr(34)}/>" for node in of)}<tag k="highway" v="residential"/><tag k="name" v="{name}"/></way>'
+                   for i, of, name in ((1, (1, 2, 3), "High Street"), (2, (3, 4), "Low Street")))
+    path, into = written(room, "small.osm", f'<osm version="0.6">{nodes}{ways}</osm>'), Path(room) / "roads"
+    command = [sys.executable, "-m", "diffuse", "roads", path, into]
+    ran = subprocess.run(command, env={**os.environ, "PYTHONPATH": str(package)}, stdout=subprocess.PIPE, stderr=subprocess.STDOUT, text=True, timeout=60)
+    if ran.returncode:
+        yield f"status {ran.returncode}: {ran.stdout[-300:]}"
+        return
+    server = Server(f"{into}.gr", "--places", f"{into}.co", "--names", f"{into}.names", "--also", f"metres={into}.m.gr", "--unit", "cs")
+    reply = server.ask("/route?from=0.001,0&to=0.004,0&steps=true")[1]
+    streets = [(step["street"], step["hops"], step["metres"]) for step in reply["steps"]]
+    # A thousandth of a degree of the equator is 111.2 metres.
+    if streets != [("High Street", 2, 222), ("Low Street", 1, 111)] or reply["metres"] != 333 or not 2000 < reply["value"] < 12000:
+        yield f"{reply}"
+    yield from server.ends()

@@ -1,28 +1,35 @@
 """The server of server/ that is tried: its process, its log, and clients."""
 import atexit
+import contextlib
+import functools
 import http.client
 import json
 import os
 import re
+import resource
 import signal
 import socket
 import subprocess
 import threading
 import time
+from pathlib import Path
 
-PATIENCE = 60
+PATIENCE = 120
+GET = b"GET /health HTTP/1.1\r\nHost: here\r\n\r\n"
+ROUTE = "/route?source=1&target=4"
 
 
 class Server:
     """A server over a graph, on a port that the system chooses; with `prefix`, run by another program, as prlimit."""
 
-    program = "diffuse-server"
+    program, reader = "diffuse-server", None
 
     def __init__(self, graph, *words, prefix=()):
         self.log, self.ready = [], threading.Event()
         self.run = subprocess.Popen([*prefix, self.program, graph, "--port", "0", *words], stdout=subprocess.DEVNULL, stderr=subprocess.PIPE, text=True)
         atexit.register(self.run.kill)
-        threading.Thread(target=self.read_log, daemon=True).start()
+        self.reader = threading.Thread(target=self.read_log, daemon=True)
+        self.reader.start()
         if not self.ready.wait(PATIENCE) or not hasattr(self, "port"):
             raise RuntimeError(f"the server does not listen: {self.log}")
 
@@ -34,8 +41,11 @@ class Server:
                 self.ready.set()
         self.ready.set()
 
-    def client(self, timeout=PATIENCE, source=None):
-        return http.client.HTTPConnection("127.0.0.1", self.port, timeout=timeout, source_address=source and (source, 0))
+    def client(self, timeout=PATIENCE):
+        return http.client.HTTPConnection("127.0.0.1", self.port, timeout=timeout)
+
+    def connect(self, source="127.0.0.1", timeout=PATIENCE):
+        return socket.create_connection(("127.0.0.1", self.port), timeout=timeout, source_address=(source, 0))
 
     def ask(self, path, body=None, client=None):
         """The status and the answer of one request, on a connection of its own if none is given."""
@@ -46,6 +56,25 @@ class Server:
         if client is None:
             own.close()
         return reply.status, json.loads(text) if reply.getheader("Content-Type") == "application/json" else text
+
+    def asker(self, path, take=lambda status, reply: None):
+        """A call that asks for a path on a connection of its own, and hands on what it hears."""
+        own = self.client()
+
+        def call():
+            try:
+                take(*self.ask(path, client=own))
+            except (OSError, http.client.HTTPException):
+                own.close()
+
+        return call
+
+    def answers(self):
+        """Whether a route is answered."""
+        try:
+            return self.ask(ROUTE, client=self.client(timeout=10))[0] == 200
+        except OSError:
+            return False
 
     def counted(self, name):
         """The sum of a counter or gauge, as the server reports it."""
@@ -60,14 +89,53 @@ class Server:
     def send(self, name):
         self.run.send_signal(name)
 
+    def processor_time(self):
+        fields = Path(f"/proc/{self.run.pid}/stat").read_text().rpartition(")")[2].split()
+        return (int(fields[11]) + int(fields[12])) / os.sysconf("SC_CLK_TCK")
+
+    def cost(self, call):
+        """What a call gives, and the processor time that the server takes meanwhile, which a busy machine does not change."""
+        before = self.processor_time()
+        return call(), self.processor_time() - before
+
+    def allow_memory(self, more):
+        """From now on the server may have so many bytes more than now; None: as many as it wants."""
+        size = int(Path(f"/proc/{self.run.pid}/statm").read_text().split()[0]) * resource.getpagesize()
+        subprocess.run(["prlimit", f"--pid={self.run.pid}", f"--as={'unlimited' if more is None else size + more}:"], check=True)
+
+    def is_quiet(self):
+        """Whether no request waits or is searched for."""
+        return self.counted("diffuse_searches_running") + self.counted("diffuse_requests_waiting") == 0
+
+    def wait(self):
+        """The status with which it ends, when all of its log is read; None if it goes on."""
+        try:
+            status = self.run.wait(PATIENCE)
+        except subprocess.TimeoutExpired:
+            return None
+        if self.reader:
+            self.reader.join(PATIENCE)
+        return status
+
     def end(self):
         """The status, when SIGTERM has ended it."""
         self.send(signal.SIGTERM)
-        return self.run.wait(PATIENCE)
+        return self.wait()
 
-    def raw(self, data, ends=False, wait=5):
-        """What comes back for some bytes, until the server closes or is silent for a while; `ends`: nothing more will be sent."""
-        with socket.create_connection(("127.0.0.1", self.port), timeout=wait) as one:
+    def ends(self):
+        """What is wrong, if SIGTERM does not end it with status 0."""
+        if self.end() != 0:
+            yield f"status {self.run.returncode}: {self.log[-2:]}"
+
+    def goes_on(self):
+        """What is wrong, if it answers no more, or does not end."""
+        if not soon(self.answers):
+            yield f"it does not go on: {self.log[-2:]}"
+        yield from self.ends()
+
+    def raw(self, data, ends=False, wait=PATIENCE):
+        """What comes back for some bytes, until the server closes or is silent for a while; `ends`: the client closes its end."""
+        with self.connect(timeout=wait) as one:
             try:
                 one.sendall(data)
                 if ends:
@@ -103,13 +171,39 @@ def soon(holds, patience=PATIENCE):
     return True
 
 
-def together(calls):
-    """Runs calls at once, and waits for all."""
+@contextlib.contextmanager
+def beside(calls):
+    """Runs calls beside what follows, and then waits for them."""
     threads = [threading.Thread(target=call) for call in calls]
     for thread in threads:
         thread.start()
-    for thread in threads:
-        thread.join()
+    try:
+        yield
+    finally:
+        for thread in threads:
+            thread.join()
+
+
+def together(calls):
+    """Runs calls at once, and waits for all."""
+    with beside(calls):
+        pass
+
+
+@contextlib.contextmanager
+def again_and_again(calls):
+    """Runs calls beside what follows, each over and over until that has ended."""
+    stop = threading.Event()
+
+    def repeat(call):
+        while not stop.is_set():
+            call()
+
+    with beside([functools.partial(repeat, call) for call in calls]):
+        try:
+            yield
+        finally:
+            stop.set()
 
 
 def replace(path, text):

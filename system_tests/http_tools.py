@@ -1,4 +1,4 @@
-"""The server as other programs see it: ab, wrk, a browser, and the commands of its page."""
+"""The server as other programs see it: ab, wrk, and the commands of its page; and the pictures of a browser."""
 import os
 import re
 import shutil
@@ -9,12 +9,13 @@ from importlib.machinery import SourceFileLoader
 from pathlib import Path
 
 from common import TOP
-from http_places import CHAIN, CHAIN_PLACES, written
+from http_places import written
 from http_requests import TOWN
 from http_server import PATIENCE, Server
 
-PAGE, MAP = "server/README.md", TOP / "server/map.html"
-ROUTE_COLOUR = (0xC0, 0x14, 0x3C)
+PAGE = "server/README.md"
+# For a load of one address on a busy machine.
+PATIENT = ("--slow", "1024", "--timeout", "600", "--read", "600")
 
 
 def by_ab(*connections):
@@ -22,7 +23,7 @@ def by_ab(*connections):
     if not shutil.which("ab"):
         print("ab is not installed: not run", flush=True)
         return
-    server = Server(TOWN, "--factors", "--queue", "1000")
+    server = Server(TOWN, "--factors", "--queue", "1000", *PATIENT)
     for count in connections:
         for kept in (["-k"], []):
             command = ["ab", "-q", *kept, "-c", str(count), "-n", "2000", f"http://127.0.0.1:{server.port}/route?source=1&target=4000"]
@@ -30,8 +31,7 @@ def by_ab(*connections):
             failed = re.search(r"Failed requests: +(\d+)", ran.stdout)
             if ran.returncode or "Non-2xx" in ran.stdout or not failed or failed[1] != "0":
                 yield f"{count} connections {kept}: {ran.stdout}"
-    if server.end() != 0:
-        yield f"status {server.run.returncode}"
+    yield from server.ends()
 
 
 def by_wrk(room):
@@ -39,14 +39,13 @@ def by_wrk(room):
     if not shutil.which("wrk"):
         print("wrk is not installed: not run", flush=True)
         return
-    server = Server(TOWN, "--factors")
+    server = Server(TOWN, "--factors", *PATIENT)
     script = "request = function() return wrk.format('GET', '/route?source=' .. math.random(4000) .. '&target=' .. math.random(4000)) end"
-    command = ["wrk", "-c", "64", "-t", "2", "-d", "2s", "-s", written(room, "pairs.lua", script), f"http://127.0.0.1:{server.port}"]
+    command = ["wrk", "-c", "64", "-t", "2", "-d", "2s", "--timeout", "60s", "-s", written(room, "pairs.lua", script), f"http://127.0.0.1:{server.port}"]
     ran = subprocess.run(command, stdout=subprocess.PIPE, stderr=subprocess.STDOUT, text=True, timeout=PATIENCE)
     if ran.returncode or "Non-2xx" in ran.stdout or "Socket errors" in ran.stdout or not re.search(r"[1-9]\d* requests in", ran.stdout):
         yield ran.stdout
-    if server.end() != 0:
-        yield f"status {server.run.returncode}"
+    yield from server.ends()
 
 
 def pixels(path):
@@ -70,29 +69,6 @@ def pixels(path):
         above = line
         rows.append([tuple(line[i : i + 3]) for i in range(0, len(line), step)])
     return rows
-
-
-def by_browser(room):
-    """A page of another origin draws a route from its GeoJSON: seen in what the browser painted."""
-    browser = shutil.which("chromium") or shutil.which("google-chrome")
-    if not browser:
-        print("chromium is not installed: not run", flush=True)
-        return
-    server = Server(written(room, "chain.gr", CHAIN), "--places", written(room, "chain.co", CHAIN_PLACES), "--cors", "*")
-    picture, url = Path(room) / "map.png", f"file://{MAP}#http://127.0.0.1:{server.port};-120.2,38.5;-126.4,43.2"
-    command = [browser, "--headless", "--no-sandbox", "--disable-gpu", "--disable-dev-shm-usage", f"--user-data-dir={room}/browser", "--virtual-time-budget=8000",
-               "--window-size=400,400", "--hide-scrollbars", f"--screenshot={picture}", url]
-    ran = subprocess.run(command, stdout=subprocess.PIPE, stderr=subprocess.STDOUT, text=True, timeout=PATIENCE)
-    if ran.returncode or not picture.exists():
-        yield f"status {ran.returncode}: {ran.stdout[-500:]}"
-        return
-    rows = pixels(picture)
-    drawn = [(x, y) for y, row in enumerate(rows) for x, colour in enumerate(row) if colour == ROUTE_COLOUR]
-    # From the lower right corner to the upper left one: south-east to north-west.
-    if len(drawn) < 300 or max(drawn)[1] < max(drawn, key=lambda it: -it[0])[1]:
-        yield f"{len(drawn)} points of the route, from {min(drawn, default=None)} to {max(drawn, default=None)}; {server.log[-3:]}"
-    if sum('"request": "GET /route?from=' in line and '"status": 200' in line for line in server.log) != 1 or server.end() != 0:
-        yield f"{server.log[-3:]}"
 
 
 def as_shown(room):

@@ -1,6 +1,6 @@
 /* Best values, routes, trees and tables in a road graph that is kept in memory. For C99, C++98 and later.
 
-   What each call promises is proved of the library itself; docs/EMBEDDING.md says what that means.
+   What each call answers is proved of the library itself; docs/EMBEDDING.md says what that means.
 
    What a caller owes, since nothing checks it:
    - Each pointer is aligned for its type and valid for as many elements as the number after it says. What the pointers of one
@@ -25,7 +25,7 @@
 
 /* The version of this header. diffuse_version() is that of the library: equal to DIFFUSE_VERSION if the two belong together. */
 #define DIFFUSE_VERSION_MAJOR 1
-#define DIFFUSE_VERSION_MINOR 1
+#define DIFFUSE_VERSION_MINOR 2
 #define DIFFUSE_VERSION_PATCH 0
 #define DIFFUSE_VERSION (10000 * DIFFUSE_VERSION_MAJOR + 100 * DIFFUSE_VERSION_MINOR + DIFFUSE_VERSION_PATCH)
 
@@ -67,8 +67,9 @@ struct diffuse_stop {
 
    After DIFFUSE_STATUS_DONE the answer is written. After a refusal the handle is as it was, and only what explains the refusal
    is written: code and hops of a route that is longer than the room, the number of arcs or vertices that are more than there
-   are places, vertex and reason of a wrong tree, the line of a text. */
+   are places, vertex and reason of a wrong tree, the line of a text. diffuse_status_text says the faults of a text, 10 to 19. */
 enum diffuse_status {
+    DIFFUSE_STATUS_NONE = -1,           /* no status: so compilers take the enumeration for signed, as the statuses are */
     DIFFUSE_STATUS_DONE = 0,
     DIFFUSE_STATUS_NO_ROUTE = 1,        /* no walk from the source to the target has a value */
     DIFFUSE_STATUS_NO_ROOM = 2,         /* route, route_arcs, near and arcs_from: fewer places than are needed; tree and check: a list
@@ -83,16 +84,16 @@ enum diffuse_status {
     DIFFUSE_STATUS_HEAVY = 8,           /* factor and reweigh: the weights are so great that a sum with its arcs may not fit into
                                            63 bits */
     DIFFUSE_STATUS_NO_FACTORS = 9,      /* factor: the algebra has no factors */
-    DIFFUSE_STATUS_NO_PROBLEM = 10,     /* read: a line before the problem line, or no problem line */
-    DIFFUSE_STATUS_SECOND_PROBLEM = 11, /* read: a second problem line */
-    DIFFUSE_STATUS_BAD_PROBLEM = 12,    /* read: a problem line that is not `p sp VERTICES ARCS` */
-    DIFFUSE_STATUS_UNKNOWN_LINE = 13,   /* read: a line that begins with none of c, p and a */
-    DIFFUSE_STATUS_FIELDS = 14,         /* read: an arc line with another number of fields than four */
-    DIFFUSE_STATUS_NOT_A_NUMBER = 15,   /* read: a field that should be a number and is none */
+    DIFFUSE_STATUS_NO_PROBLEM = 10,
+    DIFFUSE_STATUS_SECOND_PROBLEM = 11,
+    DIFFUSE_STATUS_BAD_PROBLEM = 12,
+    DIFFUSE_STATUS_UNKNOWN_LINE = 13,
+    DIFFUSE_STATUS_FIELDS = 14,
+    DIFFUSE_STATUS_NOT_A_NUMBER = 15,
     DIFFUSE_STATUS_LIMIT = 16,          /* open and reweigh: too many vertices or arcs; read: a number above its limit */
     DIFFUSE_STATUS_NO_VERTEX = 17,      /* a source, a target, an end of an arc or the vertex of arcs_from is none of the graph */
-    DIFFUSE_STATUS_TOO_MANY = 18,       /* read: more arc lines than announced */
-    DIFFUSE_STATUS_TOO_FEW = 19,        /* read: fewer arc lines than announced */
+    DIFFUSE_STATUS_TOO_MANY = 18,
+    DIFFUSE_STATUS_TOO_FEW = 19,
     DIFFUSE_STATUS_NO_ALGEBRA = 43,     /* there is no such algebra, or its limit is above 2^63 */
     DIFFUSE_STATUS_NO_LINK = 44,        /* reweigh: an arc between vertices between which the factors have no link */
     DIFFUSE_STATUS_STOPPED = 45,        /* route, tree, near and table: the handle's stop was set before there was an answer */
@@ -111,14 +112,14 @@ enum diffuse_algebra DIFFUSE_32_BITS {
     DIFFUSE_ALGEBRA_WITHIN = 5    /* the least sum of weights that is at most the limit; the code is the sum */
 };
 
-/* Why the line of a vertex, which is its code, hops and parent, is wrong: the numbers of the program's checker. */
+/* Why the line of a vertex, its code, hops and parent, is wrong, as diffuse_reason_text says: the numbers of the program's checker. */
 enum diffuse_reason {
-    DIFFUSE_REASON_NOT_A_SOURCE_LINE = 1, /* a source does not have the code of no arcs, 0 hops and parent 0 */
-    DIFFUSE_REASON_NOT_BEST = 2,          /* an arc gives a better value */
-    DIFFUSE_REASON_NO_PARENT = 3,         /* the code is that of no value, or the parent does not give this value */
-    DIFFUSE_REASON_OTHER_HOPS = 4,        /* the hops are not the parent's and one, or an arc gives the value with fewer */
-    DIFFUSE_REASON_LESSER_PARENT = 5,     /* a lesser vertex could be the parent */
-    DIFFUSE_REASON_HAS_WALK = 6           /* the vertex is reported unreached, and an arc gives it a value */
+    DIFFUSE_REASON_NOT_A_SOURCE_LINE = 1,
+    DIFFUSE_REASON_NOT_BEST = 2,
+    DIFFUSE_REASON_NO_PARENT = 3,
+    DIFFUSE_REASON_OTHER_HOPS = 4,
+    DIFFUSE_REASON_LESSER_PARENT = 5,
+    DIFFUSE_REASON_HAS_WALK = 6
 };
 
 /* The code of a vertex to which no walk has a value; its hops and its parent are 0. */
@@ -159,8 +160,8 @@ enum diffuse_status diffuse_graph_open(uint32_t vertices, const struct diffuse_a
 DIFFUSE_CHECKED((3))
 enum diffuse_status diffuse_graph_read(const uint8_t *bytes, size_t n_bytes, struct diffuse_graph *graph, uint64_t *line);
 
-/* Opens a second, closed handle with the graph of an open one, and with the factors and the numbers that this one has. Both have
-   one copy of the graph, of its factors, of the numbers, and of its arcs by head, which are made now if no call has needed them yet.
+/* Opens a second, closed handle with the graph of an open one, its factors and its numbers. Both have one copy of these, and of the
+   arcs by head, which are made now if no call has needed them yet.
    OPEN, CLOSED, MEMORY or DONE. */
 DIFFUSE_CHECKED((1, 2))
 enum diffuse_status diffuse_graph_share(struct diffuse_graph *graph, struct diffuse_graph *second);
@@ -173,17 +174,15 @@ DIFFUSE_NONNULL((1)) uint32_t diffuse_graph_vertices(struct diffuse_graph *graph
 DIFFUSE_NONNULL((1)) size_t diffuse_graph_arcs(struct diffuse_graph *graph);
 
 /* Reads back the arcs that leave a vertex, in the order in which they were given, and counts them. The places after them are
-   left as they are. If there are fewer places, the number is written all the same. CLOSED, NO_VERTEX, NO_ROOM or DONE. */
+   left as they are. If there are fewer places, only *count is written. CLOSED, NO_VERTEX, NO_ROOM or DONE. */
 DIFFUSE_CHECKED((1))
 enum diffuse_status diffuse_graph_arcs_from(struct diffuse_graph *graph, uint32_t vertex,
     struct diffuse_arc *arcs, size_t n_arcs, size_t *count);
 
 /* The best value from a source to a target, as a code, the least hops of a walk of tight arcs (each gives its head's best
    value from its tail's), and the route along least parents: hops + 1 vertices, from the source on. The room after them is
-   left as it is. If the room is shorter, code and hops are written all the same. A search needs lists of all vertices, 26 bytes
-   a vertex, which the handle keeps for later routes by the same algebra, until it searches by another one or is closed; a later
-   search puts back only what the one before touched, and goes on with it if the source is the same. With factors a near route
-   is found by a search, and a far one by the factors.
+   left as it is. If the room is shorter, code and hops are written all the same. The first search makes lists of all vertices; the
+   handle keeps those of its last algebra, and goes on with the search of its last source.
    CLOSED, NO_VERTEX, NO_ALGEBRA, MEMORY, STOPPED, NO_ROUTE, NO_ROOM or DONE. */
 DIFFUSE_CHECKED((1))
 enum diffuse_status diffuse_graph_route(struct diffuse_graph *graph, enum diffuse_algebra algebra, uint64_t limit,
@@ -191,8 +190,8 @@ enum diffuse_status diffuse_graph_route(struct diffuse_graph *graph, enum diffus
 
 /* Numbers the arcs of the graph by their places in a list, counted from 0, so that diffuse_graph_route_arcs tells parallel arcs
    apart: the list is that which was given to open, or has the same arcs in another order, if those of one tail are in the order
-   in which diffuse_graph_arcs_from reads them back. It may be changed or freed afterwards. The numbers take 4 bytes an arc and 4 a
-   vertex, and while they are made 32 and 12; a later call puts others in their place. If they are other arcs, nothing changes.
+   in which diffuse_graph_arcs_from reads them back. It may be changed or freed afterwards. A later call puts other numbers in
+   their place. If they are other arcs, nothing changes.
    CLOSED, OTHER_ARCS, MEMORY or DONE. */
 DIFFUSE_CHECKED((1))
 enum diffuse_status diffuse_graph_number(struct diffuse_graph *graph, const struct diffuse_arc *arcs, size_t n_arcs);
@@ -208,8 +207,7 @@ enum diffuse_status diffuse_graph_route_arcs(struct diffuse_graph *graph, enum d
     uint32_t source, uint32_t target, uint64_t *code, uint32_t *hops, uint32_t *room, size_t n_room, uint32_t *arcs, size_t n_arcs);
 
 /* For each vertex v, in place v - 1: the best value from the nearest of the sources, as a code, its least hops and its least
-   parent. An unreached vertex has DIFFUSE_UNREACHED, 0 and 0; a source has parent 0. A list of no places is not wanted. With factors,
-   or a stop, the tree is searched for in the lists of diffuse_graph_near, which are made and kept as they are there.
+   parent. An unreached vertex has DIFFUSE_UNREACHED, 0 and 0; a source has parent 0. A list of no places is not wanted.
    CLOSED, NO_VERTEX, NO_ROOM, NO_ALGEBRA, MEMORY, STOPPED or DONE. */
 DIFFUSE_CHECKED((1))
 enum diffuse_status diffuse_graph_tree(struct diffuse_graph *graph, enum diffuse_algebra algebra, uint64_t limit,
@@ -219,8 +217,9 @@ enum diffuse_status diffuse_graph_tree(struct diffuse_graph *graph, enum diffuse
 /* The vertices that are reached from the nearest of the sources, the best first: in the first *count places of each list, in
    this order, the vertices, and the code, the hops and the parent of each, as diffuse_graph_tree gives them. The places after
    them are left as they are. A list of no places is not wanted. If a list has fewer places, *count is written all the same, and
-   the lists are left as they are. The time is that of what is reached; lists of all vertices are made by the first such call,
-   and kept in the handle until one is by another algebra, or it is closed. Factors are not used.
+   the lists are left as they are. Equal codes are in the order of their hops, and then of the vertices: this is tested, and
+   not proved. The time is that of what is reached, after the first call by an algebra, which makes lists of all vertices. Factors
+   are not used.
    CLOSED, NO_VERTEX, NO_ALGEBRA, MEMORY, STOPPED, NO_ROOM or DONE. */
 DIFFUSE_CHECKED((1))
 enum diffuse_status diffuse_graph_near(struct diffuse_graph *graph, enum diffuse_algebra algebra, uint64_t limit,
@@ -244,22 +243,18 @@ DIFFUSE_CHECKED((1))
 enum diffuse_status diffuse_graph_table(struct diffuse_graph *graph, enum diffuse_algebra algebra, uint64_t limit,
     const uint32_t *sources, size_t n_sources, const uint32_t *targets, size_t n_targets, uint64_t *codes, size_t n_codes);
 
-/* Factors the graph for an algebra. Afterwards far routes, trees and tables of this handle, and of those opened from it by
-   diffuse_graph_share later, use the factors, and answer the same in a fraction of the time. A route is searched for first, among
-   some hundred vertices, and a tree among 500 and a 64th of the vertices; the factors are asked if that does not decide it. So
-   each handle also keeps the lists of these searches, 26 and 25 bytes a vertex, beside its own lists for the factors, 21 bytes a
-   vertex. SHORTEST and WITHIN at every limit have one factoring, HOPS has its own, and the other algebras have none. It takes the
-   time of ten to twenty routes. Once it is done, a second call for the same factoring does nothing. After a refusal calls search,
-   as before, and a second call tries again.
+/* Factors the graph for an algebra. Afterwards far routes, far trees and tables of this handle, and of those opened from it by
+   diffuse_graph_share later, use the factors, and answer the same in a fraction of the time; what is near is still searched for.
+   SHORTEST and WITHIN at every limit have one factoring, HOPS has its own, and the other algebras have none. Once it is done, a
+   second call for the same factoring does nothing. After a refusal calls search, as before, and a second call tries again.
    CLOSED, NO_ALGEBRA, NO_FACTORS, MEMORY, HEAVY, DENSE or DONE. */
 DIFFUSE_CHECKED((1))
 enum diffuse_status diffuse_graph_factor(struct diffuse_graph *graph, enum diffuse_algebra algebra);
 
 /* Opens a second, closed handle with the graph of these arcs on the same vertices, factored as the first one is, over the links
-   that it has: in a fraction of the time of diffuse_graph_factor. Weights may change, and arcs may go, come back or have others
-   beside them; there is always a link between two vertices that an arc of the first graph joins, this way or that. If the first
-   graph is not factored, neither is the second. The first handle goes on to answer about its own graph, and so do those that
-   share it, on other threads meanwhile too. The arcs may be changed or freed afterwards.
+   that it has, in about half the time of diffuse_graph_factor. Weights may change, and arcs may go, come back or have others
+   beside them; two vertices that an arc of the first graph joins, this way or that, always have a link. The first handle and those
+   that share it go on to answer about their graph, on other threads meanwhile too. The arcs may be changed or freed afterwards.
    OPEN, CLOSED, LIMIT, NO_VERTEX, MEMORY, HEAVY, NO_LINK or DONE. */
 DIFFUSE_CHECKED((1, 4))
 enum diffuse_status diffuse_graph_reweigh(struct diffuse_graph *graph, const struct diffuse_arc *arcs, size_t n_arcs,
@@ -269,10 +264,10 @@ enum diffuse_status diffuse_graph_reweigh(struct diffuse_graph *graph, const str
 DIFFUSE_CHECKED((1)) enum diffuse_status diffuse_stop_new(struct diffuse_stop *stop);
 
 /* Gives a handle a stop, in place of the one that it had: once the stop is set, routes, trees, tables and near answers of the
-   handle end with STOPPED, at the latest after some thousand more steps of a search or one pass over the factors or the arcs, and
-   nothing is written. A call that has its answer sooner gives it. The stop stays with the handle, whether it is freed or not, until
-   another takes its place; with a closed one the handle has none. diffuse_graph_share and diffuse_graph_reweigh give the second
-   handle none. Many handles may have one stop. CLOSED, MEMORY or DONE. */
+   handle end with STOPPED, at the latest after a few thousand more steps of a search or one pass over the factors or the arcs, and
+   nothing is written. A call that has its answer sooner gives it. The stop stays with the handle, freed or not, until another takes
+   its place; a closed one takes it away. A second handle, by share or reweigh, has none. Many handles may have one stop.
+   CLOSED, MEMORY or DONE. */
 DIFFUSE_CHECKED((1, 2)) enum diffuse_status diffuse_graph_stop_by(struct diffuse_graph *graph, struct diffuse_stop *stop);
 
 /* Sets or clears a stop. It may be set while another thread is in a call of a handle that has it; like a handle, the stop itself
@@ -283,12 +278,26 @@ DIFFUSE_NONNULL((1)) enum diffuse_status diffuse_stop_clear(struct diffuse_stop 
 /* Closes a stop. Handles that have it keep it as it is; a closed stop stays closed. */
 DIFFUSE_NONNULL((1)) void diffuse_stop_free(struct diffuse_stop *stop);
 
-/* The library's version, as DIFFUSE_VERSION is made: 1.1.0 is 10100. */
+/* The library's version, as DIFFUSE_VERSION is made: 1.2.0 is 10200. */
 uint32_t diffuse_version(void);
 
-/* The library writes each single number. What a caller sees gives it a place for each that is not wanted, inline in the caller.
+/* The library's own functions need a valid pointer for each single number. The inline functions below replace NULL by a local
+   variable.
    For GCC that has no symbol of its own. Other compilers see it by macros; with one of these a caller that defines such a
-   function itself, as a test double, undefines its macro first. */
+   function itself, as a test double, undefines its macro first. What is DIFFUSE_ONE is there once in a program, so that a caller's
+   inline functions may use it. */
+#if defined(__GNUC__) && !defined(__cplusplus)
+#pragma GCC diagnostic push
+#pragma GCC diagnostic ignored "-Wmissing-prototypes"
+#pragma GCC diagnostic ignored "-Wmissing-declarations"
+#endif
+#if defined(__cplusplus)
+#define DIFFUSE_ONE inline
+#elif defined(__GNUC__)
+#define DIFFUSE_ONE __attribute__((weak, visibility("hidden")))
+#else
+#define DIFFUSE_ONE static inline
+#endif
 #if defined(__GNUC__) && !defined(__clang__)
 #define DIFFUSE_INLINE extern inline __attribute__((gnu_inline, always_inline))
 #define DIFFUSE_NULLABLE(name) name
@@ -313,13 +322,7 @@ enum diffuse_status diffuse_graph_check_of_library(struct diffuse_graph *graph, 
     const uint64_t *codes, size_t n_codes, const uint32_t *hops, size_t n_hops, const uint32_t *parents, size_t n_parents,
     uint32_t *vertex, uint32_t *reason) __asm__("diffuse_graph_check");
 #else
-#if defined(__cplusplus)
-#define DIFFUSE_INLINE inline
-#elif defined(__clang__)
-#define DIFFUSE_INLINE __attribute__((weak))
-#else
-#define DIFFUSE_INLINE static inline
-#endif
+#define DIFFUSE_INLINE DIFFUSE_ONE
 #define DIFFUSE_NULLABLE(name) name##_nullable
 #define diffuse_graph_read_of_library diffuse_graph_read
 #define diffuse_graph_arcs_from_of_library diffuse_graph_arcs_from
@@ -393,13 +396,13 @@ enum diffuse_status DIFFUSE_NULLABLE(diffuse_graph_check)(struct diffuse_graph *
 #endif
 
 /* A closed handle, to be assigned. */
-static inline struct diffuse_graph diffuse_graph_closed(void) {
+DIFFUSE_ONE struct diffuse_graph diffuse_graph_closed(void) {
     struct diffuse_graph closed = DIFFUSE_CLOSED;
     return closed;
 }
 
 /* What a status means, in English and without a full stop. */
-static inline const char *diffuse_status_text(int32_t status) {
+DIFFUSE_ONE const char *diffuse_status_text(int32_t status) {
     switch (status) {
     case DIFFUSE_STATUS_DONE: return "done";
     case DIFFUSE_STATUS_NO_ROUTE: return "no route";
@@ -431,7 +434,7 @@ static inline const char *diffuse_status_text(int32_t status) {
 }
 
 /* What is wrong at a vertex, by the reason that diffuse_graph_check wrote. */
-static inline const char *diffuse_reason_text(uint32_t reason) {
+DIFFUSE_ONE const char *diffuse_reason_text(uint32_t reason) {
     switch (reason) {
     case DIFFUSE_REASON_NOT_A_SOURCE_LINE: return "a source without the code of no arcs, 0 hops and parent 0";
     case DIFFUSE_REASON_NOT_BEST: return "an arc gives a better value";
@@ -442,5 +445,9 @@ static inline const char *diffuse_reason_text(uint32_t reason) {
     default: return "no reason";
     }
 }
+
+#if defined(__GNUC__) && !defined(__cplusplus)
+#pragma GCC diagnostic pop
+#endif
 
 #endif

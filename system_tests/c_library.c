@@ -199,22 +199,23 @@ static int opens(long count) {
 }
 
 enum { SIDE = 150, PLACES = SIDE * SIDE };
+static struct diffuse_arc square[4 * PLACES];
+static size_t n_square;
 
 /* A square of streets that lead both ways, with weights from 1 to 1000. */
 static int open_square(struct diffuse_graph *graph) {
-    static struct diffuse_arc arcs[4 * PLACES];
-    size_t n = 0;
     uint32_t weight = 1;
+    n_square = 0;
     for (uint32_t v = 1; v <= PLACES; v++) {
         uint32_t next[] = {v % SIDE ? v + 1 : v, v + SIDE <= PLACES ? v + SIDE : v};
         for (int i = 0; i < 2; i++) {
             if (next[i] == v) continue;
             weight = weight * 31 % 997 + 1;
-            arcs[n++] = (struct diffuse_arc){v, next[i], weight};
-            arcs[n++] = (struct diffuse_arc){next[i], v, weight};
+            square[n_square++] = (struct diffuse_arc){v, next[i], weight};
+            square[n_square++] = (struct diffuse_arc){next[i], v, weight};
         }
     }
-    return diffuse_graph_open(PLACES, arcs, n, graph);
+    return diffuse_graph_open(PLACES, square, n_square, graph);
 }
 
 /* The sum of the codes and of the vertices of routes from the middle of each row to a place so many further on; 0 if a call fails. */
@@ -238,19 +239,20 @@ static clock_t time_of(work_on *work, struct diffuse_graph *graph) {
     return clock() - before;
 }
 
-/* How many times longer work by factors may take than by searches. Without a search first it took 190 times as long for routes, and 8 for trees. */
-enum { SLOWER = 5 };
+/* How much of the time by searches work by factors may take, in hundredths. What is near took 190 times as long for routes, and 8
+   for trees, without a search first. By factors that are used a far route takes a seventh, a tree 0.55 and a table a twentieth. */
+enum { NEARLY_AS_LONG = 500, ROUTE_BY_FACTORS = 50, TREE_BY_FACTORS = 80, TABLE_BY_FACTORS = 30 };
 
 /* Reports work that takes too long by factors, by the least times of 30 runs. The two take turns, so that what else the machine
    does slows both alike; the first run makes lists. */
-static void compare_times(const char *name, work_on *work, struct diffuse_graph *searched, struct diffuse_graph *factored) {
+static void compare_times(const char *name, work_on *work, struct diffuse_graph *searched, struct diffuse_graph *factored, clock_t most) {
     clock_t by_search = 0, by_factors = 0;
     for (int run = 0; run <= 30; run++) {
         clock_t search = time_of(work, searched), substitution = time_of(work, factored);
         if (run <= 1 || search < by_search) by_search = search;
         if (run <= 1 || substitution < by_factors) by_factors = substitution;
     }
-    if (by_factors > SLOWER * by_search) printf("slower %s: %ld clocks, and %ld by searches\n", name, (long)by_factors, (long)by_search);
+    if (100 * by_factors > most * by_search) printf("slower %s: %ld clocks, and %ld by searches\n", name, (long)by_factors, (long)by_search);
 }
 
 static void near_routes(struct diffuse_graph *graph) { routes_on(graph, 2); }
@@ -281,7 +283,45 @@ static void small_trees(struct diffuse_graph *searched, struct diffuse_graph *fa
         tree_within(factored, LIMITS[i], &by_factors_lists);
         if (memcmp(&by_search_lists, &by_factors_lists, sizeof by_search_lists) != 0) printf("another tree within %lu\n", (unsigned long)LIMITS[i]);
     }
-    compare_times("trees", ten_small_trees, searched, factored);
+    compare_times("trees", ten_small_trees, searched, factored, NEARLY_AS_LONG);
+}
+
+static enum diffuse_algebra far_by;
+
+/* From another source each time, since a search goes on from the last one. */
+static void far_route(struct diffuse_graph *graph) {
+    static uint32_t room[PLACES], source;
+    uint64_t code;
+    uint32_t hops;
+    source = source % SIDE + 1;
+    if (diffuse_graph_route(graph, far_by, 0, source, PLACES, &code, &hops, room, PLACES) != DIFFUSE_STATUS_DONE) printf("no far route\n");
+}
+
+static void whole_tree(struct diffuse_graph *graph) {
+    struct lists *l = &by_search_lists;
+    if (diffuse_graph_tree(graph, far_by, 0, &SOURCE, 1, l->codes, PLACES, l->hops, PLACES, l->parents, PLACES) != DIFFUSE_STATUS_DONE) printf("no tree\n");
+}
+
+static void far_table(struct diffuse_graph *graph) {
+    static const uint32_t FROM[] = {1, PLACES}, TO[] = {PLACES, PLACES / 2 + 7};
+    uint64_t codes[4];
+    if (diffuse_graph_table(graph, far_by, 0, FROM, 2, TO, 2, codes, 4) != DIFFUSE_STATUS_DONE) printf("no table\n");
+}
+
+/* Factors are used for far routes, whole trees and tables, by each factoring, and after a graph was reweighed. */
+static enum diffuse_status far_answers(struct diffuse_graph *searched, struct diffuse_graph *factored) {
+    struct diffuse_graph other = DIFFUSE_CLOSED;
+    enum diffuse_status status = diffuse_graph_factor(factored, DIFFUSE_ALGEBRA_HOPS);
+    if (status == DIFFUSE_STATUS_DONE) status = diffuse_graph_reweigh(factored, square, n_square, &other);
+    for (int i = 0; i < 4 && status == DIFFUSE_STATUS_DONE; i++) {
+        struct diffuse_graph *graph = i < 2 ? factored : &other;
+        far_by = i % 2 ? DIFFUSE_ALGEBRA_HOPS : DIFFUSE_ALGEBRA_SHORTEST;
+        compare_times(i < 2 ? "far routes" : "far routes of a reweighed graph", far_route, searched, graph, ROUTE_BY_FACTORS);
+        compare_times(i < 2 ? "whole trees" : "whole trees of a reweighed graph", whole_tree, searched, graph, TREE_BY_FACTORS);
+        compare_times(i < 2 ? "tables" : "tables of a reweighed graph", far_table, searched, graph, TABLE_BY_FACTORS);
+    }
+    diffuse_graph_close(&other);
+    return status;
 }
 
 /* Routes by factors are those by searches, near and far, and near ones take hardly longer. */
@@ -293,8 +333,9 @@ static int near(void) {
         uint64_t sum = routes_on(&searched, further);
         if (sum == 0 || sum != routes_on(&factored, further)) printf("other routes, %u places on\n", further);
     }
-    compare_times("routes", near_routes, &searched, &factored);
+    compare_times("routes", near_routes, &searched, &factored, NEARLY_AS_LONG);
     small_trees(&searched, &factored);
+    if (far_answers(&searched, &factored) != DIFFUSE_STATUS_DONE) return 1;
     printf("near\n");
     diffuse_graph_close(&searched);
     diffuse_graph_close(&factored);

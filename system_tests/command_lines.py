@@ -31,7 +31,7 @@ FILE_TAKEN = "error: `--accounts` would overwrite an input, or the output or err
 UNCOUNTED = "error: `--plain` and `--factors` count nothing: leave out `--accounts`\n"
 NO_SUCH_FAULT = "error: no fault has this number; `diffuse faults` lists them\n"
 UNFACTORED = "error: `--order` needs `--factors`\n"
-VERSION = "diffuse 1.1.0 (rattle-kit-13)\n"
+VERSION = "diffuse 1.2.0 (rattle-kit-13)\n"
 THIRTEEN = """fault 13: a line that this file does not have
   example: `x 1 2 3` in a graph, `q 1 2` in a .ss file
   cause: in line 1 of a graph, a compressed file: give `<(zcat FILE)`

@@ -20,7 +20,13 @@ LONG = 25
 FUNCTION = re.compile(r"^ *(?:pub(?:\([a-z]+\))? )?(?:const )?(?:unsafe )?(?:extern \"C\" )?fn (\w+)", re.M)
 IMPL = re.compile(r"^impl\b(?:<.*?>)? ?(.*?)(?:\{|$)", re.M)
 TOLD = re.compile(r"^(?:note: )?(?:\./)?(src|specs|proofs)/\S*?:\d+:\d+:")
-NOT_PROVED = re.compile(r"^fn \S+: (?:not proved|no proof)")
+NOT_PROVED = re.compile(r"^fn \w+::(\S+): (?:not proved|no proof)")
+# A goal that is left open: one whose answer is wrong, by the file of its function; a measure that a loop lacks, by the same; or one
+# that has no answer, which is printed just before its function.
+WRONG_ANSWER = re.compile(r"^(?:\./)?proofs/(\S+)/\w+\.antt:\d+:\d+: error: `([^` ]+)`")
+NO_MEASURE = re.compile(r"^note: `([^` ]+)` of proofs/(\S+)/Invariants\.antt is yours to choose")
+NO_ANSWER = re.compile(r"^note: src/\S+: .*\(`([^` ]+)`\)")
+REFUSED_BY = re.compile(r"# refused by: (\S+): (\S+)$")
 UNREAD = re.compile(r"is not in scope|has no field|is no name|operand is missing|expected the end|cannot continue")
 
 
@@ -84,8 +90,29 @@ def applied(edit, pairs, folder):
     return list(dict.fromkeys(functions))
 
 
-def why_not_refused(status, lines, whole):
-    """Nothing if the prover has refused a function; otherwise what is wrong. The crate without the edit is proved."""
+def named_goal(edit):
+    """The goal that the edit's first line names, after its function; none if there is no such line."""
+    named = REFUSED_BY.match(edit.read_text().partition("\n")[0])
+    return named and f"{named[1]}: {named[2]}"
+
+
+def open_goals(lines):
+    """The goals that were not proved, each after its function, but those whose answers name what is not there."""
+    found, goals = [], []
+    for line in lines:
+        answer, function = WRONG_ANSWER.match(line), NOT_PROVED.match(line)
+        if answer and not UNREAD.search(line):
+            found.append(f"{answer[1].replace('/', '::')}: {answer[2]}")
+        found += [f"{path.replace('/', '::')}: {measure}" for measure, path in NO_MEASURE.findall(line)]
+        goals += NO_ANSWER.findall(line)
+        if function:
+            found, goals = found + [f"{function[1]}: {it}" for it in goals], []
+    return found
+
+
+def why_not_refused(status, lines, whole, goal):
+    """Nothing if the prover has refused a function, by this goal if one is named; otherwise what is wrong. The crate without the edit
+    is proved."""
     last = lines[-1] if lines else ""
     if status == 0:
         return "it is still proved"
@@ -95,7 +122,10 @@ def why_not_refused(status, lines, whole):
     unread = [it for it in told if ": error" in it and TOLD.match(it)[1] in ("src", "specs") and UNREAD.search(it)]
     if unread:
         return f"the prover cannot read it: {unread[0]}"
-    return None if whole or any(NOT_PROVED.match(it) for it in lines) else f"no function is refused: {last}"
+    if not whole and not any(NOT_PROVED.match(it) for it in lines):
+        return f"no function is refused: {last}"
+    found = open_goals(lines)
+    return None if goal in (None, *found) else f"it is refused, and not by {goal}, but by {found}"
 
 
 class Trial:
@@ -125,7 +155,7 @@ class Trial:
             whole = status in (0, 2)
             if whole:
                 status, lines = self.prover.check(self.crate, folder, self.kept, [])
-            return why_not_refused(status, lines, whole)
+            return why_not_refused(status, lines, whole, named_goal(edit))
 
 
 def weight(crate):

@@ -3,7 +3,7 @@
 #include <inttypes.h>
 #include <stdio.h>
 
-static int fail(const char *call, int32_t status) {
+static int fail(const char *call, enum diffuse_status status) {
     fprintf(stderr, "%s: %s\n", call, diffuse_status_text(status));
     return 1;
 }
@@ -13,7 +13,7 @@ int main(void) {
     struct diffuse_graph graph = DIFFUSE_CLOSED;
     uint64_t length;
     uint32_t hops, route[5]; /* a route has at most as many vertices as the graph */
-    int32_t status = diffuse_graph_open(5, arcs, 7, &graph);
+    enum diffuse_status status = diffuse_graph_open(5, arcs, 7, &graph);
     if (status != DIFFUSE_STATUS_DONE) return fail("open", status);
     status = diffuse_graph_factor(&graph, DIFFUSE_ALGEBRA_SHORTEST);
     if (status != DIFFUSE_STATUS_DONE) fail("factor", status); /* then calls search */

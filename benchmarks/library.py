@@ -1,15 +1,18 @@
 """Trees, routes and tables from a graph that is kept in memory: libdiffuse beside the plain program, Boost and LEMON as libraries.
 
     python3 benchmarks/library.py --prefix PREFIX [--rounds N] [--small]      PREFIX is where examples/c/install put the library
+    python3 benchmarks/library.py --prefix PREFIX --map MAP.osm.pbf           what the Python package's Network adds to its Graph
 
 All of them answer in one run of library.cpp. A ratio is what one took for one that the plain program took. Boost and LEMON
 (Debian: libboost-graph-dev, liblemon-dev) are measured if they are installed; they find no least hops or parents.
 """
 import argparse
 import os
+import random
 import statistics
 import subprocess
 import sys
+import time
 
 sys.dont_write_bytecode = True
 
@@ -30,6 +33,10 @@ TREE_AIM, ROUTE_AIM, GRAPH_AIM = 1.05, 1.05, 1.2
 FACTOR_AIMS = {"New York's size": (1 / 25, 1 / 2.5, 60), "New York's size with rivers": (1 / 70, 1 / 2.5, 60),
                "Florida's size": (1 / 70, 1 / 3, 35), "Florida's size with rivers": (1 / 150, 1 / 3, 35)}
 BYTES_AIM, TABLE_AIM = 160, 1 / 1000
+
+
+# And for the Python package: what Network takes for what Graph takes, and microseconds a point.
+NETWORK_AIMS = {"a far route": 1.5, "a table of 300 by 300": 1.3, "a cost in place of another, to factors anew": 1, "nearest": 10}
 
 
 class Measured:
@@ -130,13 +137,55 @@ def factors_of(found):
     return table
 
 
+def least(calls, rounds):
+    """The least wall-clock time of each of some calls, which take turns."""
+    found = [float("inf")] * len(calls)
+    for _ in range(rounds):
+        for place, call in enumerate(calls):
+            begin = time.perf_counter()
+            call()
+            found[place] = min(found[place], time.perf_counter() - begin)
+    return found
+
+
+def network_of(path, prefix, rounds):
+    """What the Python package's Network takes for what its Graph takes, over a map with all its nodes, factored; and its nearest places."""
+    os.environ["DIFFUSE_LIBRARY"] = os.path.join(prefix, "lib", "libdiffuse.so")
+    sys.path.insert(0, os.path.join(inputs.HERE, "..", "bindings", "python", "src"))
+    from diffuse import Graph, Network
+
+    network, lot = Network.read_osm(path, simplify=False), random.Random(1)
+    roads, weights = network._roads, network._roads.costs["seconds"].weights
+    columns = roads.tails, roads.heads, weights, len(network.places)
+    graph = Graph.from_columns(*columns)
+    graph.factor()
+    network.factor("seconds")
+    pairs = [lot.choices(network.places, k=2) for _ in range(20)]
+    ends = [[network.vertex(place) for place in pair] for pair in pairs]
+    many, values = lot.choices(network.places, k=300), [round(cell, 2) for cell in roads.table.column("seconds")]
+    rows, points = [network.vertex(place) for place in many], lot.choices(list(network.coordinates.points.values()), k=5000)
+    network.nearest(points[:1])
+    route, named = least([lambda: [graph.route(*pair) for pair in ends], lambda: [network.route(*pair, by="seconds") for pair in pairs]], 20 * rounds)
+    table, numbers = least([lambda: graph.table(rows, rows), lambda: network.table(many, many, by="seconds").to_numpy()], rounds)
+    anew, other = least([lambda: Graph.from_columns(*columns).factor(), lambda: network.with_cost("seconds", values, rounding=True)], rounds)
+    (near,) = least([lambda: network.nearest(points)], rounds)
+    found = [named / route, numbers / table, other / anew, near / len(points) * 1e6]
+    table = Table("The Python package over %s" % os.path.basename(path), ["Question", "Network to Graph, or microseconds", "Aim"])
+    table.rows = [[question, "%.2f" % value, str(aim)] for (question, aim), value in zip(NETWORK_AIMS.items(), found)]
+    return table
+
+
 def main():
     parser = argparse.ArgumentParser(description=__doc__, formatter_class=argparse.RawDescriptionHelpFormatter)
     parser.add_argument("--prefix", required=True)
     parser.add_argument("--rounds", type=int, default=21)
     parser.add_argument("--small", action="store_true", help="all sizes divided by 100: a trial of this script")
     parser.add_argument("--out", default=os.path.join(inputs.HERE, "out"))
+    parser.add_argument("--map", help="a map of OpenStreetMap: measure the Python package over it instead")
     words = parser.parse_args()
+    if words.map:
+        print(network_of(words.map, words.prefix, words.rounds).markdown())
+        return
     folder = os.path.join(words.out, "bin")
     found = Library.measured(words.out, {**inputs.build(folder), "library": build(folder, words.prefix)}, words.rounds, words.small)
     print(library_of(found).markdown() + "\n\n" + factors_of(found).markdown())

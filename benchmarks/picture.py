@@ -10,6 +10,8 @@ FIVE_IN_TURN = FIVE_SOURCES, 1
 
 # The pictures by the names of their files.
 SPEED, FACTORED = "speed.svg", "factors.svg"
+# In the dark all inks are inverted.
+DARK = "@media (prefers-color-scheme: dark) { svg.diffuse { filter: invert(.88) hue-rotate(180deg) } }"
 MEANING = {SPEED: "wall time of workers, and processor time by vertices", FACTORED: "processor time by pairs, with factors and without"}
 
 # Where the entries of the list of inks are.
@@ -98,7 +100,7 @@ def by_vertices(plan):
     def motorways(order):
         return [case for case in plan.engine_growth if case.files.kind and case.best_first == order]
 
-    panel = Panel(480, "Processor time of one source", "vertices (5 arcs for 2 vertices; workers: 1, with motorways)",
+    panel = Panel(480, "Processor time of one source", "vertices (2.5 arcs a vertex; workers: 1, with motorways)",
                   [case.files.vertices for case in plan.growth], short)
     for style, cases, name in ((WORKERS, motorways(False), "diffuse"), (SAME_RULE, motorways(False), DIFFUSING), (BEST, motorways(True), "diffuse"),
                                (PLAIN, plan.growth, "diffuse"), (HEAP, plan.growth, BASELINE)):
@@ -119,7 +121,8 @@ def drawing(panels, styles):
     body = [element for panel in panels for element in panel.drawn()]
     for (ink, words), (x, y) in zip(styles, LEGEND):
         body += [line(x, y, x + 22, y, ink, 3), text(x + 28, y, words, anchor="start")]
-    return ('<svg xmlns="http://www.w3.org/2000/svg" viewBox="0 0 830 390" width="830" height="390" font-family="sans-serif">\n'
+    return ('<svg xmlns="http://www.w3.org/2000/svg" viewBox="0 0 830 390" width="830" height="390" font-family="sans-serif" class="diffuse">\n'
+            f'<style>{DARK}</style>\n'
             '<rect width="830" height="390" fill="white"/>\n' + "\n".join(body) + "\n</svg>\n")
 
 

@@ -5,6 +5,7 @@
 
 five_vertices.svg and small_town.svg are answers, as examples/draw draws them; mailboxes.svg is drawn here.
 """
+import re
 import subprocess
 import sys
 import tempfile
@@ -13,6 +14,9 @@ from pathlib import Path
 HERE = Path(__file__).resolve().parent
 TOP = HERE.parent.parent
 EXAMPLES = TOP / "examples"
+sys.path.insert(0, str(TOP / "benchmarks"))
+from picture import DARK
+
 INK, SENT, PALE = "#222222", "#c02a1b", "#f4f1ea"
 
 
@@ -23,7 +27,8 @@ def answer_drawn(program, graph, questions, *words):
         file.write(answers)
         file.flush()
         drawn = subprocess.run([EXAMPLES / "draw", EXAMPLES / graph, file.name, *words], stdout=subprocess.PIPE, check=True).stdout
-    return subprocess.run(["dot", "-Tsvg"], input=drawn, stdout=subprocess.PIPE, check=True).stdout.decode()
+    drawn = subprocess.run(["dot", "-Tsvg"], input=drawn, stdout=subprocess.PIPE, check=True).stdout.decode()
+    return re.sub(r"(<svg )([^>]*>\n)", rf'\1class="diffuse" \2<style>{DARK}</style>\n', drawn, count=1)
 
 
 def svg(width, height, body):
@@ -35,7 +40,7 @@ def svg(width, height, body):
     )
     return (
         f'<svg xmlns="http://www.w3.org/2000/svg" viewBox="0 0 {width} {height}" width="{width}" height="{height}" '
-        f'font-family="sans-serif" font-size="14">\n<defs>{heads}</defs>\n<rect width="{width}" height="{height}" fill="white"/>\n'
+        f'font-family="sans-serif" font-size="14" class="diffuse">\n<style>{DARK}</style>\n<defs>{heads}</defs>\n<rect width="{width}" height="{height}" fill="white"/>\n'
         + "\n".join(body)
         + "\n</svg>\n"
     )
@@ -60,7 +65,7 @@ def box(x, y, width, height, words, fill=PALE):
 
 def part(x, number, top, below):
     """A part: its queue, tables and outbox from top to bottom, or the other way round."""
-    yield text(x + 85, 24, f"part of shard {number}")
+    yield text(x + 85, 24, f"part of shard {number}" + (", with the source" if number == 0 else ""))
     yield f'<rect x="{x}" y="42" width="170" height="340" rx="8" fill="none" stroke="{INK}" stroke-dasharray="4 4"/>'
     for y, words in ((60, top), (150, "tables"), (240, below)):
         yield box(x + 20, y, 130, 40, words)
@@ -83,7 +88,7 @@ def mailboxes():
     body += [*arrow((167, 80), (321, 80), SENT, "try_fill, publish"), *arrow((525, 80), (683, 80), SENT, "try_read, clear")]
     body += [*arrow((683, 260), (525, 260), SENT, "try_fill, publish"), *arrow((321, 260), (167, 260), SENT, "try_read, clear")]
     body += [*arrow((187, 340), (361, 340), INK, "announce"), *arrow((361, 356), (187, 356), INK, "look", 12)]
-    body += [*arrow((663, 340), (489, 340), INK, "announce"), *arrow((489, 356), (663, 356), INK, "look", 12)]
+    body += arrow((489, 356), (663, 356), INK, "look", 12)
     return svg(850, 400, body)
 
 

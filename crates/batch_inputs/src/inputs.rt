@@ -1,18 +1,17 @@
 //! Reads the graph and the questions of a batch.
-ghost use Rattle.std.specs.Prelude.{◌≡◌, ◌≢◌, ◌+◌, ◌≤◌, ◌↔◌, ◌⊎◌, Result, Ok, Err, IfOk, OnOk, IfErr, IfSome};
+ghost use Rattle.std.specs.Prelude.{◌≡◌, ◌≢◌, ◌+◌, ◌≤◌, ◌↔◌, ◌⊎◌, Result, Ok, Err, IfOk, OnOk, IfErr, IfSome, length};
 ghost use Rattle.std.specs.Io.KnownBytes.{IsAtEnd};
 ghost use Rattle.road_graph.specs.GraphData.{GraphData};
 ghost use Rattle.road_files.specs.Asked.{AreQuestionsOf, Asked, asked_of};
-ghost use Rattle.path_factors.specs.Factors.{HasEachVertex};
 ghost use Rattle.batch_inputs.specs.Spelled.{IsPairOf};
-ghost use Rattle.batch_inputs.specs.InputFaults.{IsGraphFault, IsQuestionsFault, IsNumberOf};
+ghost use Rattle.batch_inputs.specs.InputFaults.{IsNumberOf};
 ghost use Rattle.batch_inputs.specs.declared.faults.File.{File};
 ghost use Rattle.batch_inputs.specs.declared.faults.RunFault.{RunFault};
 
 use crate::faults::{File, RunFault, fault_in};
+use elimination_order::Order;
 use graph_text::{FromArcs, read_gr_as};
 use road_files::{Questions, read_bundle_as, read_questions};
-use road_graph::Vertex;
 use std::alloc::Global;
 use text_lines::RoadRead;
 
@@ -23,8 +22,8 @@ pub struct BatchRead<G> {
     pub graph: G,
     /// Questions over it.
     pub questions: Questions,
-    /// Its vertices in the order in which they are eliminated, if one is given.
-    pub order: Option<Vec<Vertex>>,
+    /// The order in which its vertices are eliminated, if one is given.
+    pub order: Option<Order>,
 }
 
 /// What the graph and the questions of a batch are read from.
@@ -43,7 +42,7 @@ pub trait BatchInput {
     fn read<G: FromArcs>(&mut self, alloc: Global) -> Result<BatchRead<G>, RunFault>
         ensures read { IfOk result (λ r. is_read self.old (G.roads r.graph) (asked_of r.questions)) }
         ensures within { IfOk result (λ r. AreQuestionsOf (G.roads r.graph).vertices r.questions) }
-        ensures order { IfOk result (λ r. IfSome r.order (λ order. HasEachVertex (G.roads r.graph).vertices order.items)) }
+        ensures order { IfOk result (λ r. IfSome r.order (λ order. length order.vertices.items ≡ (G.roads r.graph).vertices)) }
         ensures done { OnOk result (has_read self.old self.new (Ok tt)) }
         ensures fault { IfErr result (λ f. has_read self.old self.new (Err f)) }
         ensures kinds { IfErr result (λ f. is_own f.file × IsNumberOf f.file f.number) }

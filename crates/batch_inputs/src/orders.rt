@@ -1,25 +1,24 @@
 //! Reads an order of elimination after the graph and the questions of a batch.
-ghost use Rattle.std.specs.Prelude.{◌≡◌, ◌≤◌, IfOk, OnOk, IfErr, IfSome};
+ghost use Rattle.std.specs.Prelude.{◌≡◌, ◌≤◌, IfOk, OnOk, IfErr, IfSome, length};
 ghost use Rattle.std.specs.Option.{option_map};
-ghost use Rattle.path_factors.specs.Factors.{HasEachVertex};
 ghost use Rattle.batch_inputs.specs.Orders.{HasOrderFaultIn, HasReadOrderIf};
 ghost use Rattle.batch_inputs.specs.InputFaults.{IsOrderNumber};
 
 use crate::faults::{File, RunFault, fault_in};
 use crate::inputs::{BatchInput, BatchRead};
+use elimination_order::Order;
 use graph_text::FromArcs;
 use order_files::read_order;
-use road_graph::Vertex;
 use std::alloc::Global;
 use text_lines::RoadRead;
 
-/// The vertices of a graph with this number of them in the order of an input, if there is one.
+/// The order of this number of vertices in an input, if there is one.
 fn read_order_if<O: RoadRead>(
     alloc: Global,
     from: &mut Option<O>,
     vertices: u32,
-) -> Result<Option<Vec<Vertex>>, RunFault>
-    ensures each { IfOk result (λ order. IfSome order (λ list. HasEachVertex vertices list.items)) }
+) -> Result<Option<Order>, RunFault>
+    ensures each { IfOk result (λ read. IfSome read (λ order. length order.vertices.items ≡ vertices)) }
     ensures read { OnOk result (HasReadOrderIf vertices (option_map O.seen from.old)
         (option_map O.seen from.new)) }
     ensures fault { IfErr result (HasOrderFaultIn vertices (option_map O.seen from.old)

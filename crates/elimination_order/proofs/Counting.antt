@@ -1,22 +1,24 @@
--- Counting what is true of a list.
-use Rattle.std.proofs.Common.{◌≡◌, ℕ, zero, suc, ◌+◌, ◌<◌, Bool, true, false, List, [], ◌∷◌, length, replicate, get_or, set, ap, refl, arith}
-use Rattle.elimination_order.specs.Listing.{count_true}
+-- Counting the places that have a vertex.
+use Rattle.std.proofs.Common.{◌≡◌, ◌≢◌, ℕ, zero, suc, ◌+◌, ◌<◌, ◌≤◌, List, [], ◌∷◌, length, replicate, get_or, set, ap, refl, arith}
+use Rattle.elimination_order.specs.Orders.{filled}
 
--- one more is true
-pub count_more : (marks : List Bool) (i : ℕ) → i < length marks → get_or marks i true ≡ false → count_true (set marks i true) ≡ count_true marks + 1
-count_more [] i low e = absurd (omega (arith, low))
-count_more (true ∷ marks) zero low e = let bad : true ≡ false = e in absurd (cc)
-count_more (false ∷ marks) zero low e = refl
-count_more (true ∷ marks) (suc i) low e = ap (λ n. n + 1) (count_more marks i (omega (arith, low)) e)
-count_more (false ∷ marks) (suc i) low e = count_more marks i (omega (arith, low)) e
+-- one more has one
+pub filled_more : (vs : List ℕ) (i v : ℕ) → i < length vs → get_or vs i 0 ≡ 0 → 1 ≤ v → filled (set vs i v) ≡ filled vs + 1
+filled_more [] i v low e some = absurd (omega (arith, low))
+filled_more (suc u ∷ vs) zero v low e some = absurd (omega (arith, e))
+filled_more (zero ∷ vs) zero zero low e some = absurd (omega (arith, some))
+filled_more (zero ∷ vs) zero (suc v) low e some = refl
+filled_more (zero ∷ vs) (suc i) v low e some = filled_more vs i v (omega (arith, low)) e some
+filled_more (suc u ∷ vs) (suc i) v low e some = ap (λ n. n + 1) (filled_more vs i v (omega (arith, low)) e some)
 
--- none is
-pub count_none : (n : ℕ) → count_true (replicate n false) ≡ 0
-count_none zero = refl
-count_none (suc n) = count_none n
+-- none has
+pub filled_none : (n : ℕ) → filled (replicate n 0) ≡ 0
+filled_none zero = refl
+filled_none (suc n) = filled_none n
 
--- all are
-pub count_all : (marks : List Bool) → ((i : ℕ) → i < length marks → get_or marks i false ≡ true) → count_true marks ≡ length marks
-count_all [] all = refl
-count_all (true ∷ marks) all = let rest = count_all marks (λ i low. all (suc i) (omega (arith, low))) in omega (arith, rest)
-count_all (false ∷ marks) all = let bad : false ≡ true = all 0 (omega arith) in absurd (cc)
+-- if not all have one, the first k of them do only if there are more
+pub free_left : (vs : List ℕ) (k : ℕ) → filled vs < length vs → ((i : ℕ) → i < k → get_or vs i 0 ≢ 0) → k < length vs
+free_left [] k some taken = absurd (omega (arith, some))
+free_left (v ∷ vs) zero some taken = omega arith
+free_left (zero ∷ vs) (suc k) some taken = absurd (taken 0 (omega arith) refl)
+free_left (suc v ∷ vs) (suc k) some taken = let rest = free_left vs k (omega (arith, some)) (λ i low. taken (suc i) (omega (arith, low))) in omega (arith, rest)

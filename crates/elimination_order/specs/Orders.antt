@@ -1,7 +1,14 @@
 -- What an order of the vertices of a graph is.
-use Rattle.std.specs.Prelude.{◌≡◌, ℕ, ◌≤◌, List, length, Contains}
+use Rattle.std.specs.Prelude.{◌≡◌, ℕ, zero, suc, ◌+◌, ◌-◌, ◌<◌, ◌≤◌, List, [], ◌∷◌, length, slice_index}
 
--- n entries, among them each of the vertices 1 to n
-pub record HasEachVertex (n : ℕ) (order : List ℕ) : Type 0 where
-  pub count : length order ≡ n
-  pub each : (v : ℕ) → (1 ≤ v) × (v ≤ n) → Contains order v
+-- each of the vertices 1 to k stands at its place
+abbrev pub StandAtPlaces : ℕ → List ℕ → List ℕ → Type 0
+StandAtPlaces k vertices places =
+    (v : ℕ) → (1 ≤ v) × (v ≤ k) →
+    (slice_index places (v - 1) < length vertices) × (slice_index vertices (slice_index places (v - 1)) ≡ v)
+
+-- how many places have a vertex, and not 0
+abbrev pub filled : List ℕ → ℕ
+filled [] = 0
+filled (zero ∷ vertices) = filled vertices
+filled (suc v ∷ vertices) = filled vertices + 1

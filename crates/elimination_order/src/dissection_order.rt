@@ -1,7 +1,6 @@
 //! The order by nested dissection.
-ghost use Rattle.std.specs.Prelude.{IfOk, IfNone, IfSome, length};
+ghost use Rattle.std.specs.Prelude.{◌≡◌, IfOk, IfNone, IfSome, length};
 ghost use Rattle.elimination_order.specs.Bounds.{AreWithinBounds, IsTooDense};
-ghost use Rattle.elimination_order.specs.Orders.{HasEachVertex};
 
 use crate::care::Care;
 use crate::degree_lists::{DegreeLists, Turn};
@@ -9,7 +8,7 @@ use crate::dissection::Dissection;
 use crate::elimination::Elimination;
 use crate::lists::NONE;
 use crate::minimum_degree::approximate_minimum_degree;
-use crate::order::{Ordered, order_of};
+use crate::ordered::{Ordered, order_of};
 use road_graph::{Memory, OutGraph};
 use std::alloc::Global;
 
@@ -75,8 +74,8 @@ fn dissected(alloc: Global, graph: &OutGraph, care: Care) -> Result<Elimination,
 /// # Errors
 /// Out of memory.
 pub fn nested_dissection(alloc: Global, graph: &OutGraph, care: Care) -> Result<Ordered, Memory>
-    ensures each { IfOk result (λ found. IfSome found.order (λ order. HasEachVertex graph.now.vertices
-        order.items)) }
+    ensures each { IfOk result (λ found. IfSome found.order (λ order.
+        length order.vertices.items ≡ graph.now.vertices)) }
     ensures within { IfOk result (λ found. IfSome found.order (λ _.
         AreWithinBounds graph.now.vertices (length graph.now.arcs) found.counts)) }
     ensures dense { IfOk result (λ found. IfNone found.order

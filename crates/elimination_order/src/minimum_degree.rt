@@ -1,12 +1,11 @@
 //! The order by approximate minimum degree.
-ghost use Rattle.std.specs.Prelude.{IfOk, IfNone, IfSome, length};
+ghost use Rattle.std.specs.Prelude.{◌≡◌, IfOk, IfNone, IfSome, length};
 ghost use Rattle.elimination_order.specs.Bounds.{AreWithinBounds, IsTooDense};
-ghost use Rattle.elimination_order.specs.Orders.{HasEachVertex};
 
 use crate::degree_lists::Turn;
 use crate::elimination::Elimination;
 use crate::lists::NONE;
-use crate::order::{Ordered, order_of};
+use crate::ordered::{Ordered, order_of};
 use road_graph::{Memory, OutGraph};
 use std::alloc::Global;
 
@@ -18,8 +17,8 @@ use std::alloc::Global;
 /// # Errors
 /// Out of memory.
 pub fn approximate_minimum_degree(alloc: Global, graph: &OutGraph) -> Result<Ordered, Memory>
-    ensures each { IfOk result (λ found. IfSome found.order (λ order. HasEachVertex graph.now.vertices
-        order.items)) }
+    ensures each { IfOk result (λ found. IfSome found.order (λ order.
+        length order.vertices.items ≡ graph.now.vertices)) }
     ensures within { IfOk result (λ found. IfSome found.order (λ _.
         AreWithinBounds graph.now.vertices (length graph.now.arcs) found.counts)) }
     ensures dense { IfOk result (λ found. IfNone found.order

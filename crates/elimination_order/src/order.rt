@@ -1,49 +1,14 @@
-//! An order, and what it makes.
-ghost use Rattle.std.specs.Prelude.{IfOk, IfNone, IfSome, length};
-ghost use Rattle.elimination_order.specs.Bounds.{AreWithinBounds, IsTooDense};
-ghost use Rattle.elimination_order.specs.Orders.{HasEachVertex};
+//! An order of the vertices of a graph.
+ghost use Rattle.std.specs.Prelude.{◌≡◌, length};
+ghost use Rattle.elimination_order.specs.Orders.{StandAtPlaces};
 
-use crate::counts::{Counts, is_too_dense};
-use crate::elimination::Elimination;
-use crate::postorder::in_postorder;
-use road_graph::{Memory, OutGraph, Vertex};
-use std::alloc::Global;
+use road_graph::Vertex;
 
-/// An order of elimination, and what it makes.
+/// The vertices 1 to n in an order, and the place of each in it, counted from 0.
 #[derive(Drop)]
-pub struct Ordered {
-    /// The vertices in the order in which they are eliminated; none if the graph is too dense to
-    /// factor.
-    pub order: Option<Vec<Vertex>>,
-    /// What the elimination makes, if each dense row is a neighbour of every vertex; what it had
-    /// made when it was given up, if there is no order.
-    pub counts: Counts,
-}
-
-/// The order of an elimination of a graph; none if the graph is too dense by its counts.
-pub(crate) fn order_of(
-    alloc: Global,
-    graph: &OutGraph,
-    elimination: &Elimination,
-) -> Result<Ordered, Memory>
-    ensures each { IfOk result (λ found. IfSome found.order (λ order. HasEachVertex graph.now.vertices
-        order.items)) }
-    ensures within { IfOk result (λ found. IfSome found.order (λ _.
-        AreWithinBounds graph.now.vertices (length graph.now.arcs) found.counts)) }
-    ensures dense { IfOk result (λ found. IfNone found.order
-        (IsTooDense graph.now.vertices (length graph.now.arcs) found.counts)) }
-{
-    graph.holds();
-    let counts = elimination.counts;
-    if is_too_dense(graph.vertices(), graph.arcs() as u32, counts) {
-        return Ok(Ordered {
-            order: None,
-            counts,
-        });
-    }
-    let order = in_postorder(alloc, graph.vertices(), elimination)?;
-    Ok(Ordered {
-        order: Some(order),
-        counts,
-    })
+pub struct Order {
+    pub vertices: Vec<Vertex>,
+    pub places: Vec<u32>,
+    ghost whole: { length places.items ≡ length vertices.items },
+    ghost stand: { StandAtPlaces (length vertices.items) vertices.items places.items },
 }

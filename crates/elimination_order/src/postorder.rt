@@ -1,13 +1,13 @@
 //! A postorder of the assembly tree: each element after those below it. It makes the same links,
 //! and those that are looked at together lie together.
-ghost use Rattle.std.specs.Prelude.{IfOk};
-ghost use Rattle.elimination_order.specs.Orders.{HasEachVertex};
+ghost use Rattle.std.specs.Prelude.{◌≡◌, IfOk, length};
 
 use crate::assembly_tree::TreeNode;
 use crate::elimination::Elimination;
-use crate::listing::completed;
 use crate::lists::{NONE, at, put, stored};
-use road_graph::{Memory, Vertex};
+use crate::order::Order;
+use crate::order_builder::order_by;
+use road_graph::Memory;
 use std::alloc::Global;
 
 /// The places of a vertex, of those that are eliminated with it, and of the elements below.
@@ -114,22 +114,26 @@ impl Postorder {
     }
 
     /// The next place of those for a vertex and what is eliminated with it, from the last one on.
-    fn next_place(&mut self, v: u32) -> usize {
+    fn next_place(&mut self, v: u32) -> u32 {
         let pivot = self.pivot(v);
         match self.places.get_mut(pivot as usize) {
             Some(mine) => {
                 mine.own_end = mine.own_end.saturating_sub(1);
-                mine.own_end as usize
+                mine.own_end
             }
-            None => NONE as usize,
+            None => NONE,
         }
     }
 }
 
-/// Puts a vertex at a place of an order.
-fn place(order: &mut [Vertex], k: usize, v: u32) {
-    if let Some(vertex) = order.get_mut(k) {
-        *vertex = Vertex(v.saturating_add(1));
+/// The places of vertices that have none, after those of the others.
+fn place_others(places: &mut [u32], taken: usize) {
+    let mut next = stored(taken);
+    for place in places {
+        if *place == NONE {
+            *place = next;
+            next = next.saturating_add(1);
+        }
     }
 }
 
@@ -138,8 +142,8 @@ pub(crate) fn in_postorder(
     alloc: Global,
     n: u32,
     elimination: &Elimination,
-) -> Result<Vec<Vertex>, Memory>
-    ensures { IfOk result (λ order. HasEachVertex n order.items) }
+) -> Result<Order, Memory>
+    ensures { IfOk result (λ order. length order.vertices.items ≡ n) }
 {
     let eliminated = &elimination.eliminated;
     let tree = &elimination.tree;
@@ -147,7 +151,7 @@ pub(crate) fn in_postorder(
     for v in eliminated {
         postorder.count(tree, *v);
     }
-    let mut order = vec![in alloc; Vertex(0); eliminated.len()]?;
+    let mut places = vec![in alloc; NONE; tree.len()]?;
     let mut end = stored(eliminated.len());
     for v in eliminated.iter().rev() {
         if postorder.pivot(*v) == *v {
@@ -158,8 +162,8 @@ pub(crate) fn in_postorder(
                 postorder.give_below(*v, parent);
             }
         }
-        let k = postorder.next_place(*v);
-        place(&mut order, k, *v);
+        put(&mut places, *v as usize, postorder.next_place(*v));
     }
-    completed(alloc, n, &order)
+    place_others(&mut places, eliminated.len());
+    order_by(alloc, n, &places)
 }

@@ -1,4 +1,5 @@
 //! Factors of a graph over the links of another with the same arcs.
+use elimination_order::{Order, OrderBuilder};
 use path_algebra::{Cost, CountedSums, Labels};
 use path_factors::{Factors, Unfit};
 use path_trials::{FIVE, made};
@@ -53,30 +54,44 @@ fn five_of(rt: &(impl Abort + AllocGlobal), weights: &[u32; 7]) -> Graph {
     made(rt.alloc(), 5, &arcs).expect(rt, "refused")
 }
 
-/// One of the orders of the vertices 1 to 5, by its number: each next vertex is put at a place that
-/// a digit of it tells.
-fn order_of(rt: &(impl Abort + AllocGlobal), number: usize) -> Vec<Vertex> {
-    let mut order = Vec::new(rt.alloc());
-    let mut digits = number;
-    for v in 1..=5 {
-        let places = order.len() + 1;
-        order
-            .insert(digits % places, Vertex(v))
-            .expect(rt, "memory");
-        digits /= places;
+/// The order in which the vertices have these places.
+fn order_at(rt: &(impl Abort + AllocGlobal), places: &[u32; 5]) -> Order {
+    let mut builder = OrderBuilder::new(rt.alloc(), 5).expect(rt, "memory");
+    for i in 0..5 {
+        assert!(rt; !builder.is_full() && builder.is_free(places[i]));
+        builder.place_next(places[i]);
     }
-    order
+    assert!(rt; builder.is_full());
+    builder.build()
+}
+
+/// One of the orders of the vertices 1 to 5, by its number: each next vertex gets the free place
+/// that a digit of it tells.
+fn order_of(rt: &(impl Abort + AllocGlobal), number: usize) -> Order {
+    let mut free = Vec::new(rt.alloc());
+    for place in 0..5u32 {
+        free.push(place).expect(rt, "memory");
+    }
+    let mut digits = number;
+    let mut places = [0; 5];
+    for v in 0..5 {
+        assert!(rt; !free.is_empty());
+        let count = free.len();
+        places[v] = free.remove(digits % count);
+        digits /= count;
+    }
+    order_at(rt, &places)
 }
 
 /// A graph that is factored by an order.
 fn factored(
     rt: &(impl Abort + AllocGlobal),
     graph: &Graph,
-    order: &Vec<Vertex>,
+    order: &Order,
 ) -> Factors<CountedSums> {
-    Factors::build(rt.alloc(), sums(rt), graph.outgoing(), order)
-        .expect(rt, "memory")
-        .expect(rt, "an order")
+    let roads = graph.outgoing();
+    assert!(rt; order.vertices.len() == roads.vertices() as usize);
+    Factors::by_order(rt.alloc(), sums(rt), roads, order).expect(rt, "memory")
 }
 
 /// The first five labels.
@@ -139,8 +154,7 @@ fn with_arc(rt: &(impl Abort + AllocGlobal), n: u32, arc: (u32, u32, u32)) -> Gr
 /// not joined has none. What was refused changes nothing.
 #[test]
 fn an_arc_with_no_link_is_refused(rt: HostRuntime) {
-    let order = vec![in rt.alloc(); Vertex(5), Vertex(1), Vertex(2), Vertex(3), Vertex(4)];
-    let factors = factored(&rt, &five_of(&rt, &ONE), &order.expect(&rt, "memory"));
+    let factors = factored(&rt, &five_of(&rt, &ONE), &order_at(&rt, &[1, 2, 3, 4, 0]));
     let back = Ok([Some(0), Some(26), Some(9), Some(67), None]);
     let beside = Ok([Some(0), Some(9), Some(9), Some(50), None]);
     for (n, arc, wanted) in &[

@@ -1,5 +1,3 @@
 mod Placing
 mod OrderLines
 mod OrderFaults
-mod EachVertex
-mod WrittenPlaces

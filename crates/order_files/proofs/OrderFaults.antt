@@ -1,7 +1,6 @@
 -- The faults of orders have the numbers 10 to 20, what a new parser gives is the text's, and memory
 -- may run out before anything is read.
-use Rattle.std.proofs.Common.{◌≡◌, ℕ, ◌≤◌, List, [], Bool, Option, Result, Ok, Err, Vec, subst, arith, if◌then◌else◌, None, Some, refl, inl}
-use Rattle.std.specs.declared.alloc.Global.{Global}
+use Rattle.std.proofs.Common.{◌≡◌, ℕ, ◌≤◌, List, [], Bool, Option, Result, Ok, Err, length, subst, arith, if◌then◌else◌, None, Some, refl, inl}
 use Rattle.text_lines.specs.declared.faults.ReadFault.{ReadFault}
 use Rattle.text_lines.specs.Rules.{◌>>=◌, unless, fault_at, value_of_lines}
 use Rattle.text_lines.specs.Streams.{Input}
@@ -11,7 +10,7 @@ use Rattle.std.specs.Io.KnownBytes.{Consumes}
 use Rattle.text_lines.specs.Words.{Word}
 use Rattle.text_lines.proofs.ParserLaws.{IsOwn, own_then, own_unless, own_if, own_up_to}
 use Rattle.graph_text.specs.Numbers.{up_to}
-use Rattle.path_factors.specs.Factors.{HasEachVertex}
+use Rattle.elimination_order.specs.declared.order.Order.{Order}
 use Rattle.order_files.specs.declared.order_parser.OrderParser.{OrderParser}
 use Rattle.order_files.specs.OrderFiles.{place_taken, order_line, order_end, order_rules}
 use Rattle.order_files.specs.OrderTakes.{HasNoted, GivesOrder}
@@ -22,9 +21,6 @@ IsOfOrder r = IsOwn 10 20 r
 
 fine : {A : Type 0} (x : A) → IsOfOrder (Ok x)
 fine x = record { own = tt }
-
-wrong : {A : Type 0} (k : ℕ) → 10 ≤ k → k ≤ 20 → IsOfOrder {A = A} (Err k)
-wrong k l g = record { own = (l, g) }
 
 step : {A B : Type 0} (r : Result A ℕ) (f : A → Result B ℕ) → IsOfOrder r → ((x : A) → IsOfOrder (f x)) → IsOfOrder (r >>= f)
 step r f h more = own_then 10 20 r f h more
@@ -53,14 +49,14 @@ end_faults n places = search (arith, test, fine) depth 40
 
 -- what a new parser gives is the text's by the rules
 module _ (s : OrderParser) (none : HasNoted s []) (n : ℕ) (same : s.vertices ≡ n) where
-  pub by_value : (cut : Bool) (ls : List (List ℕ)) (order : Vec ℕ Global) → GivesOrder cut s 1 ls (Ok order) → value_of_lines cut (order_rules n) 1 [] ls ≡ Ok order.items
-  by_value cut ls order h = subst (λ m. value_of_lines cut (order_rules m) 1 [] ls ≡ Ok order.items) same (h [] none).0
+  pub by_value : (cut : Bool) (ls : List (List ℕ)) (order : Order) → GivesOrder cut s 1 ls (Ok order) → value_of_lines cut (order_rules n) 1 [] ls ≡ Ok order.vertices.items
+  by_value cut ls order h = subst (λ m. value_of_lines cut (order_rules m) 1 [] ls ≡ Ok order.vertices.items) same (h [] none).0
 
   pub by_fault : (cut : Bool) (ls : List (List ℕ)) (f : ReadFault) → GivesOrder cut s 1 ls (Err f) → value_of_lines cut (order_rules n) 1 [] ls ≡ Err f
   by_fault cut ls f h = subst (λ m. value_of_lines cut (order_rules m) 1 [] ls ≡ Err f) same (h [] none).0
 
-  pub by_each : (cut : Bool) (ls : List (List ℕ)) (order : Vec ℕ Global) → GivesOrder cut s 1 ls (Ok order) → HasEachVertex n order.items
-  by_each cut ls order h = subst (λ m. HasEachVertex m order.items) same (h [] none).1
+  pub by_each : (cut : Bool) (ls : List (List ℕ)) (order : Order) → GivesOrder cut s 1 ls (Ok order) → length order.vertices.items ≡ n
+  by_each cut ls order h = subst (λ m. length order.vertices.items ≡ m) same (h [] none).1
 
 nothing_taken : (left : Option (List ℕ)) → Consumes left left []
 nothing_taken None = tt

@@ -7,4 +7,4 @@ mod order_parser;
 mod writing;
 
 pub use order_files::read_order;
-pub use writing::{Unwritten, write_order};
+pub use writing::write_order;

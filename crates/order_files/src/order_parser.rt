@@ -1,11 +1,12 @@
 //! Parses the lines of a file of an order.
-ghost use Rattle.std.specs.Prelude.{◌≡◌, ◌≢◌, ℕ, ◌<◌, ◌≤◌, ◌^◌, [], List, length, map, refl, Err, IfOk};
+ghost use Rattle.std.specs.Prelude.{◌≡◌, ◌≢◌, ℕ, ◌<◌, [], List, length, map, refl, Err, IfOk};
 ghost use Rattle.text_lines.specs.Slots.{word_in};
 ghost use Rattle.order_files.specs.OrderFiles.{place_taken, order_line};
 
+use elimination_order::{Order, OrderBuilder};
 use graph_text::number_up_to;
 use graph_text::rules::{FIELDS, TOO_FEW, TOO_MANY};
-use road_graph::{Memory, Vertex};
+use road_graph::Memory;
 use std::alloc::Global;
 use text_lines::{LineFault, LineParser, Rule, Slot};
 
@@ -16,13 +17,8 @@ const SAME_PLACE: Rule = Rule { number: 20 };
 #[derive(Drop)]
 pub struct OrderParser {
     vertices: u32,
-    /// How many vertices have their places.
-    count: u32,
-    /// The vertex at each place, 0 while it has none.
-    pub(crate) order: Vec<Vertex>,
-    ghost few: { vertices < 2 ^ 32 },
-    ghost room: { count ≤ vertices },
-    ghost whole: { length order.items ≡ vertices },
+    order: OrderBuilder,
+    ghost whole: { length order.vertices.items ≡ vertices },
 }
 
 impl OrderParser {
@@ -33,29 +29,25 @@ impl OrderParser {
         ensures vertices { IfOk result (λ s. s.vertices ≡ vertices) }
         ensures none { IfOk result (λ s. HasNoted s []) }
     {
-        let order = vec![in alloc; Vertex(0); vertices as usize]?;
         Ok(OrderParser {
             vertices,
-            count: 0,
-            order,
+            order: OrderBuilder::new(alloc, vertices)?,
         })
     }
 
     /// Gives the next vertex this place.
-    pub(crate) fn place_next(&mut self, place: u32) -> Result<(), LineFault>
-        requires next { self.old.count < self.old.vertices }
+    fn place_next(&mut self, place: u32) -> Result<(), LineFault>
+        requires next { self.old.order.count < self.old.vertices }
         requires place { place < self.old.vertices }
         ensures taken { (places : List ℕ) → HasNoted self.old places → Takes
             (place_taken places place) self.new result }
         ensures memory { result ≢ Err LineFault.Memory }
         ensures vertices { self.new.vertices ≡ self.old.vertices }
     {
-        let i = place as usize;
-        if self.order[i].0 != 0 {
+        if !self.order.is_free(place) {
             return Err(LineFault::Broken(SAME_PLACE));
         }
-        self.order[i] = Vertex(self.count + 1);
-        self.count += 1;
+        self.order.place_next(place);
         Ok(())
     }
 
@@ -69,7 +61,7 @@ impl OrderParser {
         if slots.is_empty() || slots[0].begins_with(b'c') {
             return Ok(());
         }
-        if self.count == self.vertices {
+        if self.order.is_full() {
             return Err(LineFault::Broken(TOO_MANY));
         }
         if slots.len() != 1 {
@@ -83,7 +75,7 @@ impl OrderParser {
 impl LineParser for OrderParser {
     ghost use Rattle.order_files.specs.OrderTakes.{order_meaning};
 
-    type Value = Vec<Vertex>;
+    type Value = Order;
 
     ghost meaning = { order_meaning };
 
@@ -99,11 +91,11 @@ impl LineParser for OrderParser {
         false
     }
 
-    fn finish(self) -> Result<Vec<Vertex>, LineFault> {
-        if self.count < self.vertices {
+    fn finish(self) -> Result<Order, LineFault> {
+        if !self.order.is_full() {
             return Err(LineFault::Broken(TOO_FEW));
         }
-        Ok(self.order)
+        Ok(self.order.build())
     }
 
     ghost stops_short = { λ s at places noted. (refl, tt) };

@@ -1,57 +1,23 @@
 //! Writes orders, each in its one spelling.
-ghost use Rattle.std.specs.Prelude.{◌≡◌, IfOk, IfNone, IfSome, map};
-ghost use Rattle.path_factors.specs.Factors.{HasEachVertex};
+ghost use Rattle.std.specs.Prelude.{◌≡◌, map};
 ghost use Rattle.text_lines.specs.Texts.{spelled, text_of};
 ghost use Rattle.text_lines.specs.Written.{WritesText};
-ghost use Rattle.order_files.specs.WrittenOrders.{WritesOrder, place_words, places_of};
+ghost use Rattle.order_files.specs.WrittenOrders.{place_words, places_text};
 
-use crate::order_parser::OrderParser;
-use road_graph::{Memory, Vertex};
-use std::alloc::Global;
+use elimination_order::Order;
 use text_lines::{Line, RoadWrite, WriteFault, push_number, write_bytes};
 
-/// Why an order was not written.
-#[derive(Clone, Copy, Debug, PartialEq, Eq)]
-pub enum Unwritten {
-    /// It does not have each vertex once.
-    NoOrder,
-    /// Memory ran out before anything was written.
-    Memory,
-    /// A write failed.
-    Write,
-}
-
-/// The place of each vertex, counted from 1; none if the order does not have each vertex once.
-fn places_of(alloc: Global, n: u32, order: &[Vertex]) -> Result<Option<Vec<Vertex>>, Memory>
-    ensures places { IfOk result (λ found. IfSome found (λ places.
-        places.items ≡ places_of n order.now)) }
-    ensures each { IfOk result (λ found. IfSome found (λ places. HasEachVertex n places.items)) }
-    ensures none { IfOk result (λ found. IfNone found (HasEachVertex n order.now → ⊥)) }
-{
-    if order.len() != n as usize {
-        return Ok(None);
-    }
-    let mut parser = OrderParser::new(alloc, n)?;
-    for i in 0..order.len() {
-        let v = order[i];
-        if v.0 == 0 || v.0 > n || parser.place_next(v.0 - 1).is_err() {
-            return Ok(None);
-        }
-    }
-    Ok(Some(parser.order))
-}
-
-/// The line of a place that is counted from 1.
+/// The line of a place.
 #[tactic(auto, unfolding(text_lines::specs::Texts::spelled))]
-fn fill_place(line: &mut Line, place: Vertex)
+fn fill_place(line: &mut Line, place: u32)
     ensures { line.new.bytes ≡ spelled (place_words place) }
 {
     line.clear();
-    push_number(line, u64::from(place.0.saturating_sub(1)));
+    push_number(line, u64::from(place));
     line.push_str("\n");
 }
 
-fn write_places<W: RoadWrite>(to: &mut W, places: &[Vertex]) -> Result<(), WriteFault>
+fn write_places<W: RoadWrite>(to: &mut W, places: &[u32]) -> Result<(), WriteFault>
     ensures { WritesText (W.seen to.old) (W.seen to.new) (text_of (map place_words places.now))
         result }
 {
@@ -63,23 +29,11 @@ fn write_places<W: RoadWrite>(to: &mut W, places: &[Vertex]) -> Result<(), Write
     Ok(())
 }
 
-/// Writes an order of n vertices as lines of their places: the whole text, or a prefix of it if a
+/// Writes an order as lines of the places of its vertices: the whole text, or a prefix of it if a
 /// write fails.
-pub fn write_order<W: RoadWrite>(
-    alloc: Global,
-    to: &mut W,
-    n: u32,
-    order: &[Vertex],
-) -> Result<(), Unwritten>
-    ensures { WritesOrder (W.seen to.old) (W.seen to.new) n order.now result }
+pub fn write_order<W: RoadWrite>(to: &mut W, order: &Order) -> Result<(), WriteFault>
+    ensures { WritesText (W.seen to.old) (W.seen to.new) (places_text order.now.places.items)
+        result }
 {
-    let places = match places_of(alloc, n, order) {
-        Ok(Some(places)) => places,
-        Ok(None) => return Err(Unwritten::NoOrder),
-        Err(_) => return Err(Unwritten::Memory),
-    };
-    match write_places(to, &places) {
-        Ok(()) => Ok(()),
-        Err(_) => Err(Unwritten::Write),
-    }
+    write_places(to, &order.places)
 }

@@ -158,9 +158,6 @@ module _ {V W : Type 0} (C : Composition V W) (ordered : IsOrder C.no_worse) whe
         ];
       }
 
-      pub up_leads : LeadsNoWorse C upper x y a
-      up_leads = (improved.row.has.0, inl improved.row.has.1, improved.row.has.2)
-
     -- from a greater place to a lesser one
     module _ (down : y < x) (low : x < g.vertices) (rows : List (List (Link W)))
         (improved : AreImproved C F.entering y (record { place = x; walk = a }) rows) where
@@ -209,9 +206,6 @@ module _ {V W : Type 0} (C : Composition V W) (ordered : IsOrder C.no_worse) whe
               (k.0, inr k.1, k.2)
         ];
       }
-
-      pub down_leads : LeadsNoWorse C lower x y a
-      down_leads = (improved.row.has.0, inr improved.row.has.1, improved.row.has.2)
 
   -- both ways between a lesser place and a greater one
   module _ (A : Algebra V) (g : GraphData) (F : FactorData W) (begun : IsBegun A C g F) (x y : ℕ) (there back : W)

@@ -2,7 +2,7 @@
 use Rattle.std.proofs.Common.{◌≡◌, ℕ, zero, suc, replicate, ◌-◌, ◌+◌, ◌<◌, inl, inr, List, [], ◌∷◌, ◌++◌, length, set, get_or, map, refl, ap, sym, ◌∙◌, subst, arith, Option, Some, None, get_or-set_same, get_or-set_other, length-set}
 use Rattle.std.specs.Prelude.{Contains}
 use Rattle.std.proofs.lemmas.Bool.{cases_eq}
-use Rattle.std.proofs.lemmas.List.{get_or_default, get_or-map}
+use Rattle.std.proofs.lemmas.List.{get_or-map}
 use Rattle.std.proofs.lemmas.List.Elements.{Contains-push, Contains-push_cases, Contains-append_left}
 use Rattle.road_graph.specs.GraphData.{GraphData, HasVertex}
 use Rattle.road_graph.proofs.Lists.{not_in_empty}
@@ -10,8 +10,7 @@ use Rattle.path_algebra.specs.Algebra.{Algebra}
 use Rattle.path_algebra.specs.Composition.{Composition}
 use Rattle.path_algebra.specs.Walks.{label_of}
 use Rattle.path_factors.specs.declared.link.Link.{Link}
-use Rattle.path_factors.specs.Eliminating.{ArePlacesOf}
-use Rattle.path_factors.specs.Factors.{HasEachVertex, Stands, FactorData, AreLinks, IsOrdering, row_of, place_of}
+use Rattle.path_factors.specs.Factors.{FactorData, AreLinks, IsOrdering, row_of, place_of}
 use Rattle.path_factors.specs.Substituting.{at, AreOrigins}
 
 module _ {V W : Type 0} (A : Algebra V) (C : Composition V W) (g : GraphData) (F : FactorData W) (links : AreLinks A C g F) where
@@ -85,17 +84,3 @@ module _ {V W : Type 0} (A : Algebra V) (g : GraphData) (F : FactorData W) (orde
       ap (λ (j : ℕ). get_or F.places j 0) back ∙ ap (λ (l : List ℕ). get_or l i 0) (sym is) in
       let low = (ordering.place (i + 1) (omega arith, omega (arith, lt, n, same))).0 in
       omega (arith, low, read)
-
--- if an order has each vertex, each stands at its place
-pub each_stands : (n : ℕ) (order places : List ℕ) → length places ≡ n → ArePlacesOf n order places n → HasEachVertex n order →
-    (j : ℕ) → j < length places → Stands order (get_or places j 0) (j + 1)
-each_stands n order places count noted has j low =
-    let v = j + 1 in
-    let at = has.each v (omega arith, omega (arith, low, count)) in
-    let k = at.0 in
-    let inside = at.1 in
-    let whole = has.count in
-    let read : get_or order k 0 ≡ v = get_or_default order k 0 v inside ∙ at.2 in
-    let stands = noted k (omega (arith, inside, whole)) (omega (arith, read)) (omega (arith, read, low, count)) in
-    let back : v - 1 ≡ j = omega arith in
-    subst (λ (i : ℕ). Stands order (get_or places i 0) v) back (subst (λ (u : ℕ). Stands order (get_or places (u - 1) 0) u) read stands)

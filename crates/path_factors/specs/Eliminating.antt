@@ -1,16 +1,10 @@
 -- How a factor is made: links are added or get better, until they are closed at each place.
-use Rattle.std.specs.Prelude.{◌≡◌, ℕ, ◌-◌, ◌<◌, ◌≤◌, ◌⊎◌, List, length, Contains, IsTrue, slice_index}
+use Rattle.std.specs.Prelude.{◌≡◌, ℕ, ◌<◌, ◌⊎◌, List, length, Contains, IsTrue}
 use Rattle.road_graph.specs.GraphData.{GraphData}
 use Rattle.path_algebra.specs.Algebra.{Algebra}
 use Rattle.path_algebra.specs.Composition.{Composition}
 use Rattle.path_factors.specs.declared.link.Link.{Link}
-use Rattle.path_factors.specs.Factors.{Stands, FactorData, Leads, LeadsNoWorse, IsOrdering, AreLinks, IsClosedAt, row_of}
-
--- of the first k entries of an order, each that is a vertex stands at its place
-abbrev pub ArePlacesOf : ℕ → List ℕ → List ℕ → ℕ → Type 0
-ArePlacesOf n order places k =
-    (j : ℕ) → j < k → 1 ≤ slice_index order j → slice_index order j ≤ n →
-    Stands order (slice_index places (slice_index order j - 1)) (slice_index order j)
+use Rattle.path_factors.specs.Factors.{FactorData, Leads, LeadsNoWorse, IsOrdering, AreLinks, IsClosedAt, row_of}
 
 -- a row after a link was added to it: its links are those before and that one, none got worse, and
 -- one is as good

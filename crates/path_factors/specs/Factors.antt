@@ -3,7 +3,6 @@
 -- routing problems (1971): elimination.
 use Rattle.std.specs.Prelude.{◌≡◌, ℕ, ◌+◌, ◌<◌, ◌≤◌, ◌-◌, ◌⊎◌, List, [], length, Contains, IsTrue, Option, Some, None, slice_index, slice_index_or}
 use Rattle.road_graph.specs.GraphData.{GraphData, HasArc, arc_of}
-pub use Rattle.elimination_order.specs.Orders.{HasEachVertex}
 use Rattle.path_algebra.specs.Algebra.{Algebra}
 use Rattle.path_algebra.specs.Composition.{Composition}
 use Rattle.path_algebra.specs.Walks.{IsWalk, Extends}
@@ -61,10 +60,6 @@ CoversArcs C g F =
 abbrev pub IsClosedAt : {V W : Type 0} → Composition V W → FactorData W → ℕ → Type 0
 IsClosedAt {W = W} C F v =
     (x y : ℕ) (a b : W) → Falls F x v a → Rises F v y b → (x ≡ y → ⊥) → LeadsNoWorse C F x y (C.compose a b)
-
--- v stands at place i
-abbrev pub Stands : List ℕ → ℕ → ℕ → Type 0
-Stands order i v = (i < length order) × (slice_index order i ≡ v)
 
 -- an order of the vertices 1 to n: the vertex at each place, and the place of each vertex
 pub record ArePlaces (n : ℕ) (order places : List ℕ) : Type 0 where

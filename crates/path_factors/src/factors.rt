@@ -9,8 +9,9 @@ ghost use Rattle.path_factors.specs.Tree.{AreAtHeads, IsTreeParent};
 
 use crate::heads::Heads;
 use crate::packed::PackedRows;
+use elimination_order::Order;
 use path_algebra::{ComposingAlgebra, composition_holds, laws_hold};
-use road_graph::{OutGraph, Vertex};
+use road_graph::OutGraph;
 use std::marker::Model;
 use std::snapshot::Snapshot;
 use std::sync::Arc;
@@ -24,7 +25,7 @@ use std::sync::Arc;
 pub struct Factors<A: ComposingAlgebra> {
     pub(crate) algebra: A,
     pub(crate) graph: Snapshot<OutGraph>,
-    pub(crate) order: Arc<Snapshot<Vec<Vertex>>>,
+    pub(crate) order: Arc<Snapshot<Order>>,
     /// The place of each vertex.
     pub(crate) places: Vec<u32>,
     /// The greater places with which each place has an edge.
@@ -40,9 +41,9 @@ impl<A: ComposingAlgebra> Model for Factors<A> {
 
     ghost Value = { FactorState A A.Walk };
 
-    ghost view = { λ f. record { algebra = f.algebra; roads = f.graph.value; factor = record { order = (arc_value f.order).value.items; places = f.places.items; leaving = f.rows.leaving; entering = f.rows.entering }; heads = f.heads } };
+    ghost view = { λ f. record { algebra = f.algebra; roads = f.graph.value; factor = record { order = (arc_value f.order).value.vertices.items; places = f.places.items; leaving = f.rows.leaving; entering = f.rows.entering }; heads = f.heads } };
 
-    ghost invariant = { λ f. IsFactored (A.meaning f.algebra) (A.walks f.algebra) f.graph.value (record { order = (arc_value f.order).value.items; places = f.places.items; leaving = f.rows.leaving; entering = f.rows.entering }) f.heads };
+    ghost invariant = { λ f. IsFactored (A.meaning f.algebra) (A.walks f.algebra) f.graph.value (record { order = (arc_value f.order).value.vertices.items; places = f.places.items; leaving = f.rows.leaving; entering = f.rows.entering }) f.heads };
 }
 
 impl<A: ComposingAlgebra> Factors<A> {

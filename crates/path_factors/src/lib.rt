@@ -8,7 +8,7 @@
 
 mod asker;
 mod better;
-mod build;
+mod by_order;
 mod chains;
 mod climb;
 mod edge;
@@ -18,7 +18,6 @@ mod fits;
 mod heads;
 mod link;
 mod load;
-mod order;
 mod outline;
 mod packed;
 mod prune;

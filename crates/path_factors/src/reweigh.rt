@@ -9,8 +9,9 @@ ghost use Rattle.path_factors.specs.Reweighing.{Fits, IsReason, JoinsNoOthers};
 use crate::factors::Factors;
 use crate::packed::PackedRows;
 use crate::weighing::Weighing;
+use elimination_order::Order;
 use path_algebra::{ComposingAlgebra, composition_holds};
-use road_graph::{Memory, OutGraph, Vertex};
+use road_graph::{Memory, OutGraph};
 use std::alloc::Global;
 use std::snapshot::Snapshot;
 use std::sync::Arc;
@@ -29,17 +30,17 @@ impl<'g, A: ComposingAlgebra> Weighing<'g, A> {
     fn open(
         algebra: A,
         graph: &'g OutGraph,
-        order: Arc<Snapshot<Vec<Vertex>>>,
+        order: Arc<Snapshot<Order>>,
         places: Vec<u32>,
         rows: PackedRows<A::Walk>,
     ) -> Self
-        requires places { ArePlaces graph.now.vertices (arc_value order).value.items places.items }
+        requires places { ArePlaces graph.now.vertices (arc_value order).value.vertices.items places.items }
         requires outline { IsOutline graph.now places.items (heads_in rows.leaving) }
         requires risers { AreBlank (A.walks algebra).no_walk rows.leaving }
         requires fallers { AreBlank (A.walks algebra).no_walk rows.entering }
         ensures algebra { result.algebra ≡ algebra }
         ensures roads { result.roads ≡ graph.now }
-        ensures order { result.factor.order ≡ (arc_value order).value.items }
+        ensures order { result.factor.order ≡ (arc_value order).value.vertices.items }
     {
         composition_holds(algebra);
         let _ = rows.len();
@@ -57,17 +58,17 @@ impl<'g, A: ComposingAlgebra> Weighing<'g, A> {
         alloc: Global,
         algebra: A,
         graph: &'g OutGraph,
-        order: Arc<Snapshot<Vec<Vertex>>>,
+        order: Arc<Snapshot<Order>>,
         places: Vec<u32>,
         rows: PackedRows<A::Walk>,
     ) -> Result<Factors<A>, Memory>
-        requires places { ArePlaces graph.now.vertices (arc_value order).value.items places.items }
+        requires places { ArePlaces graph.now.vertices (arc_value order).value.vertices.items places.items }
         requires outline { IsOutline graph.now places.items (heads_in rows.leaving) }
         requires risers { AreBlank (A.walks algebra).no_walk rows.leaving }
         requires fallers { AreBlank (A.walks algebra).no_walk rows.entering }
         ensures algebra { IfOk result (λ f. f.algebra ≡ algebra) }
         ensures roads { IfOk result (λ f. f.roads ≡ graph.now) }
-        ensures order { IfOk result (λ f. f.factor.order ≡ (arc_value order).value.items) }
+        ensures order { IfOk result (λ f. f.factor.order ≡ (arc_value order).value.vertices.items) }
     {
         composition_holds(algebra);
         let mut weighing = Weighing::open(algebra, graph, order, places, rows);
@@ -79,7 +80,7 @@ impl<'g, A: ComposingAlgebra> Weighing<'g, A> {
 
 impl<A: ComposingAlgebra> Factors<A> {
     /// The factor of another graph, by the same order and over the same links: in a fraction of the
-    /// time of `build`. Weights may change, and arcs may go, come back or have others beside them.
+    /// time of `by_order`. Weights may change, and arcs may go, come back or have others beside them.
     /// The order is shared, and places and links are copied. The only other error is `Memory`.
     ///
     /// # Errors

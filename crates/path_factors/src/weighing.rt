@@ -12,8 +12,9 @@ ghost use Rattle.path_factors.specs.State.{IsSameState};
 use crate::edge::Edge;
 use crate::heads::{position, seek};
 use crate::packed::PackedRows;
+use elimination_order::Order;
 use path_algebra::{ComposingAlgebra, composition_holds};
-use road_graph::{OutGraph, Vertex};
+use road_graph::OutGraph;
 use std::marker::Model;
 use std::snapshot::Snapshot;
 use std::sync::Arc;
@@ -24,7 +25,7 @@ use std::sync::Arc;
 pub(crate) struct Weighing<'g, A: ComposingAlgebra> {
     pub(crate) algebra: A,
     pub(crate) graph: &'g OutGraph,
-    pub(crate) order: Arc<Snapshot<Vec<Vertex>>>,
+    pub(crate) order: Arc<Snapshot<Order>>,
     pub(crate) places: Vec<u32>,
     pub(crate) rows: PackedRows<A::Walk>,
 }
@@ -37,10 +38,10 @@ impl<'g, A: ComposingAlgebra> Model for Weighing<'g, A> {
 
     ghost Value = { FactorState A A.Walk };
 
-    ghost view = { λ f. record { algebra = f.algebra; roads = f.graph.now; factor = record { order = (arc_value f.order).value.items; places = f.places.items; leaving = f.rows.leaving; entering = f.rows.entering }; heads = heads_in f.rows.leaving } };
+    ghost view = { λ f. record { algebra = f.algebra; roads = f.graph.now; factor = record { order = (arc_value f.order).value.vertices.items; places = f.places.items; leaving = f.rows.leaving; entering = f.rows.entering }; heads = heads_in f.rows.leaving } };
 
     ghost invariant = { λ f.
-        IsBegun (A.meaning f.algebra) (A.walks f.algebra) f.graph.now (record { order = (arc_value f.order).value.items; places = f.places.items; leaving = f.rows.leaving; entering = f.rows.entering })
+        IsBegun (A.meaning f.algebra) (A.walks f.algebra) f.graph.now (record { order = (arc_value f.order).value.vertices.items; places = f.places.items; leaving = f.rows.leaving; entering = f.rows.entering })
         × IsOutline f.graph.now f.places.items (heads_in f.rows.leaving) };
 }
 

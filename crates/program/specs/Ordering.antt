@@ -1,12 +1,12 @@
 -- What the command `order` does.
-use Rattle.std.specs.Prelude.{◌≡◌, ℕ, ◌⊎◌, List, [], ◌∷◌, Result, Ok, Err}
+use Rattle.std.specs.Prelude.{◌≡◌, ℕ, ◌⊎◌, [], ◌∷◌, Result, Ok, Err, length}
 use Rattle.road_graph.specs.GraphData.{GraphData}
 use Rattle.text_lines.specs.declared.faults.ReadFault.{ReadFault}
 use Rattle.text_lines.specs.Reads.{ReadsText}
 use Rattle.text_lines.specs.Streams.{Input, Output}
 use Rattle.graph_text.specs.GraphFiles.{gr_rules}
 use Rattle.order_files.specs.WrittenOrders.{places_text}
-use Rattle.path_factors.specs.Factors.{HasEachVertex}
+use Rattle.elimination_order.specs.declared.order.Order.{Order}
 use Rattle.batch_inputs.specs.declared.faults.File.TheVariants.{Graph}
 use Rattle.batch_inputs.specs.declared.faults.RunFault.{RunFault}
 use Rattle.command_args.specs.declared.parsed.OrderArgs.{OrderArgs}
@@ -22,11 +22,11 @@ abbrev pub HasNoOrder : {W : Type 0} → Output W → Output W → Result (Unit 
 HasNoOrder out out_after (Ok _) = ⊥
 HasNoOrder out out_after (Err f) = (out_after ≡ out) × ((f ≡ run_fault 44) ⊎ (f ≡ run_fault 3))
 
--- the output has the places of n vertices, each place once, or a write of them failed; or nothing
--- was written
+-- the output has the places of n vertices in an order, or a write of them failed; or nothing was
+-- written
 abbrev pub WritesPlaces : {W : Type 0} → ℕ → Output W → Output W → Result (Unit {0}) RunFault → Type 0
 WritesPlaces n out out_after outcome =
-    ((places : List ℕ) × HasEachVertex n places × Reaches (places_text places) out out_after outcome)
+    ((order : Order) × (length order.vertices.items ≡ n) × Reaches (places_text order.places.items) out out_after outcome)
     ⊎ HasNoOrder out out_after outcome
 
 -- the vertices of a graph that was read were ordered; a fault of the graph is that of the command

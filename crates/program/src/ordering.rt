@@ -1,36 +1,30 @@
 //! An order of elimination of a graph is found and written.
-ghost use Rattle.path_factors.specs.Factors.{HasEachVertex};
+ghost use Rattle.order_files.specs.WrittenOrders.{places_text};
+ghost use Rattle.fault_reports.specs.Reports.{Reaches};
 ghost use Rattle.program.specs.Ordering.{RanOrder, WritesPlaces};
 
 use batch_run::{File, RunFault, WRITE, fault_in, fault_of_run};
-use elimination_order::{Care, nested_dissection};
+use elimination_order::{Care, Order, nested_dissection};
 use graph_text::read_gr_as;
-use order_files::{Unwritten, write_order};
-use road_graph::{OutGraph, Vertex};
+use order_files::write_order;
+use road_graph::OutGraph;
 use std::alloc::Global;
 use text_lines::{MEMORY, ReadFault, RoadRead, RoadWrite};
 
 /// The fault number of a graph that is too dense to factor.
 const TOO_DENSE: u8 = 44;
 
-/// Writes the places of n vertices in an order, and flushes them.
-fn write_places<W: RoadWrite>(
-    alloc: Global,
-    out: &mut W,
-    n: u32,
-    order: &[Vertex],
-) -> Result<(), RunFault>
-    requires { HasEachVertex n order.now }
-    ensures { WritesPlaces n (W.seen out.old) (W.seen out.new) result }
+/// Writes the places of an order, and flushes them.
+fn write_places<W: RoadWrite>(out: &mut W, order: &Order) -> Result<(), RunFault>
+    ensures { Reaches (places_text order.now.places.items) (W.seen out.old) (W.seen out.new)
+        result }
 {
-    match write_order(alloc, out, n, order) {
+    match write_order(out, order) {
         Ok(()) => match out.flush() {
             Ok(()) => Ok(()),
             Err(_) => Err(fault_of_run(WRITE)),
         },
-        Err(Unwritten::Write) => Err(fault_of_run(WRITE)),
-        Err(Unwritten::Memory) => Err(fault_of_run(MEMORY)),
-        Err(Unwritten::NoOrder) => unreachable!(),
+        Err(_) => Err(fault_of_run(WRITE)),
     }
 }
 
@@ -42,7 +36,7 @@ fn order_graph<W: RoadWrite>(alloc: Global, graph: &OutGraph, out: &mut W) -> Re
         return Err(fault_of_run(MEMORY));
     };
     match ordered.order {
-        Some(order) => write_places(alloc, out, graph.vertices(), &order),
+        Some(order) => write_places(out, &order),
         None => Err(fault_of_run(TOO_DENSE)),
     }
 }

@@ -3,4 +3,3 @@ mod Searches
 pub mod FactorCosts
 mod Pools
 mod Sending
-mod OrderLaws

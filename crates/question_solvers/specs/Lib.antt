@@ -1,5 +1,4 @@
 pub mod Lending
-pub mod Orders
 pub mod Questions
 pub mod Solved
 pub mod Solvers

@@ -55,6 +55,10 @@ pub record IsFactoredFor {S V : Type 0} {G : Ghosts S V} (A : Algebra V) (s : Fa
   pub factored : IfSome s.factored (λ f. IsCarried A (cost_of f.factors.algebra.cost))
   pub refused : IsNone s.factored → IfSome s.refused (λ r. IsCarried A (cost_of r.0))
 
+-- factoring its graph was tried: it has factors, or the graph was refused
+abbrev pub IsTried : {S V : Type 0} {G : Ghosts S V} → FactorSolver S V G → Type 0
+IsTried s = IsNone s.factored → IsSome s.refused
+
 -- what became of factoring its graph: there are factors, of sums that fit; or none, and why the
 -- graph was refused; or neither
 abbrev pub IsFactoringBy : {S V : Type 0} {G : Ghosts S V} → FactorSolver S V G → Factoring → Type 0

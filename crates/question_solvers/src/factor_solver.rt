@@ -1,18 +1,16 @@
 //! What the solver by factors keeps between two questions.
-ghost use Rattle.std.specs.Prelude.{◌≡◌, ◌≢◌, ◌↔◌, ℕ, length, IfErr, IfOk, IfSome, IsNone, IsSome, IsTrue, None, Ok, OnOk};
-ghost use Rattle.std.specs.Option.{ForSome, IsSomeAnd};
+ghost use Rattle.std.specs.Prelude.{◌≡◌, ◌≢◌, ◌↔◌, ℕ, length, IfErr, IfOk, IfSome, IsNone, IsSome, IsTrue, None, Ok, OnOk, Some};
+ghost use Rattle.std.specs.Option.{ForSome, IsSomeAnd, option_map};
 ghost use Rattle.path_algebra.specs.Counted.{cost_of, CountsFit};
 ghost use Rattle.elimination_order.specs.Bounds.{AreWithinBounds, IsTooDense};
 ghost use Rattle.elimination_order.specs.declared.counts.Counts.{Counts};
-ghost use Rattle.path_factors.specs.Factors.{HasEachVertex};
-ghost use Rattle.question_solvers.specs.Orders.{IsOrderOf};
 ghost use Rattle.question_solvers.specs.declared.factor_solver.NoFactors.TheVariants.{Dense, Heavy};
 
 use crate::plain_solver::PlainSolver;
-use elimination_order::{Care, Counts};
+use elimination_order::{Care, Counts, Order};
 use factor_routes::{RoadFactors, RouteAsker, Unfactored};
 use path_algebra::{Cost, PathAlgebra};
-use road_graph::{InGraph, Memory, OutGraph, Vertex};
+use road_graph::{InGraph, Memory, OutGraph};
 use std::alloc::Global;
 
 /// The factors of a graph, and the lists by which they are asked for pairs.
@@ -31,13 +29,13 @@ impl Factored {
         cost: Cost,
         graph: &OutGraph,
         by_head: &InGraph,
-        order: &Vec<Vertex>,
+        order: &Order,
     ) -> Result<Factored, Unfactored>
         requires same { by_head.now ≡ graph.now }
-        requires order { HasEachVertex graph.now.vertices order.now.items }
+        requires order { length order.now.vertices.items ≡ graph.now.vertices }
         ensures roads { IfOk result (λ f. f.factors.roads ≡ graph.now) }
         ensures cost { IfOk result (λ f. f.factors.algebra.cost ≡ cost) }
-        ensures order { IfOk result (λ f. f.factors.factor.order ≡ order.now.items) }
+        ensures order { IfOk result (λ f. f.factors.factor.order ≡ order.now.vertices.items) }
         ensures heavy { IfErr result (λ e. e ≡ Unfactored.Heavy → (k : ℕ) →
             CountsFit graph.now (cost_of cost) k → ⊥) }
         ensures dense { IfErr result (λ e. (c : Counts) → e ≢ Unfactored.Dense c) }
@@ -78,12 +76,13 @@ pub enum Factoring {
 pub struct FactorSolver<A: PathAlgebra> {
     pub(crate) plain: PlainSolver<A>,
     /// The order by which the graph is factored, once it is given or found.
-    pub(crate) order: Option<Vec<Vertex>>,
-    /// The factors, once they are made.
+    pub(crate) order: Option<Order>,
+    /// The factors by that order, once they are made.
     pub(crate) factored: Option<Factored>,
     /// For which costs the graph is not factored, and why.
     pub(crate) refused: Option<(Cost, NoFactors)>,
-    ghost each: { ForSome order (λ list. IsOrderOf plain.graph.vertices list.items) },
+    ghost each: { ForSome order (λ o. length o.vertices.items ≡ plain.graph.vertices) },
+    ghost ordered: { ForSome factored (λ f. option_map (λ o. o.vertices.items) order ≡ Some f.factors.factor.order) },
     ghost of_graph: { ForSome factored (λ f. f.factors.roads ≡ plain.graph) },
     ghost heavy: { ForSome refused (λ r. r.1 ≡ Heavy → (k : ℕ) → CountsFit plain.graph (cost_of r.0) k → ⊥) },
     ghost dense: { ForSome refused (λ r. (c : Counts) → r.1 ≡ Dense c → IsTooDense plain.graph.vertices (length plain.graph.arcs) c) },
@@ -95,8 +94,8 @@ impl<A: PathAlgebra> FactorSolver<A> {
 
     /// The solver over a graph, which is not factored yet, and later by an order of its vertices if
     /// one is given.
-    pub fn new(alloc: Global, graph: OutGraph, order: Option<Vec<Vertex>>) -> Self
-        requires { IfSome order (λ list. HasEachVertex graph.vertices list.items) }
+    pub fn new(alloc: Global, graph: OutGraph, order: Option<Order>) -> Self
+        requires { IfSome order (λ o. length o.vertices.items ≡ graph.vertices) }
         ensures graph { result.plain.graph ≡ graph }
         ensures order { result.order ≡ order }
     {

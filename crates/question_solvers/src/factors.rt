@@ -7,7 +7,7 @@ ghost use Rattle.road_files.specs.Asked.{AreQuestionsOf, asked_of};
 ghost use Rattle.question_solvers.specs.Questions.{HasPlace};
 ghost use Rattle.question_solvers.specs.Lending.{EndsFactors};
 ghost use Rattle.question_solvers.specs.Solved.{IsNext, IsSolvedFor};
-ghost use Rattle.question_solvers.specs.Solvers.{IsFactorAfter, IsFactorReady, IsFactoredFor, IsSoughtBy};
+ghost use Rattle.question_solvers.specs.Solvers.{IsFactorAfter, IsFactorReady, IsFactoredFor, IsSoughtBy, IsTried};
 ghost use Rattle.question_solvers.specs.Tasks.{AreFoundIn, ArePairsIn, IsCarriedIn, IsFoundIn, IsPlaceIn, IsPoolIn, SolvesNextIn};
 
 use crate::ahead::{add_next, advance, solution_of};
@@ -109,12 +109,14 @@ pub fn factor<A: PathAlgebra>(
     ensures graph { solver.new.plain.graph ≡ solver.old.plain.graph }
     ensures searched { solver.new.plain.searched ≡ solver.old.plain.searched }
     ensures pool { solver.new.plain.pool ≡ solver.old.plain.pool }
+    ensures order { IsSome solver.old.order → solver.new.order ≡ solver.old.order }
     ensures rows { OnOk result (IsSome solver.old.plain.by_head → IsSome solver.new.plain.by_head) }
     ensures made { OnOk result (IfSome solver.new.factored (λ f. IsSome solver.new.plain.by_head)) }
     ensures carried { OnOk result (IfSome solver.new.factored (λ f.
         IsCarried (A.meaning algebra) (cost_of f.factors.algebra.cost))) }
     ensures refused { OnOk result (IsNone solver.new.factored → IfSome solver.new.refused (λ r.
         IsCarried (A.meaning algebra) (cost_of r.0))) }
+    ensures tried { OnOk result (IsSome (A.arc_cost algebra) → IsTried solver.new) }
 {
     let Some(cost) = algebra.cost() else {
         solver.factored = None;
@@ -134,6 +136,8 @@ pub fn start_factors<A: PathAlgebra, R>(
     ensures ready { OnOk result (IsFactorReady A.meaning task.now.algebra
         (asked_of task.now.questions.now) solver.new) }
     ensures factored { OnOk result (IsFactoredFor (A.meaning task.now.algebra) solver.new) }
+    ensures order { IsSome solver.old.order → solver.new.order ≡ solver.old.order }
+    ensures tried { OnOk result (IsSome (A.arc_cost task.now.algebra) → IsTried solver.new) }
 {
     start_plain(task, &mut solver.plain)?;
     factor(task.alloc, task.algebra, solver)

@@ -1,13 +1,14 @@
 //! Orders of five vertices, read in pieces and written back.
 use crate::ends::Pieces;
-use order_files::{Unwritten, read_order, write_order};
+use elimination_order::Order;
+use order_files::{read_order, write_order};
 use road_graph::Vertex;
 use std::alloc::Global;
 use std::process::Abort;
 use text_lines::{Plain, ReadFault};
 
 /// The order of five vertices that a text has, or its fault.
-fn order(alloc: Global, text: &str) -> Result<Vec<Vertex>, ReadFault> {
+fn order(alloc: Global, text: &str) -> Result<Order, ReadFault> {
     read_order(alloc, &mut Pieces::new(text.as_bytes(), 3, false), 5)
 }
 
@@ -15,9 +16,9 @@ fn order(alloc: Global, text: &str) -> Result<Vec<Vertex>, ReadFault> {
 fn assert_order(rt: &(impl Abort + AllocGlobal), text: &str, wanted: &[Vertex], again: &[u8]) {
     match order(rt.alloc(), text) {
         Ok(order) => {
-            assert_eq!(rt; order.as_slice(), wanted);
+            assert_eq!(rt; order.vertices.as_slice(), wanted);
             let mut to = Plain::new(Vec::new(rt.alloc()));
-            assert_eq!(rt; write_order(rt.alloc(), &mut to, 5, &order), Ok(()));
+            assert_eq!(rt; write_order(&mut to, &order), Ok(()));
             assert_eq!(rt; to.into_inner().as_slice(), again);
         }
         Err(fault) => assert_eq!(rt; fault.number, 0),
@@ -57,21 +58,5 @@ fn faults_of_an_order(rt: HostRuntime) {
                 assert_eq!(rt; fault.line, line, "{text}");
             }
         }
-    }
-}
-
-#[test]
-fn what_is_no_order_is_not_written(rt: HostRuntime) {
-    for vertices in [
-        [Vertex(1), Vertex(2), Vertex(1)],
-        [Vertex(1), Vertex(0), Vertex(2)],
-        [Vertex(1), Vertex(4), Vertex(2)],
-    ] {
-        let mut to = Plain::new(Vec::new(rt.alloc()));
-        assert_eq!(rt;
-            write_order(rt.alloc(), &mut to, 3, &vertices),
-            Err(Unwritten::NoOrder)
-        );
-        assert!(rt; to.into_inner().is_empty());
     }
 }

@@ -4,7 +4,6 @@ use Rattle.path_algebra.specs.Counted.{cost_of, CountsFit}
 use Rattle.road_graph.specs.GraphData.{GraphData}
 use Rattle.elimination_order.specs.Bounds.{IsTooDense}
 use Rattle.elimination_order.specs.declared.counts.Counts.{Counts}
-use Rattle.question_solvers.specs.Orders.{IsOrderOf}
 use Rattle.question_solvers.specs.declared.factor_solver.NoFactors.TheVariants.{Dense, Heavy}
 use Rattle.question_solvers.proofs.factors.seek_order.Goals as goal
 
@@ -15,7 +14,7 @@ invariant_of-solver-clause-heavy g c =
 
 pub invariant_of-solver-clause-each : goal.invariant_of-solver-clause-each
 invariant_of-solver-clause-each g c =
-    subst (λ (graph : GraphData). ForSome c.args.solver.now.order (λ list. IsOrderOf graph.vertices list.items)) (sym c.make_rows.ensures.graph) c.args.solver.now.each
+    subst (λ (graph : GraphData). ForSome c.args.solver.now.order (λ o. length o.vertices.items ≡ graph.vertices)) (sym c.make_rows.ensures.graph) c.args.solver.now.each
 
 pub invariant_of-solver-clause-dense : goal.invariant_of-solver-clause-dense
 invariant_of-solver-clause-dense g c =

@@ -1,15 +1,18 @@
-use Rattle.std.proofs.Common.{◌≡◌, ◌≢◌, ◌<◌, length, get_or, arith, sym, ◌∙◌, refl}
-use Rattle.std.proofs.lemmas.Grind.{common_steps}
+use Rattle.std.proofs.Common.{◌<◌, length, sym, ◌∙◌, arith}
+use Rattle.std.specs.Prelude.{IsTrue}
 use Rattle.order_files.proofs.Placing.{takes_free, refuses_taken, noted_more}
 use Rattle.order_files.proofs.order_parser.OrderParser.place_next.Goals as goal
 
-pub returns-then-index-ne0-clause-taken : goal.returns-then-index-ne0-clause-taken
-returns-then-index-ne0-clause-taken c = λ places was.
-    let taken : get_or c.args.self.now.order.items c.args.place 0 ≢ 0 = grind (arith, common_steps) in
-    refuses_taken places c.args.place (λ free. taken (was.placed c.args.place ∙ free))
+pub returns-then-not-is_free-clause-taken : goal.returns-then-not-is_free-clause-taken
+returns-then-not-is_free-clause-taken c = λ places was.
+    let s = c.args.self.now in
+    refuses_taken places c.args.place (λ none.
+    let inside : c.args.place < length s.order.vertices.items = omega (arith, c.requires.place, s.whole) in
+    let yes : IsTrue c.is_free.result = c.is_free.ensures.1 (inside, was.placed c.args.place ∙ none) in
+    absurd (cc))
 
 pub returns-clause-taken : goal.returns-clause-taken
 returns-clause-taken c = λ places was.
-    let inside : c.args.place < length c.args.self.now.order.items = grind (arith, common_steps) in
-    let free : get_or c.args.self.now.order.items c.args.place 0 ≡ 0 = grind (arith, common_steps) in
-    (_, takes_free places c.args.place (sym (was.placed c.args.place) ∙ free), noted_more c.args.self.now _ places was c.args.place inside free refl refl)
+    let s = c.args.self.now in
+    let free = c.is_free.ensures.0 c.if-not-is_free.false in
+    (_, takes_free places c.args.place (sym (was.placed c.args.place) ∙ free.1), noted_more s _ places was c.args.place free.0 free.1 c.place_next.ensures.count c.place_next.ensures.vertices)

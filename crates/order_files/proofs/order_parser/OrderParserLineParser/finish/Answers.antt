@@ -1,6 +1,9 @@
-use Rattle.std.proofs.Common.{arith, refl}
+use Rattle.std.proofs.Common.{◌≡◌, ◌∙◌, length, ap, arith, refl}
 use Rattle.order_files.proofs.OrderLines.{ends}
 use Rattle.order_files.proofs.order_parser.OrderParserLineParser.finish.Goals as goal
 
 pub returns-clause-ok : goal.returns-clause-ok
-returns-clause-ok c = λ at places noted. let e = ends c.args.self places noted (omega (arith, c.if-self.false)) in (rw e.0 refl, e.1)
+returns-clause-ok c = λ at places noted.
+    let s = c.args.self in
+    let full : s.order.count ≡ length s.order.vertices.items = c.is_full.ensures.0 c.if-not-is_full.false in
+    (rw (ends s places noted (omega (arith, full, s.whole)), c.build.ensures) refl, ap (λ v. length v.items) c.build.ensures ∙ s.whole)

@@ -58,6 +58,6 @@ returns-clause-improves g c = λ low below.
     let is = subst (λ (s : FactorState g.row.A.Denot g.row.A-Walk.Denot). get_or (row_of (heads_in s.factor.leaving) x) c.args.j 0 ≡ e.place) (sym c.self.view_is) c.requires.head in
     let rises = c.self.invariant.1.are.rising x e.place (c.args.j, index, get_or_default (row_of heads x) c.args.j e.place 0 index ∙ is) in
     subst (λ (s : FactorState g.row.A.Denot g.row.A-Walk.Denot). Improves (g.A.ComposingAlgebra.walks s.algebra) low s.factor
-    (record { order = (arc_value c.self.inside.order).value.items; places = c.self.inside.places.items; leaving = c.improve.new.self.leaving; entering = c.improve.new.self.entering })) c.self.view_is
+    (record { order = (arc_value c.self.inside.order).value.vertices.items; places = c.self.inside.places.items; leaving = c.improve.new.self.leaving; entering = c.improve.new.self.entering })) c.self.view_is
     (both_improve C c.composition_holds.ensures.ordered A G _ c.self.invariant.0 x e.place e.leaving e.entering leaving entering
     rises.0 rises.1 c.improve.new.self c.improve.ensures.improved low below)

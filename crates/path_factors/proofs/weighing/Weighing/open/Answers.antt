@@ -7,7 +7,7 @@ invariant_of-result g c =
     let A = g.A.PathAlgebra.meaning c.args.algebra in
     let C = g.A.ComposingAlgebra.walks c.args.algebra in
     let asked = c.requires in (
-      begun_blank A C c.composition_holds.ensures c.args.graph.now (arc_value c.args.order).value.items c.args.places.items asked.places c.args.rows asked.outline.are c.len.ensures.heads
+      begun_blank A C c.composition_holds.ensures c.args.graph.now (arc_value c.args.order).value.vertices.items c.args.places.items asked.places c.args.rows asked.outline.are c.len.ensures.heads
           asked.risers asked.fallers,
       asked.outline,
     )

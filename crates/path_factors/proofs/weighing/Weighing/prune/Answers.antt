@@ -27,6 +27,6 @@ invariant_of-result g c =
     } in
     let inside = subst (λ (t : FactorState g.row.A.Denot g.row.A-Walk.Denot). IsFactored (g.A.PathAlgebra.meaning t.algebra) (g.A.ComposingAlgebra.walks t.algebra) t.roads
     (record { order = t.factor.order; places = t.factor.places; leaving = rows.leaving; entering = rows.entering }) (heads_in t.factor.leaving)) (sym c.self.view_is) made in
-    let T : FactorData g.row.A-Walk.Denot = record { order = (arc_value s.order).value.items; places = s.places.items; leaving = rows.leaving; entering = rows.entering } in
+    let T : FactorData g.row.A-Walk.Denot = record { order = (arc_value s.order).value.vertices.items; places = s.places.items; leaving = rows.leaving; entering = rows.entering } in
     subst (λ (r : GraphData). IsFactored (g.A.PathAlgebra.meaning s.algebra) (g.A.ComposingAlgebra.walks s.algebra) r T c.into_heads.result) (sym c.of.ensures)
     (subst (λ (h : List (List ℕ)). IsFactored (g.A.PathAlgebra.meaning s.algebra) (g.A.ComposingAlgebra.walks s.algebra) s.graph.now T h) (sym c.into_heads.ensures) inside)

@@ -1,11 +1,8 @@
-use Rattle.std.proofs.Common.{◌≡◌, ℕ, Option, subst}
-use Rattle.std.specs.Prelude.{IfSome, Vec}
-use Rattle.std.specs.declared.alloc.Global.{Global}
-use Rattle.elimination_order.specs.Orders.{HasEachVertex}
+use Rattle.std.proofs.Common.{◌≡◌, ◌∙◌, ℕ, Some, ap, sym}
+use Rattle.std.specs.Option.{option_map}
 use Rattle.path_algebra.specs.Counted.{cost_of, CountsFit}
 use Rattle.question_solvers.specs.declared.factor_solver.NoFactors.TheVariants.{Heavy}
 use Rattle.question_solvers.proofs.FactorCosts.{recorded}
-use Rattle.question_solvers.proofs.OrderLaws.{given}
 use Rattle.question_solvers.proofs.factor_solver.FactorSolver.factor.Goals as goal
 
 pub invariant_of-self-in-Err-Heavy-clause-heavy : goal.invariant_of-self-in-Err-Heavy-clause-heavy
@@ -14,6 +11,9 @@ invariant_of-self-in-Err-Heavy-clause-heavy g c =
     (λ is k fits. c.in-Err-Heavy.ensures.heavy c.in-Err-Heavy.field-0-is k fits)
 
 pub by_order-requires-clause-order : goal.by_order-requires-clause-order
-by_order-requires-clause-order g c =
-    let s = c.seek_order.new.self in
-    subst (λ (order : Option (Vec ℕ Global)). IfSome order (λ list. HasEachVertex s.plain.graph.vertices list.items)) c.in-Some-Some.is-1 (given s.plain.graph.vertices s.order s.each)
+by_order-requires-clause-order g c = c.seek_order.new.self.each _ c.in-Some-Some.is-1
+
+pub invariant_of-self-in-Ok-clause-ordered : goal.invariant_of-self-in-Ok-clause-ordered
+invariant_of-self-in-Ok-clause-ordered g c =
+    recorded (λ f. option_map (λ o. o.vertices.items) c.seek_order.new.self.order ≡ Some f.factors.factor.order) c.in-Ok.factored
+    (ap (option_map (λ o. o.vertices.items)) c.in-Some-Some.is-1 ∙ ap Some (sym c.in-Ok.ensures.order))

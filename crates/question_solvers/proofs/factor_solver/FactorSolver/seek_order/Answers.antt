@@ -1,12 +1,11 @@
-use Rattle.std.proofs.Common.{◌≡◌, ℕ, Some}
+use Rattle.std.proofs.Common.{◌≡◌, ℕ, length}
 use Rattle.path_algebra.specs.Counted.{cost_of, CountsFit}
 use Rattle.question_solvers.specs.declared.factor_solver.NoFactors.TheVariants.{Heavy}
 use Rattle.question_solvers.proofs.FactorCosts.{recorded}
-use Rattle.question_solvers.proofs.OrderLaws.{kept}
 use Rattle.question_solvers.proofs.factor_solver.FactorSolver.seek_order.Goals as goal
 
 pub invariant_of-self-clause-each : goal.invariant_of-self-clause-each
-invariant_of-self-clause-each g c = kept c.args.self.now.plain.graph.vertices (Some c.in-Ok.order) c.in-Ok.ensures.each
+invariant_of-self-clause-each g c = recorded (λ o. length o.vertices.items ≡ c.args.self.now.plain.graph.vertices) c.in-Ok.order c.in-Ok.ensures.each
 
 pub invariant_of-self-in-Err-Heavy-clause-heavy : goal.invariant_of-self-in-Err-Heavy-clause-heavy
 invariant_of-self-in-Err-Heavy-clause-heavy g c =

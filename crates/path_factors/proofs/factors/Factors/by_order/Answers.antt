@@ -1,6 +1,6 @@
 use Rattle.std.proofs.Common.{subst}
 use Rattle.path_factors.specs.Edges.{AreBlank}
-use Rattle.path_factors.proofs.factors.Factors.build.Goals as goal
+use Rattle.path_factors.proofs.factors.Factors.by_order.Goals as goal
 
 pub weigh-requires-clause-risers : goal.weigh-requires-clause-risers
 weigh-requires-clause-risers g c κs within =

@@ -1,5 +1,5 @@
 -- A route that is filled from its target back.
-use Rattle.std.proofs.Common.{◌≡◌, ℕ, List, [], ◌∷◌, ◌++◌, reverse, refl, ap, ◌∙◌, Option, Some, None}
+use Rattle.std.proofs.Common.{◌≡◌, ℕ, List, [], ◌∷◌, ◌++◌, reverse, ap, ◌∙◌, Option, Some, None}
 use Rattle.std.proofs.lemmas.List.{reverse-append}
 use Rattle.road_graph.specs.GraphData.{GraphData, IsGraph, arc_of}
 use Rattle.path_algebra.specs.Counted.{counted, AreBestInto}
@@ -18,9 +18,6 @@ pub record Climbed (g : GraphData) (cost : ℕ → ℕ) (k : ℕ) (number : ℕ 
   pub chain : IsCountedChain g cost k number at rest target
 
 module _ (g : GraphData) (cost : ℕ → ℕ) (k : ℕ) (number : ℕ → Option ℕ) (target : ℕ) where
-  pub climb_start : (y : ℕ) → number target ≡ Some y → Climbed g cost k number target target y (target ∷ [])
-  climb_start y e = record { at_number = e; rest = []; is = refl; chain = refl }
-
   module _ (at x : ℕ) (items : List ℕ) (known : Climbed g cost k number target at x items) where
     pub climb : (tail : ℕ × ℕ) → IsLeastTail g cost k number at x (Some tail) → Climbed g cost k number target tail.0 tail.1 (items ++ tail.0 ∷ [])
     climb tail least = record {

@@ -4,19 +4,21 @@ use Rattle.std.proofs.Math.Nat.{mul-le-mul_right, mul-le-mul_left}
 use Rattle.std.proofs.Math.Pow.{pow_mono}
 use Rattle.std.proofs.lemmas.Bool.Decides.{nat_tests}
 use Rattle.std.proofs.lemmas.List.Elements.{All-nil, All-cons, All-contains}
-use Rattle.std.specs.Prelude.{All, Contains, IfSome, map, nat_le, ◌==◌, if◌then◌else◌}
+use Rattle.std.specs.Prelude.{All, Contains, IfSome, MatchOption, map, nat_le, ◌==◌, if◌then◌else◌}
 use Rattle.std.proofs.Math.ListN.{get_or-map}
-use Rattle.std.proofs.lemmas.List.{at_drop_more, get_or_default, length-map}
+use Rattle.std.proofs.lemmas.List.{at_drop_all, at_drop_more, get_or_default, length-map}
 use Rattle.road_graph.specs.declared.OutRoad.{OutRoad}
-use Rattle.road_graph.specs.GraphData.{GraphData, IsGraph, HasArc, ListsRoadsInto, arc_of, reversed_arc, road_of}
+use Rattle.road_graph.specs.GraphData.{GraphData, IsGraph, HasArc, HasVertex, ListsRoadsInto, arc_of, reversed_arc, road_of}
 use Rattle.path_algebra.specs.Algebra.{Algebra, IsLawful}
 use Rattle.path_algebra.specs.Walks.{IsBest, IsBestLabel}
-use Rattle.path_algebra.specs.Counted.{cost_of, counted, counted_cost, IsCountedStepOf}
+use Rattle.path_algebra.specs.Counted.{cost_of, counted, counted_cost, AreBestInto, IsCountedStepOf}
 use Rattle.path_algebra.specs.declared.counted_sums.Cost.{Cost}
 use Rattle.path_algebra.specs.declared.counted_sums.Cost.TheVariants.{Weight, One}
 use Rattle.path_algebra.specs.CountedWalks.{counted_laws}
+use Rattle.path_algebra.specs.Laws.{coded_below}
 use Rattle.path_algebra.proofs.Walks.{walk_value_is_value}
 use Rattle.path_algebra.proofs.Tight.{best_is_one}
+use Rattle.route_tree.specs.Tree.{Branches, hops_of, parent_of, AreHopsAt, IsParentAt, IsTree}
 use Rattle.factor_routes.specs.Tails.{adding_up, lesser, IsLeastTail}
 
 -- a vertex has one best label
@@ -83,15 +85,6 @@ lesser_right (Some a) s = both (nat_le a.0 s.0) refl
     both true e = (a, refl, leb-true a.0 s.0 e)
     both false e = (s, refl, omega arith)
 
-pub lesser_holds : (P : ℕ × ℕ → Type 0) (o p : Option (ℕ × ℕ)) → IfSome o P → IfSome p P → IfSome (lesser o p) P
-lesser_holds P None p h k = k
-lesser_holds P (Some a) None h k = h
-lesser_holds P (Some a) (Some b) h k = both (nat_le a.0 b.0)
-  where
-    both : (c : Bool) → P (if c then a else b)
-    both true = h
-    both false = k
-
 -- a vertex of a row is one of the graph, and the tail of an arc into its vertex
 pub row_tail : (g : GraphData) (v : ℕ) (roads : List OutRoad) → ListsRoadsInto g v roads → (i : ℕ) (d : OutRoad) → i < length roads →
     (a : ℕ) × HasArc g a × ((arc_of g a).head ≡ v) × ((arc_of g a).tail ≡ (get_or roads i d).head)
@@ -143,6 +136,96 @@ least_step cost k y number least found roads i road lt is e =
     let item : least_from cost k y number least (road ∷ rest) ≡ least_from cost k y number least (get_or roads i road ∷ rest) =
     ap (λ (r : OutRoad). least_from cost k y number least (r ∷ rest)) is in
     here ∙ item ∙ sym (at_drop_more (λ (rs : List OutRoad). least_from cost k y number least rs) roads i road lt)
+
+-- an arc that was held back, and what is left after it
+abbrev pub with_held : Option OutRoad → List OutRoad → List OutRoad
+with_held None roads = roads
+with_held (Some road) roads = road ∷ roads
+
+lesser_nothing : (o : Option (ℕ × ℕ)) → lesser o None ≡ o
+lesser_nothing None = refl
+lesser_nothing (Some a) = refl
+
+module _ (cost : ℕ → ℕ) (k y : ℕ) where
+  -- no arc adds up from a number that is no less
+  pub none_from : (road : OutRoad) (l : Option ℕ) → ((n : ℕ) → l ≡ Some n → y ≤ n) → adding_up cost k y road l ≡ None
+  none_from road None low = refl
+  none_from road (Some n) low =
+      let le = low n refl in
+      let not : (n + counted_cost cost k road.weight == y) ≡ false = grind (arith, nat_tests) in
+      rw not refl
+
+  -- what an arc that adds up leaves of the number
+  pub left_of : (road : OutRoad) (l : Option ℕ) → (adding_up cost k y road l ≡ None → ⊥) →
+      (counted_cost cost k road.weight ≤ y) × (adding_up cost k y road l ≡ Some (road.head, y - counted_cost cost k road.weight))
+  left_of road None some = absurd (some refl)
+  left_of road (Some x) some = both (x + counted_cost cost k road.weight == y) refl some
+    where
+      both : (b : Bool) → (x + counted_cost cost k road.weight == y) ≡ b →
+          (◌≡◌ {A = Option (ℕ × ℕ)} (if b then Some (road.head, x) else None) None → ⊥) →
+          (counted_cost cost k road.weight ≤ y)
+          × (◌≡◌ {A = Option (ℕ × ℕ)} (if b then Some (road.head, x) else None) (Some (road.head, y - counted_cost cost k road.weight)))
+      both true t some =
+          let sum = eqb-true (x + counted_cost cost k road.weight) y t in
+          let is : x ≡ y - counted_cost cost k road.weight = omega (arith, sum) in
+          (omega (arith, sum), ap (λ (n : ℕ). Some (road.head, n)) is)
+      both false t some = absurd (some refl)
+
+  module _ (number : ℕ → Option ℕ) where
+    abbrev from : Option (ℕ × ℕ) → List OutRoad → Option (ℕ × ℕ)
+    from least roads = least_from cost k y number least roads
+
+    -- an arc that does not add up is passed by
+    pub passed : (least : Option (ℕ × ℕ)) (held : Option OutRoad) (road : OutRoad) (roads : List OutRoad) →
+        adding_up cost k y road (number road.head) ≡ None → from least (with_held held roads) ≡ from least (with_held held (road ∷ roads))
+    passed least None road roads none =
+        ap (λ (o : Option (ℕ × ℕ)). from o roads) (sym (ap (λ (o : Option (ℕ × ℕ)). lesser least o) none ∙ lesser_nothing least))
+    passed least (Some h) road roads none =
+        let before = lesser least (adding_up cost k y h (number h.head)) in
+        ap (λ (o : Option (ℕ × ℕ)). from o roads) (sym (ap (λ (o : Option (ℕ × ℕ)). lesser before o) none ∙ lesser_nothing before))
+
+    -- the arc that was held back is looked at
+    pub looked : (A : Algebra ℕ) (g : GraphData) (sources seen : List ℕ) (v : ℕ) → seen ≡ sources → AreBestInto A g sources number v →
+        (least found : Option (ℕ × ℕ)) (held : Option OutRoad) →
+        IfSome held (λ h. (a : ℕ) × HasArc g a × ((arc_of g a).head ≡ v) × ((arc_of g a).tail ≡ h.head)) →
+        MatchOption held (found ≡ least)
+        (λ h. (m : Option ℕ) → IsBestLabel A g seen h.head m → found ≡ lesser least (adding_up cost k y h m)) →
+        (roads : List OutRoad) → from found roads ≡ from least (with_held held roads)
+    looked A g sources seen v same into least found None there e roads = ap (λ (o : Option (ℕ × ℕ)). from o roads) e
+    looked A g sources seen v same into least found (Some h) there e roads =
+        let best = subst (λ (n : ℕ). IsBestLabel A g sources n (number n)) there.3 (into there.0 there.1 there.2) in
+        ap (λ (o : Option (ℕ × ℕ)). from o roads) (e (number h.head) (subst (λ (s : List ℕ). IsBestLabel A g s h.head (number h.head)) (sym same) best))
+
+    pub next_held : (least : Option (ℕ × ℕ)) (held : Option OutRoad) (roads : List OutRoad) (i : ℕ) (road : OutRoad) → i < length roads →
+        road ≡ get_or roads i road →
+        from least (with_held held (road ∷ drop (i + 1) roads)) ≡ from least (with_held held (drop i roads))
+    next_held least held roads i road lt is =
+        ap (λ (r : OutRoad). from least (with_held held (r ∷ drop (i + 1) roads))) is
+        ∙ sym (at_drop_more (λ (rs : List OutRoad). from least (with_held held rs)) roads i road lt)
+
+module _ (g : GraphData) (roads : IsGraph g) (cost : ℕ → ℕ) (k : ℕ) (sources : List ℕ) (v y : ℕ) (number : ℕ → Option ℕ) where
+  -- an arc adds up to the best number of a vertex, unless that is 0
+  pub step_into : (t : Branches) → IsTree (counted cost k) g sources t → HasVertex g v → IsBest (counted cost k) g sources v y → 0 < y →
+      AreBestInto (counted cost k) g sources number v → (u : ℕ) × IsCountedStepOf g cost k number v y u
+  step_into t tree in_v best some into = at (hops_of t v) (parent_of t v) (tree.hops v in_v) (tree.parents v in_v)
+    where
+      at : (m p : Option ℕ) → AreHopsAt (counted cost k) g sources v m → IsParentAt (counted cost k) g sources v m p →
+          (u : ℕ) × IsCountedStepOf g cost k number v y u
+      at None p h q = absurd (h y best.attained)
+      at (Some j) None h q =
+          let least = leb-true y 0 (best.least 0 ([], (v, q, refl), refl)) in
+          let bad : ⊥ = omega (arith, least, some) in
+          absurd bad
+      at (Some j) (Some u) h q =
+          let near = q.nearer in
+          let a = near.0 in
+          let tight = near.1 in
+          let is = one_label (counted cost k) (counted_laws cost k) g roads sources (arc_of g a).tail (number (arc_of g a).tail) (Some tight.tail)
+          (into a tight.arc near.3) tight.tail_best in
+          let there = subst (λ (w : ℕ). IsBest (counted cost k) g sources w tight.head) near.3 tight.head_best in
+          let same = best_is_one (counted cost k) (counted_laws cost k) g roads sources v tight.head y there best in
+          let sum = (coded_below (2 ^ 63 - 1) (tight.tail + counted_cost cost k (arc_of g a).weight) tight.head tight.extends).1 in
+          (u, (tight.tail, ap number (sym near.2) ∙ is, (a, tight.arc, near.2, near.3, omega (arith, sum, same))))
 
 module _ (g : GraphData) (cost : ℕ → ℕ) (k y : ℕ) (number : ℕ → Option ℕ) where
   abbrev pub into : ℕ → OutRoad
@@ -262,3 +345,24 @@ module _ (g : GraphData) (cost : ℕ → ℕ) (k y : ℕ) (number : ℕ → Opti
     pub least_of_row : IsLeastTail g cost k number v y (least_from cost k y number None roads)
     least_of_row =
         rw (lists.2) (by_cases (least_from cost k y number None (map into lists.0)) (found_from None lists.0))
+
+    -- what a whole row gives, once all but an arc that was held back is looked at
+    pub row_is : (least : Option (ℕ × ℕ)) (held : Option OutRoad) (i : ℕ) → length roads ≤ i →
+        least_from cost k y number least (with_held held (drop i roads)) ≡ least_from cost k y number None roads →
+        IsLeastTail g cost k number v y (least_from cost k y number least (with_held held []))
+    row_is least held i end is =
+        let all : least_from cost k y number least (with_held held []) ≡ least_from cost k y number None roads =
+        sym (at_drop_all (λ (rs : List OutRoad). least_from cost k y number least (with_held held rs)) roads i end) ∙ is in
+        subst (IsLeastTail g cost k number v y) (sym all) least_of_row
+
+    -- the arc that was held back adds up, if no other does
+    pub last_is : (road : OutRoad) (i : ℕ) → length roads ≤ i →
+        least_from cost k y number None (road ∷ drop i roads) ≡ least_from cost k y number None roads →
+        (u : ℕ) × IsCountedStepOf g cost k number v y u →
+        (counted_cost cost k road.weight ≤ y) × IsLeastTail g cost k number v y (Some (road.head, y - counted_cost cost k road.weight))
+    last_is road i end is step =
+        let found = adding_up cost k y road (number road.head) in
+        let least : IsLeastTail g cost k number v y found = row_is None (Some road) i end is in
+        let some : found ≡ None → ⊥ = λ e. (subst (IsLeastTail g cost k number v y) e least) step.0 step.1 in
+        let left = left_of cost k y road (number road.head) some in
+        (left.0, subst (IsLeastTail g cost k number v y) left.1 least)

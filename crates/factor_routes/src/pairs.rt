@@ -3,7 +3,7 @@ ghost use Rattle.std.specs.Prelude.{◌≡◌, ℕ, All, List, Option, Some, IfO
 ghost use Rattle.road_graph.specs.GraphData.{HasVertex};
 ghost use Rattle.path_algebra.specs.Carried.{IsCarried};
 ghost use Rattle.path_algebra.specs.Counted.{cost_of};
-ghost use Rattle.path_algebra.specs.Walks.{IsBestLabel};
+ghost use Rattle.path_algebra.specs.Walks.{IsBest, IsBestLabel};
 ghost use Rattle.route_tree.specs.Found.{IsPairFound};
 ghost use Rattle.factor_routes.specs.Numbers.{numbers_of, AreBestNumbers};
 ghost use Rattle.factor_routes.specs.Tails.{IsCountedRoute};
@@ -61,7 +61,9 @@ impl RoadFactors {
     ) -> Result<Vec<Vertex>, Memory>
         requires by_head { by_head.now ≡ self.now.roads }
         requires same { asker.old.factors ≡ self.now }
+        requires sources { All (HasVertex self.now.roads) asker.old.sources }
         requires end { HasVertex self.now.roads end.0 }
+        requires number { IsBest (numbers_of self.now) self.now.roads asker.old.sources end.0 end.1 }
         ensures same { asker.new.factors ≡ asker.old.factors }
         ensures route { IfOk result (λ list. (number : ℕ → Option ℕ) →
             AreBestNumbers (numbers_of self.now) self.now.roads asker.old.sources number →
@@ -69,11 +71,15 @@ impl RoadFactors {
             IsCountedRoute self.now.roads (cost_of self.now.algebra.cost) self.now.algebra.bits number end.0 list.items) }
     {
         self.holds();
+        self.numbers_exist();
         let mut list = Vec::new(alloc);
         list.push(end.0).map_err(AllocError::from)?;
         let (mut at, mut number) = end;
-        while let Some(tail) = self.least_tail(by_head, asker, at, number)? {
+        let mut after = at;
+        while number > 0 {
+            let tail = self.tail_before(by_head, asker, (at, number), after)?;
             list.push(tail.0).map_err(AllocError::from)?;
+            after = at;
             (at, number) = tail;
         }
         list.reverse();

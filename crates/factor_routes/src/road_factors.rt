@@ -1,17 +1,18 @@
 //! A road graph that is factored for numbers that carry hops.
 ghost use Rattle.std.specs.Prelude.{◌≡◌, ◌≢◌, ℕ, length, IfOk, IfErr};
-ghost use Rattle.road_graph.specs.GraphData.{HasVertex, IsGraph};
+ghost use Rattle.road_graph.specs.GraphData.{IsGraph};
 ghost use Rattle.path_algebra.specs.Counted.{cost_of, CountsFit};
 ghost use Rattle.elimination_order.specs.Bounds.{AreWithinBounds, IsTooDense};
 ghost use Rattle.elimination_order.specs.declared.counts.Counts.{Counts};
-ghost use Rattle.path_factors.specs.Factors.{HasEachVertex};
 ghost use Rattle.factor_routes.specs.declared.road_factors.Unfactored.TheVariants.{Dense, Heavy};
 
 use crate::fitting::fitting_sums;
-use elimination_order::{Care, Counts, Ordered, approximate_minimum_degree, nested_dissection};
+use elimination_order::{
+    Care, Counts, Order, Ordered, approximate_minimum_degree, nested_dissection,
+};
 use path_algebra::{Cost, CountedSums};
 use path_factors::{Asker, Factors};
-use road_graph::{InGraph, Memory, OutGraph, Vertex};
+use road_graph::{InGraph, Memory, OutGraph};
 use std::alloc::Global;
 use std::marker::Model;
 
@@ -64,9 +65,9 @@ impl RoadFactors {
         graph: &OutGraph,
         by_head: &InGraph,
         care: Option<Care>,
-    ) -> Result<(Vec<Vertex>, Counts), Unfactored>
+    ) -> Result<(Order, Counts), Unfactored>
         requires { by_head.now ≡ graph.now }
-        ensures each { IfOk result (λ found. HasEachVertex graph.now.vertices found.0.items) }
+        ensures each { IfOk result (λ found. length found.0.vertices.items ≡ graph.now.vertices) }
         ensures within { IfOk result (λ found. AreWithinBounds graph.now.vertices
             (length graph.now.arcs) found.1) }
         ensures heavy { IfErr result (λ e. e ≡ Heavy → (k : ℕ) → CountsFit graph.now (cost_of cost) k → ⊥) }
@@ -101,22 +102,21 @@ impl RoadFactors {
         cost: Cost,
         graph: &OutGraph,
         by_head: &InGraph,
-        order: &Vec<Vertex>,
+        order: &Order,
     ) -> Result<RoadFactors, Unfactored>
         requires same { by_head.now ≡ graph.now }
-        requires order { HasEachVertex graph.now.vertices order.now.items }
+        requires order { length order.now.vertices.items ≡ graph.now.vertices }
         ensures roads { IfOk result (λ f. f.roads ≡ graph.now) }
         ensures cost { IfOk result (λ f. f.algebra.cost ≡ cost) }
-        ensures order { IfOk result (λ f. f.factor.order ≡ order.now.items) }
+        ensures order { IfOk result (λ f. f.factor.order ≡ order.now.vertices.items) }
         ensures heavy { IfErr result (λ e. e ≡ Heavy → (k : ℕ) → CountsFit graph.now (cost_of cost) k → ⊥) }
         ensures dense { IfErr result (λ e. (c : Counts) → e ≢ Dense c) }
     {
         let Some(sums) = fitting_sums(cost, by_head) else {
             return Err(Unfactored::Heavy);
         };
-        match Factors::build(alloc, sums, graph, order) {
-            Ok(Some(factors)) => Ok(RoadFactors { sums, factors }),
-            Ok(None) => unreachable!(),
+        match Factors::by_order(alloc, sums, graph, order) {
+            Ok(factors) => Ok(RoadFactors { sums, factors }),
             Err(Memory) => Err(Unfactored::Memory),
         }
     }

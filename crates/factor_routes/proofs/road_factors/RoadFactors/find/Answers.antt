@@ -33,6 +33,15 @@ returns-in_default-value_in-clause-found g c =
     let at = subst (λ (l : Option ℕ). IsBestLabel (numbers_of f) f.roads sources c.args.pair.1 l) c.in-Some.is best in
     subst (IsBestLabel A f.roads sources c.args.pair.1) (sym c.value_in.ensures ∙ c.in_default-value_in.is) (carry.labels c.args.pair.1 (Some c.in-Some.number) at)
 
+pub route_back-requires-clause-number : goal.route_back-requires-clause-number
+route_back-requires-clause-number g c =
+    let f = c.args.self.now in
+    let sources = c.args.pair.0 ∷ [] in
+    let best = c.in_ok-number.ensures.best sources (c.begin.ensures.same ∙ c.requires.same, c.begin.ensures.source) in
+    let kept = c.number.ensures.kept sources (c.begin.ensures.same ∙ c.requires.same, c.begin.ensures.source) in
+    subst (λ (s : List ℕ). IsBest (numbers_of f) f.roads s c.args.pair.1 c.in-Some.number) (sym kept.1)
+    (subst (IsBestLabel (numbers_of f) f.roads sources c.args.pair.1) c.in-Some.is best)
+
 pub route_back-requires-clause-same : goal.route_back-requires-clause-same
 route_back-requires-clause-same g c =
     (c.number.ensures.kept (c.args.pair.0 ∷ []) (c.begin.ensures.same ∙ c.requires.same, c.begin.ensures.source)).0

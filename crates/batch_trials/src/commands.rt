@@ -149,6 +149,23 @@ fn flags_of_a_command_line(rt: HostRuntime) {
                     ..USUAL
                 }),
             ),
+            (
+                "--deal questions --best-first",
+                Some(Settings {
+                    budget: 65536,
+                    best_first: true,
+                    dealing: Dealing::Questions,
+                    ..USUAL
+                }),
+            ),
+            (
+                "--deal questions --best-first --budget 1024",
+                Some(Settings {
+                    best_first: true,
+                    dealing: Dealing::Questions,
+                    ..USUAL
+                }),
+            ),
         ],
     );
 }

@@ -45,12 +45,17 @@ abbrev pub IsDealing : Text → Dealing → Type 0
 IsDealing text Questions = text ≡ codes "questions"
 IsDealing text Shards = text ≢ codes "questions"
 
+-- the budget of a turn, if none is given: the greatest where whole questions go best first
+abbrev pub usual_budget : Bool → Dealing → ℕ
+usual_budget true Questions = 65536
+usual_budget _ _ = 1024
+
 -- the settings are those of the matches
 pub record AreSettings (rows : List Row) (s : Settings) : Type 0 where
   pub workers : ReadsOr 4 (one_of (codes "workers") rows) s.workers
   pub shards : ReadsOr 4 (one_of (codes "shards") rows) s.shards
   pub width : ReadsOr 1 (one_of (codes "width") rows) s.width
-  pub budget : ReadsOr 1024 (one_of (codes "budget") rows) s.budget
+  pub budget : ReadsOr (usual_budget s.best_first s.dealing) (one_of (codes "budget") rows) s.budget
   pub turns : ReadsOr 1000000000000 (one_of (codes "turns") rows) s.turns
   pub plain : IsSet (one_of (codes "plain") rows) s.plain
   pub factors : IsSet (one_of (codes "factors") rows) s.factors

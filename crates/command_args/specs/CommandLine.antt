@@ -59,7 +59,7 @@ settings algebras dealings =
     ∷ usual_number (codes "workers") 1 64 (codes "4")
     ∷ usual_number (codes "shards") 1 64 (codes "4")
     ∷ deal dealings
-    ∷ usual_number (codes "budget") 1 65536 (codes "1024")
+    ∷ number (codes "budget") 1 65536
     ∷ usual_number (codes "turns") 0 1000000000000 (codes "1000000000000")
     ∷ flag (codes "best-first")
     ∷ number (codes "ahead") 0 4294967295

@@ -36,6 +36,21 @@ pub(crate) fn option<'a>(alloc: Global, name: &'a str, value: &'a str, help: &'a
         .help(help)
 }
 
+/// A whole number in a range, with what it is called.
+pub(crate) fn number<'a>(
+    alloc: Global,
+    name: &'a str,
+    value: &'a str,
+    range: (u64, u64),
+    help: &'a str,
+) -> Arg<'a>
+    ensures global { result.global ≡ false }
+    ensures rule { rule_of result ≡ number name.now range.0 range.1 }
+{
+    let (least, greatest) = range;
+    option(alloc, name, value, help).value_parser(ValueParser::unsigned(least, greatest))
+}
+
 /// A whole number in a range, with the one that it is if it is left out.
 pub(crate) fn usual_number<'a>(
     alloc: Global,
@@ -47,18 +62,7 @@ pub(crate) fn usual_number<'a>(
     ensures global { result.global ≡ false }
     ensures rule { rule_of result ≡ usual_number name.now range.0 range.1 usual.now }
 {
-    let (least, greatest) = range;
-    option(alloc, name, "N", help)
-        .value_parser(ValueParser::unsigned(least, greatest))
-        .default_value(usual)
-}
-
-/// By what weight a shard may run ahead.
-pub(crate) fn weight<'a>(alloc: Global, name: &'a str, help: &'a str) -> Arg<'a>
-    ensures global { result.global ≡ false }
-    ensures rule { rule_of result ≡ number name.now 0 4294967295 }
-{
-    option(alloc, name, "W", help).value_parser(ValueParser::unsigned(0, u64::from(u32::MAX)))
+    number(alloc, name, "N", range, help).default_value(usual)
 }
 
 /// The limit of `within`.
@@ -67,9 +71,7 @@ pub(crate) fn limit<'a>(alloc: Global, long_help: &'a str) -> Arg<'a>
     ensures rule { rule_of result ≡ limit }
 {
     let help = "The greatest sum of weights, for `within` alone";
-    option(alloc, "limit", "L", help)
-        .value_parser(ValueParser::unsigned(0, MAX_LIMIT))
-        .long_help(long_help)
+    number(alloc, "limit", "L", (0, MAX_LIMIT), help).long_help(long_help)
 }
 
 /// One of these names, with the one that it is if it is left out.

@@ -5,7 +5,7 @@ ghost use Rattle.clap.specs.Words.{app_of};
 ghost use Rattle.command_args.specs.CommandLine.{bundle, check, diffuse, faults, order, serve, settings, solve, watching, with_rules};
 
 use crate::arguments::{
-    algebra, deal, fault_numbers, file, flag, limit, option, usual_number, weight,
+    algebra, deal, fault_numbers, file, flag, limit, number, option, usual_number,
 };
 use crate::help::{
     ACCOUNTS, AHEAD, ANSWERS, BEST_FIRST, BUDGET, BUNDLE, EXPLAINED, FACTORS, GRAPH, JUDGED, LIMIT,
@@ -35,7 +35,7 @@ fn with_settings<'a>(
         .arg(usual_number(alloc, "workers", (1, 64), "4", WORKERS))?
         .arg(usual_number(alloc, "shards", (1, 64), "4", SHARDS))?
         .arg(deal(alloc, dealings))?
-        .arg(usual_number(alloc, "budget", (1, 65_536), "1024", BUDGET))?
+        .arg(number(alloc, "budget", "N", (1, 65_536), BUDGET))?
         .arg(usual_number(
             alloc,
             "turns",
@@ -44,7 +44,7 @@ fn with_settings<'a>(
             TURNS,
         ))?
         .arg(flag(alloc, "best-first", BEST_FIRST))?
-        .arg(weight(alloc, "ahead", AHEAD))
+        .arg(number(alloc, "ahead", "W", (0, 4_294_967_295), AHEAD))
 }
 
 /// Adds the options that say what is written beside the answers.

@@ -128,8 +128,8 @@ pub const SHARDS: &str = concat!(
 
 /// How much a shard does before the next has its turn.
 pub const BUDGET: &str = concat!(
-    "Messages and signals that a shard handles per turn,\n",
-    "1 to 65536.",
+    "Messages and signals per turn of a shard, 1 to 65536. Left out: 1024,\n",
+    "or 65536 with `--best-first --deal questions`.",
 );
 
 /// Which of the waiting messages a shard handles next.

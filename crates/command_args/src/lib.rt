@@ -4,6 +4,7 @@
 mod arguments;
 mod clap_command;
 mod help;
+mod options;
 mod parsed;
 
 pub use parsed::{

@@ -1,14 +1,15 @@
 //! What the words of a command line ask for.
-ghost use Rattle.std.specs.Prelude.{◌≡◌, List, map, IfOk, IfErr, IsTrue, ◌↔◌, ◌⊎◌, [], Some, None, unwrap_or, codes, string_bytes};
+ghost use Rattle.std.specs.Prelude.{◌≡◌, List, map, IfOk, IfErr, IsTrue, ◌↔◌, ◌⊎◌, [], Some, None, unwrap_or, string_bytes};
 ghost use Rattle.std.specs.List.{AllZip};
 ghost use Rattle.clap.specs.Values.{kind_of};
 ghost use Rattle.clap.specs.Words.{found_of};
 ghost use Rattle.clap.specs.Simple.{subcommand_rows_of};
-ghost use Rattle.clap.specs.Walk.{all_of, one_of, rows_of};
-ghost use Rattle.command_args.specs.Asked.{AreOptions, AreSettings, AreWatched, AskForNone, AskFor, AskForTable, AreRefused, IsDealing, IsFaultNumber, IsNamed, IsParsedAs, IsSet, Reads, ReadsOr, text_of};
+ghost use Rattle.clap.specs.Walk.{all_of, rows_of};
+ghost use Rattle.command_args.specs.Asked.{AskForNone, AskFor, AskForTable, AreRefused, IsFaultNumber, IsNamed, IsParsedAs};
 
 use crate::clap_command::command;
-use batch_settings::{Dealing, Settings};
+use crate::options::{number_of, options_of, text_of, watching_of};
+use batch_settings::Settings;
 use clap::error::ErrorKind;
 use clap::{ArgMatches, Error};
 use std::alloc::{AllocError, Global};
@@ -97,90 +98,6 @@ pub enum Subcommand<'a> {
     Order(OrderArgs<'a>),
     /// Explain the faults of these numbers, and without a number all.
     Faults { numbers: Vec<u64> },
-}
-
-/// The text of an argument.
-fn text_of<'a>(matches: &ArgMatches<'a>, name: &str) -> &'a str
-    ensures { result.now ≡ text_of name.now (rows_of (found_of matches.now)) }
-{
-    matches.get_str(name).unwrap_or("")
-}
-
-/// The number of an option, if it was given.
-fn number_of(matches: &ArgMatches<'_>, name: &str) -> Option<u64>
-    ensures { Reads 64 (one_of name.now (rows_of (found_of matches.now))) result }
-{
-    matches.get_one(name)
-}
-
-/// The number of an option, or its usual one.
-fn number_or(matches: &ArgMatches<'_>, name: &str, usual: u64) -> u64
-    ensures { ReadsOr usual (one_of name.now (rows_of (found_of matches.now))) result }
-{
-    number_of(matches, name).unwrap_or(usual)
-}
-
-/// The weight of an option, if it was given.
-fn weight_of(matches: &ArgMatches<'_>, name: &str) -> Option<u32>
-    ensures { Reads 32 (one_of name.now (rows_of (found_of matches.now))) result }
-{
-    matches.get_one(name)
-}
-
-/// Whether a flag was given.
-fn flag_of(matches: &ArgMatches<'_>, name: &str) -> bool
-    ensures { IsSet (one_of name.now (rows_of (found_of matches.now))) result }
-{
-    matches.get_flag(name)
-}
-
-/// The rule by which shards are dealt to workers.
-fn dealing_of(matches: &ArgMatches<'_>) -> Dealing
-    ensures { IsDealing (text_of (codes "deal") (rows_of (found_of matches.now))) result }
-{
-    match text_of(matches, "deal") {
-        "questions" => Dealing::Questions,
-        _ => Dealing::Shards,
-    }
-}
-
-fn settings_of(matches: &ArgMatches<'_>) -> Settings
-    ensures { AreSettings (rows_of (found_of matches.now)) result }
-{
-    let usual = Settings::default();
-    Settings {
-        workers: number_or(matches, "workers", usual.workers),
-        shards: number_or(matches, "shards", usual.shards),
-        width: number_or(matches, "width", usual.width),
-        budget: number_or(matches, "budget", usual.budget),
-        turns: number_or(matches, "turns", usual.turns),
-        plain: flag_of(matches, "plain"),
-        factors: flag_of(matches, "factors"),
-        best_first: flag_of(matches, "best-first"),
-        ahead: weight_of(matches, "ahead"),
-        dealing: dealing_of(matches),
-    }
-}
-
-fn options_of<'a>(matches: &ArgMatches<'a>) -> RunOptions<'a>
-    ensures { AreOptions (rows_of (found_of matches.now)) result }
-{
-    RunOptions {
-        algebra: text_of(matches, "algebra"),
-        limit: number_of(matches, "limit"),
-        order: matches.get_str("order"),
-        settings: settings_of(matches),
-    }
-}
-
-fn watching_of<'a>(matches: &ArgMatches<'a>) -> WatchOptions<'a>
-    ensures { AreWatched (rows_of (found_of matches.now)) result }
-{
-    WatchOptions {
-        accounts: matches.get_str("accounts"),
-        progress: flag_of(matches, "progress"),
-        times: flag_of(matches, "times"),
-    }
 }
 
 /// The number of a fault that a text spells. clap has tried that it spells one.

@@ -14,7 +14,7 @@ returns c =
     let with_7 = c.in_ok-arg-7.ensures.shape c.usual_number-2.ensures.global ∙ ap₂ with_rule with_6 c.usual_number-2.ensures.rule in
     let with_8 = c.in_ok-arg-8.ensures.shape c.usual_number-3.ensures.global ∙ ap₂ with_rule with_7 c.usual_number-3.ensures.rule in
     let with_9 = c.in_ok-arg-9.ensures.shape c.deal.ensures.global ∙ ap₂ with_rule with_8 c.deal.ensures.rule in
-    let with_10 = c.in_ok-arg-10.ensures.shape c.usual_number-4.ensures.global ∙ ap₂ with_rule with_9 c.usual_number-4.ensures.rule in
-    let with_11 = c.in_ok-arg-11.ensures.shape c.usual_number-5.ensures.global ∙ ap₂ with_rule with_10 c.usual_number-5.ensures.rule in
+    let with_10 = c.in_ok-arg-10.ensures.shape c.number.ensures.global ∙ ap₂ with_rule with_9 c.number.ensures.rule in
+    let with_11 = c.in_ok-arg-11.ensures.shape c.usual_number-4.ensures.global ∙ ap₂ with_rule with_10 c.usual_number-4.ensures.rule in
     let with_12 = c.in_ok-arg-12.ensures.shape c.flag-3.ensures.global ∙ ap₂ with_rule with_11 c.flag-3.ensures.rule in
-    IfOk-weaker c.arg-13.result _ _ (λ r h. h.shape c.weight.ensures.global ∙ ap₂ with_rule with_12 c.weight.ensures.rule) c.arg-13.ensures
+    IfOk-weaker c.arg-13.result _ _ (λ r h. h.shape c.number-2.ensures.global ∙ ap₂ with_rule with_12 c.number-2.ensures.rule) c.arg-13.ensures

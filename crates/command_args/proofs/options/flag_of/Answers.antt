@@ -1,7 +1,7 @@
 use Rattle.std.proofs.Common.{◌∙◌, inl, inr}
 use Rattle.clap.specs.Matches.{found_of}
 use Rattle.clap.proofs.WalkLemmas.{one_text-rows}
-use Rattle.command_args.proofs.parsed.flag_of.Goals as goal
+use Rattle.command_args.proofs.options.flag_of.Goals as goal
 
 pub returns : goal.returns
 returns c =

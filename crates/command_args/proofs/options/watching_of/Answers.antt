@@ -1,7 +1,7 @@
 use Rattle.std.proofs.Common.{◌∙◌, codes}
 use Rattle.clap.specs.Matches.{found_of}
 use Rattle.clap.proofs.WalkLemmas.{first_value-rows}
-use Rattle.command_args.proofs.parsed.watching_of.Goals as goal
+use Rattle.command_args.proofs.options.watching_of.Goals as goal
 
 pub returns : goal.returns
 returns c = record {

@@ -4,7 +4,7 @@ use Rattle.clap.specs.Matches.{found_of}
 use Rattle.clap.proofs.WalkLemmas.{one_text-rows}
 use Rattle.command_args.specs.Asked.{Reads}
 use Rattle.command_args.proofs.Reading.{reads}
-use Rattle.command_args.proofs.parsed.number_of.Goals as goal
+use Rattle.command_args.proofs.options.number_of.Goals as goal
 
 pub returns : goal.returns
 returns c = subst (λ text. Reads 64 text c.get_one.result) (one_text-rows (found_of c.args.matches.now) c.args.name.now)

@@ -6,6 +6,5 @@ pub mod FirstPlaces
 mod Marks
 mod PairsJudged
 mod FirstWrong
-mod OneVerdict
 mod RunsAreRight
 mod Sharing

@@ -22,7 +22,7 @@ mod vertex_lines;
 mod vertices;
 
 pub use checking::check;
-pub use laws::{right_lines_are_certified, verdicts_are_one};
+pub use laws::right_lines_are_certified;
 pub use lines::first_wrong_line;
 pub use place::Place;
 pub use verdict::{Reason, Verdict};

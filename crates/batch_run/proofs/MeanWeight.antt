@@ -1,7 +1,6 @@
 -- The mean weight of the arcs of a graph, as it is summed arc by arc.
-use Rattle.std.proofs.Common.{◌≡◌, ℕ, ◌+◌, ◌-◌, ◌*◌, ◌/◌, ◌<◌, ◌≤◌, length, get_or, take, sum_by, sym, ap, ◌∙◌, arith}
+use Rattle.std.proofs.Common.{◌≡◌, ℕ, ◌+◌, ◌-◌, ◌<◌, length, get_or, take, sum_by, sym, ap, ◌∙◌, arith}
 use Rattle.std.proofs.lemmas.List.Sums.{sum_by_more}
-use Rattle.std.proofs.Math.Nat.{div-lt_iff_lt-mul}
 use Rattle.road_graph.specs.declared.RoadArc.{RoadArc}
 use Rattle.road_graph.specs.GraphData.{GraphData, arc_of}
 
@@ -13,7 +12,3 @@ pub weighs_more : (g : GraphData) (k : ℕ) → k < length g.arcs → sum_by (λ
 weighs_more g k low =
     let here : k + 1 - 1 ≡ k = omega arith in
     sum_by_more (λ a. a.weight) g.arcs k no_arc low ∙ ap (λ j. sum_by (λ a. a.weight) (take k g.arcs) + (get_or g.arcs j no_arc).weight) (sym here)
-
--- a mean of weights below 2^32 is one itself
-pub mean_fits : (sum count : ℕ) → 0 < count → sum ≤ count * 4294967295 → sum / count < 4294967296
-mean_fits sum count some most = (div-lt_iff_lt-mul {k = count} {x = sum} {y = 4294967296} some).1 (omega (arith, most, some))

@@ -31,7 +31,7 @@ pub record Ran {V W : Type 0} (A : Algebra V) (how : Settings) (answers : ℕ �
   pub kinds : IfErr outcome (IsRunFaultOf inputs)
   -- 1 to 3 are in no line
   pub placed : IfErr outcome (λ f. f.number ≤ 3 → f.line ≡ 0)
-  -- 40 is reported only if workers answer, and some worker made each turn up to the limit
+  -- 40 is reported only if workers answer, and the gate may have let one make each turn allowed
   pub stalled : IfErr outcome (λ f. f.number ≡ 40 → (without_diffusions how ≡ false) × Stalls answers how.workers how.turns)
   -- with one shard, best first, it is not reported if the limit is enough for the arcs of the graph
   pub unstalled : HasEnoughTurns how IsRead → IfErr outcome (λ f. f.number ≢ 40)

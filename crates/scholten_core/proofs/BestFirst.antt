@@ -120,12 +120,6 @@ module _ {V : Type 0} (A : Algebra V) (N : Network) where
   abbrev SendsOffers : CoreState V → CoreState V → Type 0
   SendsOffers c d = (b : ℕ) → one_if (is_message (d.token b) && not (is_message (c.token b))) + sent_by c b ≡ sent_by d b
 
-  message_at : (t : Token V) → is_message t ≡ true → (y : V) × (t ≡ Message y)
-  message_at Idle h = absurd (cc)
-  message_at (Message y) h = (y, refl)
-  message_at Held h = absurd (cc)
-  message_at Signal h = absurd (cc)
-
   none_new : (t u : Token V) → ((y : V) → u ≡ Message y → t ≡ Message y) → one_if (is_message u && not (is_message t)) ≡ 0
   none_new t Idle h = refl
   none_new t (Message y) h = ap (λ s. one_if (not (is_message s))) (h y refl)

@@ -1,7 +1,6 @@
 -- What a service promises of its inputs and its output, from what reading and serving promise.
 use Rattle.std.proofs.Common.{◌≡◌, ◌≢◌, ◌⊎◌, ◌↔◌, inl, inr, Bool, true, false, ℕ, ◌≤◌, Option, None, Some, Result, Ok, Err, refl, sym, ap, ◌∙◌, subst, arith}
 use Rattle.road_graph.specs.GraphData.{GraphData}
-use Rattle.road_files.specs.Asked.{Asked}
 use Rattle.graph_text.specs.GraphFiles.{gr_rules}
 use Rattle.path_algebra.specs.Algebra.{Algebra}
 use Rattle.path_algebra.specs.declared.counted_sums.Cost.{Cost}
@@ -9,22 +8,18 @@ use Rattle.batch_inputs.specs.declared.faults.File.{File}
 use Rattle.batch_inputs.specs.declared.faults.File.TheVariants.{Graph, Questions, Order, NoFile}
 use Rattle.batch_inputs.specs.declared.faults.RunFault.{RunFault}
 use Rattle.batch_settings.specs.declared.settings.Settings.{Settings}
-use Rattle.batch_inputs.specs.Orders.{HasOrderFaultIn, HasReadOrdered, IsOrderedFile}
+use Rattle.batch_inputs.specs.Orders.{HasOrderFaultIn, IsOrderedFile}
 use Rattle.batch_inputs.specs.Spelled.{IsReadAs}
 use Rattle.batch_inputs.specs.InputFaults.{IsNumberOf, IsOrderNumber, IsRoadNumber}
 use Rattle.batch_settings.specs.Unsuited.{IsUnsuited}
 use Rattle.batch_run.specs.Unsuited.{IsRefusedUnsuited}
 use Rattle.batch_run.proofs.Suiting.{suited_by, suited_whole}
 use Rattle.batch_run.specs.Runs.{Input, Output}
-use Rattle.service.specs.GraphInput.{HasReadGraph, HasReadGraphOrdered, IsGraphFile, IsServingFile, graph_later, graph_unread}
+use Rattle.service.specs.GraphInput.{HasReadGraph, HasReadGraphOrdered, IsGraphFile, IsServingFile, graph_later}
 use Rattle.service.specs.Over.{IsOverFault, RanOver}
 use Rattle.service.specs.Served.{IsStopOfInput, RanService}
 
--- an outcome is no other fault
-other_file : (r : Result (Unit {0}) RunFault) (f h : RunFault) → (f.file ≡ h.file → ⊥) → r ≡ Err f → r ≡ Err h → ⊥
-other_file r f h ne p q =
-    let same : f ≡ h = cc in ne (ap (λ (x : RunFault). x.file) same)
-
+-- one outcome is one fault
 file_of : (r : Result (Unit {0}) RunFault) (f h : RunFault) → r ≡ Err f → r ≡ Err h → f.file ≡ h.file
 file_of r f h p q =
     let same : f ≡ h = cc in ap (λ (x : RunFault). x.file) same
@@ -177,33 +172,3 @@ module _ {V G O Q W : Type 0} (A : Algebra V) (how : Settings) (gate : ℕ → �
           ⊎ (((f.file ≡ Questions) × IsStopOfInput f) ⊎ ((f.file ≡ NoFile) × (f.line ≡ 0) × ((f.number ≡ 3) ⊎ ((f.number ≡ 42) ⊎ (f.number ≡ 43))))))
       by_kind (inl graph) = inl graph
       by_kind (inr own_order) = inr (inl own_order)
-
-  -- a setting was refused before anything was read
-  pub setting_refused : RanService A how gate graph graph order order input input out out (Err (record { number = 43; file = NoFile; line = 0 }))
-  setting_refused = record {
-    done = tt;
-    passed_on = tt;
-    sound = tt;
-    ends = tt;
-    stopped = λ file. cc;
-    too_long = λ file. cc;
-    nothing_held = λ file. cc;
-    fell = λ write. absurd (omega (arith, write));
-    read = graph_unread graph;
-    ordered = inl (graph_unread graph, inr refl, refl);
-    read_input = (λ e. absurd (other_file _ _ _ (λ file. cc) refl e), λ failed. absurd (failed refl));
-    kinds = inr (inr (inr (refl, refl, inr (inr refl))));
-    unfactored = λ file three. absurd (omega (arith, three));
-    placed = λ few. refl;
-    before_requests = λ own. absurd (read_before NoFile own (inr refl));
-    untouched = λ setting. (refl, refl, refl, refl);
-  }
-
--- less may be said of how the inputs before an order were read, and of more files that come later
-pub ordered_as : {O : Type 0} (IsRead : GraphData → Asked → Type 0) (inputs later wider : File → Type 0) (HasRead Less : Result (Unit {0}) RunFault → Type 0) (order order_after : Option (Input O))
-    → ((file : File) → later file → wider file) → ((r : Result (Unit {0}) RunFault) → HasRead r → Less r) → (r : Result (Unit {0}) RunFault)
-    → HasReadOrdered IsRead inputs later HasRead order order_after r → HasReadOrdered IsRead inputs wider Less order order_after r
-ordered_as IsRead inputs later wider HasRead Less order order_after wide less (Ok u) h = (less (Ok tt) h.0, h.1)
-ordered_as IsRead inputs later wider HasRead Less order order_after wide less (Err f) (inl (read, why, same)) = inl (less (Err f) read, why, same)
-ordered_as IsRead inputs later wider HasRead Less order order_after wide less (Err f) (inr (inl (read, fault))) = inr (inl (less (Ok tt) read, fault))
-ordered_as IsRead inputs later wider HasRead Less order order_after wide less (Err f) (inr (inr (read, file, number, whole))) = inr (inr (less (Err f) read, wide f.file file, number, whole))

@@ -11,9 +11,9 @@ use Rattle.shard_store.specs.Setup.{SetupData, network_of, place_in}
 use Rattle.shard_part.specs.PartState.{PartData, state_in, event_of, mine}
 use Rattle.shard_store.specs.Totals.{total, is}
 use Rattle.shard_part.specs.Weights.{part_weight, mail_weight, All}
-use Rattle.shard_part.specs.Handling.{HandledItemIn, HandledItem, HandledAll}
-use Rattle.shard_part.specs.Represents.{AllEnabled, HoldsTables, HoldsShareIn, HoldsShare, RepresentsIn, Represents}
-use Rattle.scholten_core.proofs.CoreInvariant.{CoreInvariant, step_kept}
+use Rattle.shard_part.specs.Handling.{HandledItemIn, HandledItem}
+use Rattle.shard_part.specs.Represents.{HoldsTables, HoldsShareIn, RepresentsIn, Represents}
+use Rattle.scholten_core.proofs.CoreInvariant.{CoreInvariant}
 use Rattle.shard_store.proofs.Totals.{total_append}
 use Rattle.shard_part.proofs.Routed.{outs_none}
 use Rattle.shard_part.proofs.TakenIsEvent.{handled_event}
@@ -141,25 +141,6 @@ module _ {S V : Type 0} (meaning : S → Algebra V) where
       let all = all_parts (λ (r : PartData S V). r.setup ≡ t) before (p ∷ after) H.same in
       let R = handled_shown (meaning t.diffusion.algebra) (network_of t) (place_in t) (L t.diffusion.algebra) W before after p q i mail c K H.shown (handled_at t p i q all.1.0 T) in
       (R.0, record { same = all_append (λ (r : PartData S V). r.setup ≡ t) before (q ∷ after) all.0 (T.setup ∙ all.1.0, all.1.1); shown = R.1 })
-
-  -- ONE PART ALONE: any list of items, for every kept state of which it holds its share
-  pub handled_all : AllLawful → (is : List (Item V)) (p q : PartData S V) (c : CoreState V) → WellFormed (network_of p.setup)
-      → CoreInvariant (meaning p.setup.diffusion.algebra) (network_of p.setup) 0 c → HoldsShare meaning c p → HandledAll meaning p is q →
-      (d : CoreState V) × HoldsShare meaning d q × (q.setup ≡ p.setup) × AllEnabled meaning p.setup c is d
-  handled_all L [] p q c W K H e = (c, subst (HoldsShare meaning c) e H, ap (λ r. r.setup) (sym e), refl)
-  handled_all L (i ∷ is) p q c W K H (m, T, rest) =
-      let E = handled_event (meaning p.setup.diffusion.algebra) (network_of p.setup) (place_in p.setup) (L p.setup.diffusion.algebra) W c p i m K H T in
-      let c' : CoreState V = step (meaning p.setup.diffusion.algebra) (network_of p.setup) c (event_of i) in
-      let s = sym T.setup in
-      let W' = subst (λ t. WellFormed (network_of t)) s W in
-      let K' = subst (λ t. CoreInvariant (meaning t.diffusion.algebra) (network_of t) 0
-      (step (meaning p.setup.diffusion.algebra) (network_of p.setup) c (event_of i))) s
-      (step_kept (meaning p.setup.diffusion.algebra) (network_of p.setup) (L p.setup.diffusion.algebra) W c (event_of i) K) in
-      let H' : HoldsShare meaning (step (meaning p.setup.diffusion.algebra) (network_of p.setup) c (event_of i)) m = subst
-      (λ t. HoldsShareIn (meaning t.diffusion.algebra) (network_of t) (place_in t)
-      (step (meaning p.setup.diffusion.algebra) (network_of p.setup) c (event_of i)) m) s E.holds in
-      let R = handled_all L is m q (step (meaning p.setup.diffusion.algebra) (network_of p.setup) c (event_of i)) W' K' H' rest in
-      (R.0, R.1, R.2 ∙ T.setup, (E.enabled, subst (λ t. AllEnabled meaning t (step (meaning p.setup.diffusion.algebra) (network_of p.setup) c (event_of i)) is R.0) T.setup R.3))
 
   pub publish_shows : (t : SetupData S) (before after : List (PartData S V)) (p : PartData S V) (to : ℕ) (boxes behind : List (ℕ × List (Item V))) (c : CoreState V) →
       Represents meaning t (before ++ p ∷ after) (mail_weight (boxes ++ (to, []) ∷ behind)) c →

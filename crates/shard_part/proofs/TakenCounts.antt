@@ -1,6 +1,6 @@
 -- Items that a part takes are events of each state of which it holds its share, and its counters
 -- count what these events do.
-use Rattle.std.proofs.Common.{◌≡◌, ℕ, suc, ◌+◌, ◌≤◌, true, List, [], ◌∷◌, ◌++◌, length, map, length-append, refl, sym, ap, ◌∙◌, subst, arith}
+use Rattle.std.proofs.Common.{◌≡◌, ℕ, suc, ◌+◌, ◌≤◌, true, List, [], ◌∷◌, ◌++◌, length, map, refl, sym, ap, ◌∙◌, subst, arith}
 use Rattle.std.proofs.lemmas.Bool.{cond-true}
 use Rattle.scholten_core.specs.declared.token.Token.{Token}
 use Rattle.scholten_core.specs.declared.token.Token.TheVariants.{Idle, Message, Held, Signal}
@@ -25,7 +25,7 @@ use Rattle.shard_part.specs.Weights.{message_weight, signal_weight, in_flight, p
 use Rattle.shard_part.specs.Handling.{made, HandledItemIn, HandledAll}
 use Rattle.shard_part.specs.Represents.{HoldsShareIn, HoldsShare, core_of}
 use Rattle.shard_part.specs.Moves.{IsTallied}
-use Rattle.shard_part.specs.Part.{HandledNext, HandledMany, IsRunOn}
+use Rattle.shard_part.specs.Part.{HandledMany, IsRunOn}
 use Rattle.shard_part.proofs.TakenIsEvent.{handled_event, handled_weighs}
 use Rattle.shard_part.proofs.OffersArePumped.{counted_none, counted_more, counted_top}
 use Rattle.scholten_core.proofs.Basics.{sum_same}
@@ -166,20 +166,10 @@ module _ {S V : Type 0} (meaning : S → Algebra V) where
         accepted = R.accepted;
       }
 
-  -- one item more at the end
-  pub handled_more : (items : List (Item V)) (i : Item V) (p m q : PartData S V) → HandledAll meaning p items m
-      → HandledItemIn (meaning m.setup.diffusion.algebra) (network_of m.setup) (place_in m.setup) m i q → HandledAll meaning p (items ++ i ∷ []) q
-  handled_more [] i p m q e T = (q, subst (λ (u : PartData S V). HandledItemIn (meaning u.setup.diffusion.algebra) (network_of u.setup) (place_in u.setup) u i q) (sym e) T, refl)
-  handled_more (j ∷ items) i p m q (u, S1, rest) T = (u, S1, handled_more items i u m q rest T)
-
   -- what many items leave
   pub handled_same : (items : List (Item V)) (p q : PartData S V) → HandledAll meaning p items q → (q.setup ≡ p.setup) × (q.shard ≡ p.shard)
   handled_same [] p q e = (ap (λ (u : PartData S V). u.setup) (sym e), ap (λ (u : PartData S V). u.shard) (sym e))
   handled_same (i ∷ items) p q (m, T, rest) = let r = handled_same items m q rest in (r.0 ∙ T.setup, r.1 ∙ T.shard)
-
-  -- one item more was taken
-  pub handled_next : (p m q : PartData S V) (n : ℕ) → HandledMany meaning p n m → HandledNext meaning m q → HandledMany meaning p (n + 1) q
-  handled_next p m q n (items, l, T) (i, R) = (items ++ i ∷ [], length-append items (i ∷ []) ∙ ap (λ k. k + 1) l, handled_more items i p m q T R)
 
   pub handled_many_same : (p q : PartData S V) (n : ℕ) → HandledMany meaning p n q → (q.setup ≡ p.setup) × (q.shard ≡ p.shard)
   handled_many_same p q n (items, l, T) = handled_same items p q T

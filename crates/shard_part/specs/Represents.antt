@@ -1,13 +1,13 @@
 -- How parts and mailboxes represent a state.
-use Rattle.std.specs.Prelude.{◌≡◌, ℕ, ◌+◌, ◌<◌, ◌≤◌, true, List, [], ◌∷◌, length}
+use Rattle.std.specs.Prelude.{◌≡◌, ℕ, ◌+◌, ◌<◌, ◌≤◌, List, length}
 use Rattle.scholten_core.specs.declared.item.Item.{Item}
 use Rattle.scholten_core.specs.declared.event.Event.{Event}
 use Rattle.path_algebra.specs.Algebra.{Algebra}
 use Rattle.scholten_core.specs.Network.{Network}
-use Rattle.scholten_core.specs.Diffusion.{CoreState, state_after, step, is_enabled}
+use Rattle.scholten_core.specs.Diffusion.{CoreState, state_after}
 use Rattle.scholten_core.specs.Shares.{Agree}
 use Rattle.shard_store.specs.Setup.{SetupData, network_of, place_in}
-use Rattle.shard_part.specs.PartState.{PartData, state_in, event_of, mine}
+use Rattle.shard_part.specs.PartState.{PartData, state_in, mine}
 use Rattle.shard_store.specs.Totals.{total, is}
 use Rattle.shard_part.specs.Weights.{All, part_weight, in_flight}
 
@@ -34,11 +34,6 @@ module _ {S V : Type 0} (meaning : S → Algebra V) where
   -- the state that a list of events leads to
   abbrev pub core_of : SetupData S → List Event → CoreState V
   core_of t events = state_after (meaning t.diffusion.algebra) (network_of t) events
-
-  -- the events of the items, each enabled in its turn, lead from c to d
-  abbrev pub AllEnabled : SetupData S → CoreState V → List (Item V) → CoreState V → Type 0
-  AllEnabled t c [] d = c ≡ d
-  AllEnabled t c (i ∷ is) d = (is_enabled c (event_of i) ≡ true) × AllEnabled t (step (meaning t.diffusion.algebra) (network_of t) c (event_of i)) is d
 
   -- the part holds its share of c
   abbrev pub HoldsShare : CoreState V → PartData S V → Type 0

@@ -1,17 +1,17 @@
 //! Facts of every plan and part, and theorems over parts and mailboxes, each the contract of a
 //! function that computes nothing: a caller calls it if its own proof needs what it promises.
-ghost use Rattle.std.specs.Prelude.{◌≡◌, ◌↔◌, ◌⊎◌, ◌+◌, ◌<◌, ◌≤◌, suc, ℕ, Bool, true, IsTrue, IsSome, List, [], ◌++◌, ◌∷◌, map, set, get_or};
+ghost use Rattle.std.specs.Prelude.{◌≡◌, ◌↔◌, ◌⊎◌, ◌+◌, ◌<◌, ◌≤◌, suc, ℕ, Bool, IsTrue, IsSome, List, [], ◌++◌, ◌∷◌, map, set, get_or};
 ghost use Rattle.road_graph.specs.GraphData.{GraphData, HasArc, HasVertex, IsGraph, arc_of};
 ghost use Rattle.scholten_core.specs.declared.item.Item.{Item};
 ghost use Rattle.scholten_core.specs.declared.event.Event.{Event};
 ghost use Rattle.scholten_core.specs.Network.{WellFormed};
 ghost use Rattle.scholten_core.specs.Accounts.{count_marked};
 ghost use Rattle.scholten_core.specs.BestFirst.{AreMarksOfWalkEnds, IsBestFirst};
-ghost use Rattle.scholten_core.specs.Diffusion.{CoreState, opening, step, is_enabled, HasEnded};
+ghost use Rattle.scholten_core.specs.Diffusion.{CoreState, opening, HasEnded};
 ghost use Rattle.shard_store.specs.Setup.{SetupData, network_of, place_in, IsPlanned};
 ghost use Rattle.shard_part.specs.PartState.{PartData, state_in, event_of};
-ghost use Rattle.shard_part.specs.Handling.{HandledItem, HandledAll};
-ghost use Rattle.shard_part.specs.Represents.{AllEnabled, HoldsShare, Represents, core_of};
+ghost use Rattle.shard_part.specs.Handling.{HandledAll};
+ghost use Rattle.shard_part.specs.Represents.{Represents, core_of};
 ghost use Rattle.shard_part.specs.Weights.{mail_weight};
 ghost use Rattle.shard_part.specs.Waiting.{items_waiting, QueueWaits, OutboxWaits, MailWaits};
 ghost use Rattle.shard_part.specs.ItemPlaces.{on, parts_places, mail_places, place_of_token};
@@ -57,22 +57,6 @@ pub fn closed_part_holds<A: PathAlgebra>(part: &ClosedPart<'_, A>)
 {
     part.shard();
 }
-
-/// If all parts and mailboxes represent a reached state and one part takes one item, they represent
-/// what its event leads to.
-pub fn item_is_event<A: PathAlgebra>(_algebra: A)
-    ensures { (t : SetupData A) (events : List Event) (before after : List (PartData A A.Value)) (p q : PartData A A.Value) (i : Item A.Value) (mail : (ℕ → Item A.Value → ℕ) → ℕ) → WellFormed (network_of t) →
-        Represents A.meaning t (before ++ p ∷ after) mail (core_of A.meaning t events) → HandledItem A.meaning p i q →
-        (is_enabled (core_of A.meaning t events) (event_of i) ≡ true) × Represents A.meaning t (before ++ q ∷ after) mail (step (A.meaning t.diffusion.algebra) (network_of t) (core_of A.meaning t events) (event_of i)) }
-{}
-
-/// Whatever the others hold: the items that a part takes are as many enabled events of every
-/// reached state of which it holds its share.
-pub fn items_are_events<A: PathAlgebra>(_algebra: A)
-    ensures { (events : List Event) (items : List (Item A.Value)) (p q : PartData A A.Value) → WellFormed (network_of p.setup) →
-        HoldsShare A.meaning (core_of A.meaning p.setup events) p → HandledAll A.meaning p items q →
-        (d : CoreState A.Value) × HoldsShare A.meaning d q × (q.setup ≡ p.setup) × AllEnabled A.meaning p.setup (core_of A.meaning p.setup events) items d }
-{}
 
 /// If all parts and mailboxes represent a reached state and one part takes items, one after the
 /// other, they represent the state after that many further events, each enabled in its turn.

@@ -60,6 +60,11 @@ pub total_swap : (f : ℕ → ℕ → ℕ) (vs : List ℕ) (n : ℕ) → total (
 total_swap f [] n = sym (sum_zero (λ b. 0) n (λ k. refl))
 total_swap f (v ∷ vs) n = let p = total_swap f vs n in let q = sum_add (f v) (λ b. total (λ v. f v b) vs) n in omega (arith, p, q)
 
+-- a number that may head a list
+total_cond : (f : ℕ → ℕ) (b : Bool) (k : ℕ) (ks : List ℕ) → total f (cond b (k ∷ ks) ks) ≡ cond b (f k) 0 + total f ks
+total_cond f true k ks = omega arith
+total_cond f false k ks = omega arith
+
 -- the arcs out of one vertex, among all
 pub total_arcs : (N : Network) (f : ℕ → ℕ) (v k n : ℕ) → sum_below (λ b. cond (eqb (N.tail b) v) (f b) 0) k + total f (arcs_from N v k n) ≡ sum_below (λ b. cond (eqb (N.tail b) v) (f b) 0) (k + n)
 total_arcs N f v k zero = let e : k + 0 ≡ k = omega arith in let q : sum_below (λ b. cond (eqb (N.tail b) v) (f b) 0) (k + 0)
@@ -68,16 +73,8 @@ total_arcs N f v k (suc n) =
     let p = total_arcs N f v (suc k) n in
     let q : sum_below (λ b. cond (eqb (N.tail b) v) (f b) 0) (k + suc n) ≡ sum_below (λ b. cond (eqb (N.tail b) v) (f b) 0) (suc k + n) = ap
     (sum_below (λ b. cond (eqb (N.tail b) v) (f b) 0)) (let z : k + suc n ≡ suc k + n = omega arith in z) in
-    elim (cases_Bool (eqb (N.tail k) v)) [
-      | inl t ↦ (let a : total f (arcs_from N v k (suc n))
-          ≡ f k + total f (arcs_from N v (suc k) n) = ap (total f)
-          (cond-true (eqb (N.tail k) v) (k ∷ arcs_from N v (suc k) n) (arcs_from N v (suc k) n) t) in
-          let c : cond (eqb (N.tail k) v) (f k) 0 ≡ f k = cond-true (eqb (N.tail k) v) (f k) 0 t in omega (arith, p, q, a, c))
-      | inr t ↦ (let a : total f (arcs_from N v k (suc n))
-          ≡ total f (arcs_from N v (suc k) n) = ap (total f)
-          (cond-false (eqb (N.tail k) v) (k ∷ arcs_from N v (suc k) n) (arcs_from N v (suc k) n) t) in
-          let c : cond (eqb (N.tail k) v) (f k) 0 ≡ 0 = cond-false (eqb (N.tail k) v) (f k) 0 t in omega (arith, p, q, a, c))
-    ]
+    let a : total f (arcs_from N v k (suc n)) ≡ cond (eqb (N.tail k) v) (f k) 0 + total f (arcs_from N v (suc k) n) =
+    total_cond f (eqb (N.tail k) v) k (arcs_from N v (suc k) n) in omega (arith, p, q, a)
 
 pub total_out : (N : Network) (f : ℕ → ℕ) (v : ℕ) → total f (outgoing N v) ≡ sum_below (λ b. cond (eqb (N.tail b) v) (f b) 0) (suc N.arcs)
 total_out N f v = let p = total_arcs N f v 0 (suc N.arcs) in
@@ -97,57 +94,39 @@ out_most N v = let a = total_ones (outgoing N v) in let b = total_out N (λ x. 1
 pub placed_none : (place : ℕ → ℕ) (s w x k n : ℕ) → w < k → total (λ v. cond (eqb w v) x 0) (placed place s k n) ≡ 0
 unfolding placed
 placed_none place s w x k zero l = refl
-placed_none place s w x k (suc n) l = let p = placed_none place s w x (suc k) n (omega arith) in
+placed_none place s w x k (suc n) l =
+    let p = placed_none place s w x (suc k) n (omega arith) in
     let z = cond-false (eqb w k) x 0 (ne_eqb w k (λ e. omega (arith, e, l))) in
-    elim (cases_Bool (eqb (place k) s)) [
-      | inl t ↦ (let a : total (λ v. cond (eqb w v) x 0) (cond (eqb (place k) s) (k ∷ placed place s (suc k) n) (placed place s (suc k) n))
-          ≡ cond (eqb w k) x 0 + total (λ v. cond (eqb w v) x 0) (placed place s (suc k) n) =
-          ap (total (λ v. cond (eqb w v) x 0)) (cond-true (eqb (place k) s) (k ∷ placed place s (suc k) n) (placed place s (suc k) n) t) in omega (arith, p, z, a))
-      | inr t ↦ (let a : total (λ v. cond (eqb w v) x 0) (cond (eqb (place k) s) (k ∷ placed place s (suc k) n) (placed place s (suc k) n))
-          ≡ total (λ v. cond (eqb w v) x 0) (placed place s (suc k) n) =
-          ap (total (λ v. cond (eqb w v) x 0)) (cond-false (eqb (place k) s) (k ∷ placed place s (suc k) n) (placed place s (suc k) n) t) in omega (arith, p, a))
-    ]
+    let a = total_cond (λ v. cond (eqb w v) x 0) (eqb (place k) s) k (placed place s (suc k) n) in
+    let m = cond_most (eqb (place k) s) (cond (eqb w k) x 0) in omega (arith, p, z, a, m)
 
 placed_past : (place : ℕ → ℕ) (s w x k n : ℕ) → k + n ≤ w → total (λ v. cond (eqb w v) x 0) (placed place s k n) ≡ 0
 unfolding placed
 placed_past place s w x k zero l = refl
-placed_past place s w x k (suc n) l = let p = placed_past place s w x (suc k) n (omega arith) in
+placed_past place s w x k (suc n) l =
+    let p = placed_past place s w x (suc k) n (omega arith) in
     let z = cond-false (eqb w k) x 0 (ne_eqb w k (λ e. omega (arith, e, l))) in
-    elim (cases_Bool (eqb (place k) s)) [
-      | inl t ↦ (let a : total (λ v. cond (eqb w v) x 0) (cond (eqb (place k) s) (k ∷ placed place s (suc k) n) (placed place s (suc k) n))
-          ≡ cond (eqb w k) x 0 + total (λ v. cond (eqb w v) x 0) (placed place s (suc k) n) =
-          ap (total (λ v. cond (eqb w v) x 0)) (cond-true (eqb (place k) s) (k ∷ placed place s (suc k) n) (placed place s (suc k) n) t) in omega (arith, p, z, a))
-      | inr t ↦ (let a : total (λ v. cond (eqb w v) x 0) (cond (eqb (place k) s) (k ∷ placed place s (suc k) n) (placed place s (suc k) n))
-          ≡ total (λ v. cond (eqb w v) x 0) (placed place s (suc k) n) =
-          ap (total (λ v. cond (eqb w v) x 0)) (cond-false (eqb (place k) s) (k ∷ placed place s (suc k) n) (placed place s (suc k) n) t) in omega (arith, p, a))
-    ]
+    let a = total_cond (λ v. cond (eqb w v) x 0) (eqb (place k) s) k (placed place s (suc k) n) in
+    let m = cond_most (eqb (place k) s) (cond (eqb w k) x 0) in omega (arith, p, z, a, m)
 
 pub placed_once : (place : ℕ → ℕ) (s w x k n : ℕ) → k ≤ w → w < k + n → total (λ v. cond (eqb w v) x 0) (placed place s k n) ≡ cond (eqb (place w) s) x 0
 unfolding placed
 placed_once place s w x k zero l m = absurd (omega arith)
-placed_once place s w x k (suc n) l m = elim (cases_eq w k) [
-  | inl e ↦ (let z = cond-true (eqb w k) x 0 (eq-eqb w k e) in let r = placed_none place s w x (suc k) n (omega (arith, e)) in
-      elim (cases_Bool (eqb (place k) s)) [
-        | inl t ↦ (let a : total (λ v. cond (eqb w v) x 0) (cond (eqb (place k) s) (k ∷ placed place s (suc k) n) (placed place s (suc k) n))
-            ≡ cond (eqb w k) x 0 + total (λ v. cond (eqb w v) x 0) (placed place s (suc k) n) =
-            ap (total (λ v. cond (eqb w v) x 0)) (cond-true (eqb (place k) s) (k ∷ placed place s (suc k) n) (placed place s (suc k) n) t) in
-            let g : cond (eqb (place w) s) x 0 ≡ x = ap (λ y. cond (eqb (place y) s) x 0) e ∙ cond-true (eqb (place k) s) x 0 t in omega (arith, z, r, a, g))
-        | inr t ↦ (let a : total (λ v. cond (eqb w v) x 0) (cond (eqb (place k) s) (k ∷ placed place s (suc k) n) (placed place s (suc k) n))
-            ≡ total (λ v. cond (eqb w v) x 0) (placed place s (suc k) n) =
-            ap (total (λ v. cond (eqb w v) x 0)) (cond-false (eqb (place k) s) (k ∷ placed place s (suc k) n) (placed place s (suc k) n) t) in
-            let g : cond (eqb (place w) s) x 0 ≡ 0 = ap (λ y. cond (eqb (place y) s) x 0) e ∙ cond-false (eqb (place k) s) x 0 t in omega (arith, r, a, g))
-      ])
-  | inr ne ↦ (let p = placed_once place s w x (suc k) n (omega (arith, ne)) (omega arith) in
-      let z = cond-false (eqb w k) x 0 (ne_eqb w k ne) in
-      elim (cases_Bool (eqb (place k) s)) [
-        | inl t ↦ (let a : total (λ v. cond (eqb w v) x 0) (cond (eqb (place k) s) (k ∷ placed place s (suc k) n) (placed place s (suc k) n))
-            ≡ cond (eqb w k) x 0 + total (λ v. cond (eqb w v) x 0) (placed place s (suc k) n) =
-            ap (total (λ v. cond (eqb w v) x 0)) (cond-true (eqb (place k) s) (k ∷ placed place s (suc k) n) (placed place s (suc k) n) t) in omega (arith, p, z, a))
-        | inr t ↦ (let a : total (λ v. cond (eqb w v) x 0) (cond (eqb (place k) s) (k ∷ placed place s (suc k) n) (placed place s (suc k) n))
-            ≡ total (λ v. cond (eqb w v) x 0) (placed place s (suc k) n) =
-            ap (total (λ v. cond (eqb w v) x 0)) (cond-false (eqb (place k) s) (k ∷ placed place s (suc k) n) (placed place s (suc k) n) t) in omega (arith, p, a))
-      ])
-]
+placed_once place s w x k (suc n) l m =
+    let a = total_cond (λ v. cond (eqb w v) x 0) (eqb (place k) s) k (placed place s (suc k) n) in
+    elim (cases_eq w k) [
+      | inl e ↦
+          let z = cond-true (eqb w k) x 0 (eq-eqb w k e) in
+          let r = placed_none place s w x (suc k) n (omega (arith, e)) in
+          let g : cond (eqb (place k) s) (cond (eqb w k) x 0) 0 ≡ cond (eqb (place w) s) x 0 =
+          ap (λ y. cond (eqb (place k) s) y 0) z ∙ ap (λ y. cond (eqb (place y) s) x 0) (sym e) in
+          omega (arith, r, a, g)
+      | inr ne ↦
+          let p = placed_once place s w x (suc k) n (omega (arith, ne)) (omega arith) in
+          let z = cond-false (eqb w k) x 0 (ne_eqb w k ne) in
+          let o = cond_most (eqb (place k) s) (cond (eqb w k) x 0) in
+          omega (arith, p, z, a, o)
+    ]
 
 pub placed_most : (place : ℕ → ℕ) (s w x k n : ℕ) → total (λ v. cond (eqb w v) x 0) (placed place s k n) ≤ x
 placed_most place s w x k n = elim (cases_lt w k) [

@@ -56,11 +56,6 @@ module _ {X : Type 0} where
   newest_leaves one two three three' all None e h = tt
   newest_leaves one two three three' all (Some x) e h = sym e ∙ ap (λ ws. one ++ (two ++ ws)) h ∙ last_out one two three' x
 
-  -- if nothing came since the others were ranked, all are
-  pub all_ranked : (one two three all : List X) (n : ℕ) → one ++ (two ++ three) ≡ all → two ≡ [] → length three ≡ 0 → n ≡ length one → n ≡ length all
-  all_ranked one two three all n e h z l =
-      let a = length-append one (two ++ three) in let b = length-append two three in let c = ap length e in let d = ap length h in omega (arith, a, b, c, d, z, l)
-
   -- and if all are ranked, none is in the other lists
   pub rest_empty : (one rest all : List X) (n : ℕ) → one ++ rest ≡ all → n ≡ length one → n ≡ length all → rest ≡ []
   rest_empty one [] all n e l k = refl

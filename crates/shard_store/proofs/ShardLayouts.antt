@@ -281,10 +281,6 @@ counted_all w i capacities D l long inv = (
       let d = seen_whole w t D in omega (arith, a, b, d),
 )
 
-pub counted_none : (w : ShardLayoutData) (capacities : List ℕ)
-    → ((t : ℕ) → t < w.setup.plan.shards → get_or capacities t 0 ≡ cond (is_first w.setup w.shard) (is t w.shard) 0) → CountedSo w 0 capacities
-counted_none w capacities h t k = let a = h t k in omega (arith, a)
-
 -- the vertex at a place after the environment's
 module _ (w : ShardLayoutData) (own : List ℕ) (same : own ≡ local_vertices w.setup w.shard) (j v : ℕ) (behind : 1 ≤ j) (inside : j < length own) (read : v ≡ get_or own j 0) where
   vertex_read : (j - 1 < length (own_placed w)) × (v ≡ get_or (own_placed w) (j - 1) 0)

@@ -1,5 +1,5 @@
 -- The vertices that wait when a search gives up: they are settled and listed as they are.
-use Rattle.std.proofs.Common.{◌≡◌, ℕ, ◌-◌, ◌<◌, inl, inr, Bool, true, false, List, ◌∷◌, [], ◌++◌, length, get_or, set, sym, ◌∙◌, subst, arith, Some, None, get_or-set_other}
+use Rattle.std.proofs.Common.{◌≡◌, ℕ, ◌-◌, inl, inr, Bool, true, false, List, ◌∷◌, [], ◌++◌, length, get_or, set, sym, ◌∙◌, subst, arith, Some, None, get_or-set_other}
 use Rattle.std.proofs.lemmas.Bool.{cases_eq, cases_lt, cases_Bool}
 use Rattle.std.proofs.lemmas.List.{get_or_past}
 use Rattle.std.proofs.lemmas.List.Elements.{Contains-append_left, Contains-push, Contains-push_cases}
@@ -40,12 +40,6 @@ module _ {C V : Type 0} (order : V → V → Bool) (A : Algebra V) (g : GraphDat
   stays_listed (Settled v) more f = settled_next v f.rests.0 f.rests.2
   stays_listed Dropped more f = rw f.rests.settled listed
   stays_listed Ended more f = let bad : true ≡ false = more in cc
-
-  -- the queue has one entry less
-  pub waits_less : (step : Step) → is_end step ≡ false → Forgoes order A step old new → new.waiting < old.waiting
-  waits_less (Settled v) more f = f.rests.3
-  waits_less Dropped more f = f.rests.fewer
-  waits_less Ended more f = let bad : true ≡ false = more in cc
 
   -- an open vertex without an entry has no mark
   unmarked : AnswersBestOpen (by_number order) (keys_in old.marks) old.settled (length (keys_in old.marks)) None → (v : ℕ) (m : Mark V) → get_or old.settled (v - 1) false ≡ false → label_of old.marks v ≡ Some m → ⊥

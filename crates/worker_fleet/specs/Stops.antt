@@ -53,7 +53,7 @@ pub record StopsGroup {A V : Type 0} (meaning : A → Algebra V) (IsOne : SetupD
       AreOpened meaning (setup q) ahead (slice_index_or floors q f) (slice_index_or diffusions q stations).items
   pub stop : IsStop meaning floors rule budget limit workers answers diffusions fault
 
--- some worker made each turn up to the limit
+-- the gate may have answered true to some worker before each turn up to the limit
 pub record Stalls (answers : ℕ → ℕ → Bool → Type 0) (workers limit : ℕ) : Type 0 where
   pub worker : ℕ
   pub below : worker < workers

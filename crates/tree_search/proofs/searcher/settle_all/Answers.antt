@@ -43,41 +43,23 @@ loop-step-smaller g c =
     comes_nearer A c.laws_hold.ensures.lawful g.A.PathAlgebra.order c.laws_hold.ensures.order c.args.graph.now c.holds.ensures c.args.sources.now c.requires.sources
     c.loop-step.search c.settle_next.new.self was.graph was.between c.in_ok-step.step more step
 
-pub returns-then-is_end-clause-reached : goal.returns-then-is_end-clause-reached
-returns-then-is_end-clause-reached g c = λ _.
+pub returns-then-is_end : goal.returns-then-is_end
+returns-then-is_end g c =
     let A = g.A.PathAlgebra.meaning c.args.algebra in
     let was = c.loop-step.invariant in
     let step = by_equal g.A.PathAlgebra.meaning was.algebra c.in_ok-step.ensures in
     let end : is_end c.in_ok-step.step ≡ true = sym c.is_end.ensures ∙ c.if-is_end.true in
-    (all_found A c.laws_hold.ensures.lawful c.args.graph.now c.holds.ensures c.args.sources.now c.requires.sources g.A.PathAlgebra.order c.laws_hold.ensures.order
-    c.loop-step.search c.settle_next.new.self was.graph was.between c.loop-step.reached.items was.listed c.in_ok-step.step end step).0
-
-pub returns-then-is_end-clause-labels : goal.returns-then-is_end-clause-labels
-returns-then-is_end-clause-labels g c = λ _.
-    let A = g.A.PathAlgebra.meaning c.args.algebra in
-    let was = c.loop-step.invariant in
-    let step = by_equal g.A.PathAlgebra.meaning was.algebra c.in_ok-step.ensures in
-    let end : is_end c.in_ok-step.step ≡ true = sym c.is_end.ensures ∙ c.if-is_end.true in
-    (all_found A c.laws_hold.ensures.lawful c.args.graph.now c.holds.ensures c.args.sources.now c.requires.sources g.A.PathAlgebra.order c.laws_hold.ensures.order
-    c.loop-step.search c.settle_next.new.self was.graph was.between c.loop-step.reached.items was.listed c.in_ok-step.step end step).1
-
-pub returns-then-is_end-clause-tree : goal.returns-then-is_end-clause-tree
-returns-then-is_end-clause-tree g c = λ _.
-    let A = g.A.PathAlgebra.meaning c.args.algebra in
-    let was = c.loop-step.invariant in
-    let step = by_equal g.A.PathAlgebra.meaning was.algebra c.in_ok-step.ensures in
-    let end : is_end c.in_ok-step.step ≡ true = sym c.is_end.ensures ∙ c.if-is_end.true in
-    (all_found A c.laws_hold.ensures.lawful c.args.graph.now c.holds.ensures c.args.sources.now c.requires.sources g.A.PathAlgebra.order c.laws_hold.ensures.order
-    c.loop-step.search c.settle_next.new.self was.graph was.between c.loop-step.reached.items was.listed c.in_ok-step.step end step).2
-
-pub returns-then-is_end-clause-noted : goal.returns-then-is_end-clause-noted
-returns-then-is_end-clause-noted g c = λ _.
-    let A = g.A.PathAlgebra.meaning c.args.algebra in
-    let was = c.loop-step.invariant in
-    let step = by_equal g.A.PathAlgebra.meaning was.algebra c.in_ok-step.ensures in
-    let end : is_end c.in_ok-step.step ≡ true = sym c.is_end.ensures ∙ c.if-is_end.true in
-    (all_found A c.laws_hold.ensures.lawful c.args.graph.now c.holds.ensures c.args.sources.now c.requires.sources g.A.PathAlgebra.order c.laws_hold.ensures.order
-    c.loop-step.search c.settle_next.new.self was.graph was.between c.loop-step.reached.items was.listed c.in_ok-step.step end step).3
+    let all = all_found A c.laws_hold.ensures.lawful c.args.graph.now c.holds.ensures c.args.sources.now c.requires.sources g.A.PathAlgebra.order c.laws_hold.ensures.order
+    c.loop-step.search c.settle_next.new.self was.graph was.between c.loop-step.reached.items was.listed c.in_ok-step.step end step in
+    record {
+      roads = step.roads ∙ was.graph;
+      reached = λ _. all.0;
+      labels = λ _. all.1;
+      tree = λ _. all.2;
+      noted = λ _. all.3;
+      settled = λ no. let bad : true ≡ false = no in cc;
+      halts = λ no. let bad : true ≡ false = no in cc;
+    }
 
 pub returns-then-is_due-clause-settled : goal.returns-then-is_due-clause-settled
 returns-then-is_due-clause-settled g c = λ _.

@@ -45,18 +45,14 @@ into_labels_and_tree-requires-after_bounds g c κs within =
     (last_round A c.laws_hold.ensures.lawful g.A.PathAlgebra.order c.laws_hold.ensures.order c.args.graph.now c.holds.ensures c.args.sources.now c.requires
     c.loop-search.search c.settle_next.new.self was.graph was.between c.in_ok-step.step (sym c.is_end.ensures ∙ c.if-is_end.true) step).2
 
-pub returns-then-is_end-clause-labels : goal.returns-then-is_end-clause-labels
-returns-then-is_end-clause-labels g c =
+pub returns-then-is_end : goal.returns-then-is_end
+returns-then-is_end g c =
     let A = g.A.PathAlgebra.meaning c.args.algebra in
     let was = c.loop-search.invariant in
     let step = by_equal g.A.PathAlgebra.meaning was.algebra c.in_ok-step.ensures in
-    rw c.into_labels_and_tree.ensures.labels (last_round A c.laws_hold.ensures.lawful g.A.PathAlgebra.order c.laws_hold.ensures.order c.args.graph.now c.holds.ensures c.args.sources.now c.requires
-    c.loop-search.search c.settle_next.new.self was.graph was.between c.in_ok-step.step (sym c.is_end.ensures ∙ c.if-is_end.true) step).0
-
-pub returns-then-is_end-clause-tree : goal.returns-then-is_end-clause-tree
-returns-then-is_end-clause-tree g c =
-    let A = g.A.PathAlgebra.meaning c.args.algebra in
-    let was = c.loop-search.invariant in
-    let step = by_equal g.A.PathAlgebra.meaning was.algebra c.in_ok-step.ensures in
-    rw c.into_labels_and_tree.ensures.tree (last_round A c.laws_hold.ensures.lawful g.A.PathAlgebra.order c.laws_hold.ensures.order c.args.graph.now c.holds.ensures c.args.sources.now c.requires
-    c.loop-search.search c.settle_next.new.self was.graph was.between c.in_ok-step.step (sym c.is_end.ensures ∙ c.if-is_end.true) step).1
+    let last = last_round A c.laws_hold.ensures.lawful g.A.PathAlgebra.order c.laws_hold.ensures.order c.args.graph.now c.holds.ensures c.args.sources.now c.requires
+    c.loop-search.search c.settle_next.new.self was.graph was.between c.in_ok-step.step (sym c.is_end.ensures ∙ c.if-is_end.true) step in
+    record {
+      labels = rw c.into_labels_and_tree.ensures.labels last.0;
+      tree = rw c.into_labels_and_tree.ensures.tree last.1;
+    }

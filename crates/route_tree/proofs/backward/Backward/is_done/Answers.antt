@@ -1,7 +1,0 @@
--- A must-fail edit breaks this goal: with an answer it is refused at once.
-use Rattle.std.proofs.Common.{arith}
-use Rattle.std.proofs.lemmas.Grind.{common_steps}
-use Rattle.route_tree.proofs.backward.Backward.is_done.Goals as goal
-
-pub returns : goal.returns
-returns g c = grind (arith, common_steps)

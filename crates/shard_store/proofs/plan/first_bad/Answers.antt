@@ -1,7 +1,0 @@
--- A must-fail edit breaks this goal: with an answer it is refused at once.
-use Rattle.std.proofs.Common.{arith}
-use Rattle.std.proofs.lemmas.Grind.{common_steps}
-use Rattle.shard_store.proofs.plan.first_bad.Goals as goal
-
-pub loop-i-preserved : goal.loop-i-preserved
-loop-i-preserved c = grind (arith, common_steps)

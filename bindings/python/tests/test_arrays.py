@@ -104,7 +104,7 @@ class Numpy(unittest.TestCase):
         self.assertEqual(graph.table(sources, targets()).tolist(), [[3]])
 
     def test_a_thread_that_writes_to_an_array_harms_nobody(self):
-        ran = subprocess.run([sys.executable, "-c", WRITER], capture_output=True, text=True, timeout=120)
+        ran = subprocess.run([sys.executable, "-c", WRITER], capture_output=True, text=True, timeout=600)
         self.assertEqual((ran.returncode, ran.stdout), (0, "unharmed\n"), ran.stderr)
 
     def test_masked_numbers_are_no_numbers(self):

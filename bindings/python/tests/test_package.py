@@ -1,4 +1,5 @@
 """The package as it is installed: its library, its types, its version."""
+import inspect
 import os
 import re
 import subprocess
@@ -9,9 +10,33 @@ from tempfile import TemporaryDirectory
 from zipfile import ZipFile
 
 import diffuse
+from diffuse import Graph, Network
 
 HERE = Path(diffuse.__file__).parent
 BACKEND = Path(__file__).resolve().parents[1] / "backend" / "wheel_of_library.py"
+README = Path(__file__).resolve().parents[1] / "README.md"
+
+WRITTEN = "to_csv to_frame to_geoframe to_geojson"
+TREE = f"arcs cost hops neighbour reached route source {WRITTEN} tree"
+PUBLIC = {
+    "Algebra": "HOPS REACH RELIABLE SHORTEST WIDEST WITHIN", "BetweenPoints": f"cost line steps {WRITTEN} total totals", "Coordinates": "degrees",
+    "Graph": "arcs check close factor from_columns from_gr near number read route table tree vertices with_weights",
+    "Isochrone": f"arcs band {TREE[5:].replace('reached', 'reached roads')} within",
+    "NamedRoute": f"arcs cells cost line places steps {WRITTEN} total totals", "NamedTable": "to_csv to_frame to_numpy", "NamedTree": TREE,
+    "Near": "algebra entries entry limit origins reaches route tree",
+    "Network": "costs draw factor from_networkx from_table graph isochrone load nearest places plot read_csv read_dimacs read_osm route route_between routes save "
+               "snap table to_networkx tree vertex with_cost with_sum",
+    "Profile": "access barriers but closed direction one_ways permission shuts speed stops_at takes turns",
+    "Reason": "HAS_WALK LESSER_PARENT NOT_A_SOURCE_LINE NOT_BEST NO_PARENT OTHER_HOPS",
+    "Report": "barriers closed cut_off gaps left_out limits missing turns ways", "Route": "arcs", "Routes": WRITTEN, "Snap": "", "Snaps": WRITTEN, "Step": "",
+    "Stop": "clear is_set set", "Tree": "algebra entries entry limit origins reaches route",
+}
+
+
+def kinds():
+    """The public classes that are no exceptions, by their names."""
+    named = ((name, getattr(diffuse, name)) for name in diffuse.__all__)
+    return [(name, kind) for name, kind in named if isinstance(kind, type) and not issubclass(kind, BaseException)]
 
 
 class Package(unittest.TestCase):
@@ -70,6 +95,54 @@ class Package(unittest.TestCase):
     def test_it_is_typed(self):
         self.assertTrue((HERE / "py.typed").exists())
 
+    def test_the_page_lists_each_module(self):
+        page = README.read_text()
+        for path in HERE.glob("*.py"):
+            self.assertIn(f"`{path.stem}`", page + "`__init__`")
+
+    def test_nothing_is_public_by_accident(self):
+        """The classes have these methods, properties and no other; and there is no other class."""
+        found = {}
+        for name, kind in kinds():
+            inherited = {part for base in kind.__mro__ if not base.__module__.startswith("diffuse") for part in dir(base)}
+            found[name] = " ".join(part for part in dir(kind) if not part.startswith("_") and part not in inherited)
+        self.assertEqual(found, PUBLIC)
+        texts = {name for name in diffuse.__all__ if not isinstance(getattr(diffuse, name), type)}
+        self.assertEqual(texts, {"ALGEBRAS", "CYCLING", "DRIVING", "UNREACHED", "WALKING", "version"})
+
+    def test_arguments_come_in_one_order(self):
+        def order(call):
+            return " ".join(inspect.signature(call).parameters)
+
+        self.assertEqual(order(Graph.tree), "self sources algebra limit stop")
+        self.assertEqual(order(Graph.near), order(Graph.tree))
+        self.assertEqual(order(Graph.table), "self sources targets algebra limit stop")
+        self.assertEqual(order(Graph.route), "self source target algebra limit stop")
+        self.assertEqual(order(Network.tree), "self sources by algebra limit towards stop")
+        self.assertEqual(order(Network.table), "self sources targets by algebra limit stop")
+        self.assertEqual(order(Network.route), "self source target by algebra limit stop")
+        self.assertEqual(order(Network.routes), "self pairs by algebra limit stop")
+        self.assertEqual(order(Network.isochrone), "self sources by limits towards stop")
+
+    def test_each_call_says_what_its_parameters_are(self):
+        """As numpydoc has it; a call of one parameter may say so in its sentence."""
+        for name, kind in kinds():
+            for part in PUBLIC[name].split():
+                call = inspect.getattr_static(kind, part)
+                call = getattr(call, "__func__", call)
+                if not inspect.isfunction(call):
+                    continue
+                words = [word for word in inspect.signature(call).parameters if word not in ("self", "cls", "changes")]
+                before, _, after = inspect.getdoc(call).partition("\nParameters\n----------\n")
+                self.assertIn(".", before, f"{name}.{part}")
+                listed = re.findall(r"\w+", " ".join(line.split(" : ")[0] for line in after.split("\n\n")[0].split("\n") if not line.startswith(" ")))
+                if after or len(words) > 1:
+                    self.assertEqual(sorted(set(listed)), sorted(words), f"{name}.{part}")
+
+    def test_messages_name_the_class_that_was_asked(self):
+        self.assertRaisesRegex(TypeError, r"^Network\.route\(\) got an unexpected keyword argument 'way'|^route\(\) got an unexpected", lambda: Network.route(None, way=1))
+        self.assertEqual([kind.__name__ for kind in Network.__mro__], ["Network", "object"])
+
     def test_graphs_are_freed(self):
         """Three thousand graphs that nobody closes take 4 MB more than a hundred at most."""
         code = """if True:
@@ -81,7 +154,7 @@ class Package(unittest.TestCase):
             first = pages_after(100)
             print(pages_after(3000) - first < 1024)
         """
-        self.assertEqual(self.said(code), "True\n")
+        self.assertEqual(self.said(code, MALLOC_ARENA_MAX="1"), "True\n")
 
 
 if __name__ == "__main__":

@@ -4,6 +4,7 @@ import io
 import json
 import unittest
 import xml.etree.ElementTree as ElementTree
+from unittest import mock
 
 import diffuse
 from diffuse import Graph, Network
@@ -151,6 +152,13 @@ class Networkx(WithFiles):
 
 
 class Files(WithFiles):
+    def test_progress(self):
+        """Of a table is told each so many rows."""
+        told = []
+        with mock.patch("diffuse.tables.EVERY", 2):
+            Network.read_csv(self.file("roads.csv", ROADS), tail="from", head="to", costs=COSTS, progress=lambda what, count: told.append((what, count)))
+        self.assertEqual(told, [("rows", 2), ("rows", 4), ("rows", 6)])
+
     def test_open_files(self):
         wanted = self.network().route("A", "D", by="minutes")
         for kind in (io.StringIO, lambda text: io.BytesIO(text.encode())):

@@ -18,7 +18,7 @@ from diffuse.errors import BY_STATUS
 from .examples import ARCS, listed
 from .test_network import WithFiles
 
-PATIENCE = 120
+PATIENCE = 600
 
 
 def check_a_wrong_tree(_):

@@ -10,7 +10,7 @@ from diffuse import Graph
 
 from .examples import ARCS, listed
 
-PATIENCE = 60
+PATIENCE = 600
 
 
 def grid(side):

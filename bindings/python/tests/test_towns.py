@@ -3,17 +3,21 @@
 They are looked for in benchmarks/out/real, and fetched from Debian's sources if they are not there: Liechtenstein of osm2pgsql's tests
 and Neubrandenburg of JOSM's (OpenStreetMap's contributors, ODbL).
 """
+import io
 import os
 import random
 import shutil
 import tarfile
 import tempfile
+import time
 import unittest
 import urllib.error
 import urllib.request
 import warnings
 from collections import Counter
-from math import asin, cos, radians, sin, sqrt
+from functools import lru_cache
+from http.client import HTTPException
+from math import asin, cos, inf, radians, sin, sqrt
 from pathlib import Path
 
 import diffuse
@@ -49,10 +53,16 @@ def fetched(name):
             with tarfile.open(packed.name) as archive:
                 member = next(member for member in archive if member.name.endswith("/" + within))
                 shutil.copyfileobj(archive.extractfile(member), out)
-    except (urllib.error.URLError, OSError) as error:
+    except (urllib.error.URLError, HTTPException, tarfile.TarError, EOFError, OSError) as error:
         raise unittest.SkipTest(f"{url} can't be fetched: {error}")
     os.replace(out.name, path)
     return path
+
+
+@lru_cache(maxsize=None)
+def town(name, simplify=False, connected=True):
+    """The network of a town, which is read once."""
+    return Network.read_osm(fetched(name), simplify=simplify, connected=connected)
 
 
 def metres(a, b):
@@ -106,15 +116,14 @@ def reading(path):
 @unittest.skipUnless(osmium, "pyosmium is not installed")
 class Towns(unittest.TestCase):
     def test_each_arc(self):
-        for town in TOWNS:
-            path = fetched(town)
-            wanted, closed, turns = reading(path)
-            network = Network.read_osm(path, simplify=False, connected=False)
+        for name in TOWNS:
+            wanted, closed, turns = reading(fetched(name))
+            network = town(name, connected=False)
             roads, names = network._roads, [int(str(name).split("/")[0]) for name in network.places]
             found = Counter((names[tail - 1], names[head - 1], metres, seconds) for tail, head, metres, seconds in zip(
                 roads.tails, roads.heads, roads.costs["metres"].weights, roads.costs["seconds"].weights))
-            self.assertGreater(sum(found.values()), LEAST[town])
-            self.assertEqual(found, wanted, town)
+            self.assertGreater(sum(found.values()), LEAST[name])
+            self.assertEqual(found, wanted, name)
             self.assertLessEqual(network.report.turns, turns)
             at = {node for tail, head, *_ in wanted for node in (tail, head)}
             self.assertEqual(network.report.barriers, len(closed & at))
@@ -124,21 +133,20 @@ class Towns(unittest.TestCase):
     @unittest.skipUnless(networkx, "networkx is not installed")
     def test_routes(self):
         """Between crossings a route has the seconds of the same map with all nodes, but for rounding at each road."""
-        for town in TOWNS:
-            path, lot = fetched(town), random.Random(1)
-            fine, coarse = Network.read_osm(path, simplify=False), Network.read_osm(path)
+        for name in TOWNS:
+            lot, fine, coarse = random.Random(1), town(name), town(name, simplify=True)
             both = [place for place in coarse.places if place in fine._roads.numbers]
             graph = fine.to_networkx()
-            for _ in range(20):
-                ends = lot.sample(both, 2)
-                wanted = networkx.dijkstra_path_length(graph, *ends, weight="metres")
-                self.assertAlmostEqual(fine.route(*ends, by="metres").cost, wanted, places=6)
-                route = coarse.route(*ends, by="metres")
-                self.assertAlmostEqual(route.cost, wanted, delta=0.05 * (len(route.arcs) + len(fine.route(*ends, by="metres").arcs)) + 0.1)
+            for source in lot.sample(both, 4):
+                wanted = networkx.single_source_dijkstra_path_length(graph, source, weight="metres")
+                for target in lot.sample(both, 25):
+                    exact, route = (network.route(source, target, by="metres") for network in (fine, coarse))
+                    self.assertAlmostEqual(exact.cost, wanted[target], places=6)
+                    self.assertAlmostEqual(route.cost, wanted[target], delta=0.05 * (len(route.arcs) + len(exact.arcs)) + 0.1)
 
     def test_isochrones(self):
         """No stretch of road reaches further than the limit by its metres, and some reach just as far."""
-        network = Network.read_osm(fetched("liechtenstein.gr.osm.pbf"))
+        network = town("liechtenstein.gr.osm.pbf", simplify=True)
         places = list(network.places)
         for place in random.Random(2).sample(places, 5):
             near = network.isochrone(place, by="metres", limits=[2000])
@@ -152,7 +160,7 @@ class Towns(unittest.TestCase):
     def test_an_extract_without_complete_ways(self):
         """The northern half of Liechtenstein has no road that the whole does not have."""
         path = fetched("liechtenstein.gr.osm.pbf")
-        whole = Network.read_osm(path, simplify=False, connected=False)
+        whole = town(path.name, connected=False)
         lats = sorted(lat for _, lat in whole.coordinates.points.values())
         middle = lats[len(lats) // 2]
         with tempfile.TemporaryDirectory() as room:
@@ -178,6 +186,19 @@ class Towns(unittest.TestCase):
         known = {frozenset(int(str(whole.places[end - 1]).split("/")[0]) for end in pair) for pair in zip(whole._roads.tails, whole._roads.heads)}
         found = {frozenset(int(str(part.places[end - 1]).split("/")[0]) for end in pair) for pair in zip(part._roads.tails, part._roads.heads)}
         self.assertEqual(found - known, set())
+
+    def test_a_saved_map_is_read_in_a_fraction_of_the_time(self):
+        """The same roads, in at most a third of the processor time; it is some tenth."""
+        begun = time.process_time()
+        first = Network.read_osm(fetched("liechtenstein.gr.osm.pbf"), simplify=False)
+        took, room, least = time.process_time() - begun, io.BytesIO(), inf
+        first.save(room)
+        for _ in range(3):
+            begun = time.process_time()
+            again = Network.load(io.BytesIO(room.getvalue()))
+            least = min(least, time.process_time() - begun)
+        self.assertEqual((again._roads, again.coordinates, again.report), (first._roads, first.coordinates, first.report))
+        self.assertLess(least, took / 3)
 
 
 if __name__ == "__main__":

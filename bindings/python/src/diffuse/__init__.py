@@ -1,5 +1,5 @@
-"""Best values, routes, trees and tables in road graphs, by a library that is proved right for
-every input.
+"""Best values, routes, trees and tables in road graphs, by a C library whose answers are proved;
+what `Network` adds is tested.
 
 `Graph` takes numbered vertices and whole weights; `Network` takes maps of OpenStreetMap and tables
 with names, decimals and several costs, and writes CSV, GeoJSON, frames and pictures.

@@ -22,6 +22,7 @@ from .roads import (
     with_values,
 )
 from .routes import NamedRoute, Routes
+from .saved import File, load, save
 from .snaps import BetweenPoints, End, RoadGrid, Snap, Snaps, best_between
 from .tables import (
     Number, Path, Progress, Source, argument_of, plain, positive, read_table, scaled, table_of,
@@ -50,7 +51,8 @@ MILLION = 10**6
 class Network:
     """Places with names, roads between them, and a weight of each road for each cost.
 
-    A network is made by `read_osm`, `read_csv`, `from_table`, `from_networkx` or `read_dimacs`.
+    A network is made by `read_osm`, `read_csv`, `from_table`, `from_networkx`, `read_dimacs`, or
+    by `load` of what `save` wrote.
     For each cost it has an exact graph, made at the first question. Of parallel roads an answer
     takes the one with the best weight, and of equal ones the first of the table. Any number of
     threads may ask one network at once, and so may a forked child. A pickled network has its
@@ -246,6 +248,44 @@ class Network:
         roads = dimacs_roads(gr, cost)
         return cls(roads, None if co is None else dimacs_places(co, len(roads.names)))
 
+    def save(self, path: File) -> None:
+        """Writes the network as one file, from which `load` makes the same one in a fraction of
+        the time that its map or table takes.
+
+        It has places, coordinates, roads with their lines and cells, costs and the report, but not
+        the graphs and factors, which are made anew. It is a zip, in which numpy.load finds arrays.
+
+        Parameters
+        ----------
+        path : str, path, or open file of bytes
+
+        Raises
+        ------
+        InputError
+            A name or a cell is neither a number, a text, a line of shapely, nor a list or tuple of
+            such. Nothing is written then.
+        OSError
+        """
+        save(path, self._roads, self.coordinates, self.report)
+
+    @classmethod
+    def load(cls, path: Source) -> Network:
+        """The network of a file that `save` wrote.
+
+        Parameters
+        ----------
+        path : str, path, or open file of bytes
+
+        Raises
+        ------
+        InputError
+            The file is damaged, of a later version, or no such file.
+        ImportError
+            It has lines of shapely, which is not installed.
+        OSError
+        """
+        return cls(*load(path))
+
     def __getstate__(self) -> tuple[Roads, Optional[Coordinates], Optional[Report]]:
         return self._roads, self.coordinates, self.report
 
@@ -402,7 +442,19 @@ class Network:
                         f"{way:.0f} {unit}away; radius= takes others")
 
     def graph(self, by: str, towards: bool = False) -> Graph:
-        """The graph by a cost, made at the first question; `towards` turns each arc round."""
+        """The graph by a cost, made at the first question.
+
+        Parameters
+        ----------
+        by : str
+            The cost.
+        towards : bool
+            Whether each arc is turned round.
+
+        Raises
+        ------
+        InputError, OutOfMemory
+        """
         weights = self._cost(by).weights
         with self._lock:
             if (by, towards) not in self._graphs:

@@ -213,8 +213,19 @@ class NamedTree:
         return write_geojson(path, self.network.coordinates, self._features(shape, cell))
 
     def to_geoframe(self, shape: str = "places", cell: Optional[Number] = None) -> Any:
-        """The same as a GeoDataFrame of geopandas. Raises ImportError without geopandas; and as
-        `to_geojson` does."""
+        """The same as a GeoDataFrame of geopandas.
+
+        Parameters
+        ----------
+        shape, cell
+            As of `to_geojson`.
+
+        Raises
+        ------
+        ImportError
+            There is no geopandas.
+        InputError, OutOfRange
+        """
         return geoframe_of(self.network.coordinates, self._features(shape, cell))
 
     def _repr_svg_(self) -> Optional[str]:
@@ -367,14 +378,16 @@ class NamedTable(Sequence[Sequence[Optional[float]]]):
         """
         import numpy
 
-        codes = numpy.array(self.codes, dtype=numpy.uint64).reshape(
+        codes = numpy.asarray(self.codes, dtype=numpy.uint64).reshape(
             len(self.sources), len(self.targets))
         scale = {Algebra.HOPS: 1, Algebra.REACH: 1, Algebra.RELIABLE: TRILLION}.get(
             self._algebra, self._scale)
         found: NDArray[float64] = codes / scale
         if self._algebra is Algebra.WIDEST:
             found[codes == NO_BOUND] = numpy.inf
-        found[codes == numpy.uint64(UNREACHED)] = nan
+        unreached = codes == numpy.uint64(UNREACHED)
+        if unreached.any():
+            found[unreached] = nan
         return found
 
     def to_frame(self) -> Any:

@@ -8,7 +8,7 @@
 #include <time.h>
 
 /* A graph whose search takes its time, since its arcs lead anywhere; all but the last vertex are nearer than the last. */
-enum { MANY = 1200000, ROWS = 3000000, SIDE = 200, PLACES = SIDE * SIDE, EACH = 1500 };
+enum { MANY = 1200000, ROWS = 3000000, SIDE = 200, PLACES = SIDE * SIDE, EACH = 1500, TRIES = 5 };
 static const double BEGUN = 0.1, LATE = 0.2;
 static struct diffuse_graph wide = DIFFUSE_CLOSED, grid = DIFFUSE_CLOSED, reweighed = DIFFUSE_CLOSED;
 static struct diffuse_stop stop = DIFFUSE_CLOSED;
@@ -119,12 +119,12 @@ static void *ask(void *at) {
     return NULL;
 }
 
-/* Whether the call ends soon with STOPPED, though it has run for a while when the stop is set. */
-static int is_stopped(struct asked *it) {
+/* How long the call runs on after the stop is set, when it has run for a while. */
+static double run_on(struct asked *it) {
     static const struct timespec TURN = {0, 1000000};
     pthread_t thread;
     clockid_t clock;
-    double before = 0;
+    double before = 0, after;
     expect(diffuse_stop_clear(&stop), "clear");
     if (pthread_create(&thread, NULL, ask, it) != 0 || pthread_getcpuclockid(thread, &clock) != 0) exit(2);
     while (before >= 0 && before < BEGUN) {
@@ -132,9 +132,20 @@ static int is_stopped(struct asked *it) {
         before = seconds_of(clock);
     }
     expect(diffuse_stop_set(&stop), "set");
+    after = seconds_of(clock);
     pthread_join(thread, NULL);
-    if (it->status == DIFFUSE_STATUS_STOPPED && it->ended - before <= LATE) return 1;
-    printf("%s: %s after %.3f s, the stop set after %.3f s\n", it->name, diffuse_status_text(it->status), it->ended, before);
+    return it->ended - (after > before ? after : before);
+}
+
+/* Whether each try ends with STOPPED, and one of them soon: on a busy machine a thread may run on for a while before its stop is set. */
+static int is_stopped(struct asked *it) {
+    double late = 0;
+    for (int left = TRIES; left > 0; left--) {
+        late = run_on(it);
+        if (it->status != DIFFUSE_STATUS_STOPPED) break;
+        if (late <= LATE) return 1;
+    }
+    printf("%s: %s after %.3f s, %.3f s after the stop was set\n", it->name, diffuse_status_text(it->status), it->ended, late);
     return 0;
 }
 

@@ -6,6 +6,7 @@ import json
 import random
 import shutil
 import subprocess
+import time
 from pathlib import Path
 
 from http_places import written
@@ -60,23 +61,31 @@ class Browser:
     def wait(self, code):
         return soon(lambda: self.value(code))
 
-    def act(self, *steps, kind="mouse"):
-        actions = [{"type": "pointer", "id": "hand", "parameters": {"pointerType": kind}, "actions": list(steps)}]
+    def act(self, *each, kind="mouse"):
+        """What a mouse does, or what fingers do at once."""
+        actions = [{"type": "pointer", "id": f"{kind} {i}", "parameters": {"pointerType": kind}, "actions": steps} for i, steps in enumerate(each)]
         self.call("POST", self.session + "/actions", {"actions": actions})
 
     def click(self, x, y):
-        self.act(move(x, y), {"type": "pointerDown", "button": 0}, {"type": "pointerUp", "button": 0})
+        self.act(pressed((x, y)))
 
-    def drag(self, *places):
-        self.act(move(*places[0]), {"type": "pointerDown", "button": 0}, *(move(*place, 100) for place in places[1:]), {"type": "pointerUp", "button": 0})
+    def drag(self, *places, kind="mouse"):
+        self.act(pressed(*places), kind=kind)
 
     def wheel(self, x, y, by):
         self.call("POST", self.session + "/actions", {"actions": [{"type": "wheel", "id": "wheel", "actions": [
             {"type": "scroll", "x": x, "y": y, "deltaX": 0, "deltaY": by, "duration": 50}]}]})
 
-    def picture(self, path):
-        Path(path).write_bytes(base64.b64decode(self.call("GET", self.session + "/screenshot")))
-        return pixels(path)
+    def picture(self, path, colour, least):
+        """The points of a picture, when so many have a colour, or after five tries; and how many have it."""
+        for _ in range(5):
+            Path(path).write_bytes(base64.b64decode(self.call("GET", self.session + "/screenshot")))
+            rows = pixels(path)
+            found = sum(it == colour for row in rows for it in row)
+            if found >= least:
+                break
+            time.sleep(1)
+        return rows, found
 
     def end(self):
         self.call("DELETE", self.session)
@@ -88,8 +97,9 @@ def move(x, y, duration=0):
     return {"type": "pointerMove", "x": round(x), "y": round(y), "duration": duration}
 
 
-def count(rows, colour):
-    return sum(it == colour for row in rows for it in row)
+def pressed(first, *others):
+    """The steps to a place, and from there, pressed down, to others."""
+    return [move(*first), {"type": "pointerDown", "button": 0}, *(move(*place, 100) for place in others), {"type": "pointerUp", "button": 0}]
 
 
 def streets(room):
@@ -119,6 +129,9 @@ def by_browser(room, pictures):
     url = f"http://127.0.0.1:{server.port}/"
     browser.open(url)
     yield from sees_roads(browser, Path(pictures or room), "light")
+    yield from obeys_fingers(browser)
+    browser.open(url)
+    browser.wait("roads.length > 0")
     yield from asks_for_a_route(server, browser)
     yield from goes_by_streets(server, browser)
     yield from reaches(browser)
@@ -128,9 +141,9 @@ def by_browser(room, pictures):
         browser.open(url + browser.value("location.hash"), colours)
         browser.wait("answer && answer.route && roads.length > 0")
         yield from sees_roads(browser, Path(pictures or room), colours)
-    rows = browser.picture(Path(pictures or room) / "map-dark.png")
-    if count(rows, ROUTE["dark"]) < 300 or sum(rows[HEIGHT - 10][WIDTH - 10]) > 200:
-        yield f"in the dark: {count(rows, ROUTE['dark'])} points of the route, over {rows[HEIGHT - 10][WIDTH - 10]}"
+    rows, drawn = browser.picture(Path(pictures or room) / "map-dark.png", ROUTE["dark"], 300)
+    if drawn < 300 or sum(rows[HEIGHT - 10][WIDTH - 10]) > 200:
+        yield f"in the dark: {drawn} points of the route, over {rows[HEIGHT - 10][WIDTH - 10]}"
     yield from server.ends()
     yield from has_words_without_server(browser)
     browser.end()
@@ -139,7 +152,7 @@ def by_browser(room, pictures):
 def sees_roads(browser, folder, colours):
     if not browser.wait("roads.length > 0"):
         yield f"no roads: {browser.value('document.body.innerText')}"
-    drawn = count(browser.picture(folder / f"map-{colours}.png"), ROAD[colours])
+    _, drawn = browser.picture(folder / f"map-{colours}.png", ROAD[colours], 1000)
     if drawn < 1000:
         yield f"{drawn} points of roads are drawn, {colours}"
 
@@ -182,6 +195,18 @@ def asks_for_a_route(server, browser):
     browser.value("at('fit').click()")
     if not browser.wait("onScreen(stops[0]).every(x => x > 0)"):
         yield "fit does not show the route"
+
+
+def obeys_fingers(browser):
+    """One finger pans, and two zoom by as much as they part."""
+    before = browser.value("onEarth(800, 650)")
+    browser.drag((800, 650), (850, 600), kind="touch")
+    if max(abs(a - b) for a, b in zip(before, browser.value("onEarth(850, 600)"))) > 1e-6:
+        yield "a finger does not pan"
+    scale = browser.value("view.scale")
+    browser.act(pressed((550, 400), (500, 400)), pressed((650, 400), (700, 400)), kind="touch")
+    if not 1.95 < browser.value("view.scale") / scale < 2.05 or browser.value("stops.length") != 0:
+        yield f"two fingers zoom by {browser.value('view.scale') / scale}"
 
 
 def goes_by_streets(server, browser):

@@ -10,7 +10,7 @@ import time
 from pathlib import Path
 
 from http_requests import FIVE, TOWN
-from http_server import GET, PATIENCE, ROUTE, Server, free_port, received, soon, statuses
+from http_server import GET, PATIENCE, ROUTE, Server, free_port, received, reply_on, soon, statuses
 
 
 class Trickle:
@@ -43,14 +43,14 @@ class Trickle:
 
 def slow_clients():
     """A head and a body have a time in all; of one address few may be slow; the others are answered meanwhile."""
-    server = Server(FIVE, "--read", "1")
+    server = Server(FIVE, "--read", "2")
     for data in (b"", GET[:10], b"POST /table HTTP/1.1\r\nHost: here\r\nContent-Length: 50\r\n\r\n{"):
         began, got = time.monotonic(), statuses(server.raw(data))
-        if got != [408] or time.monotonic() - began < 0.5:
+        if got != [408] or time.monotonic() - began < 1.5:
             yield f"{data}: {got} after {time.monotonic() - began:.1f} s"
     kept = server.connect()
     kept.sendall(GET)
-    if statuses(kept.recv(65536)) != [200]:
+    if statuses(reply_on(kept)) != [200]:
         yield "a kept connection is not answered"
     kept.sendall(GET[:12])
     if statuses(received(kept)) != [408]:
@@ -63,7 +63,7 @@ def slow_clients():
     yield from server.ends()
     few = Server(FIVE, "--slow", "8", "--read", "600")
     slow, other = Trickle(few, 40), Trickle(few, 4, "127.0.0.2")
-    if not soon(lambda: few.counted("diffuse_connections_slow_total") >= 32) or few.counted("diffuse_connections ") > 14:
+    if not soon(lambda: few.counted("diffuse_connections_slow_total") >= 32 and few.counted("diffuse_connections ") <= 13):
         yield f"{few.counted('diffuse_connections ')} slow connections stay, of eight that are allowed and four of another address"
     slow.end()
     other.end()
@@ -77,14 +77,14 @@ def all_connections_taken():
     slow = [server.connect() for _ in range(40)]
     for one in slow:
         one.sendall(b"POST /route HTTP/1.1\r\nHost: here\r\nExpect: 100-continue\r\nContent-Length: %d\r\n\r\n" % len(body))
-        one.recv(65536)
+        reply_on(one)
     if [server.ask(path)[0] for path in ("/health", "/metrics", ROUTE)] != [200, 200, 503]:
         yield "too many connections are not refused as they should be"
     if server.counted("diffuse_connections_refused_total") != 1:
         yield "what is answered is counted as refused, or what is refused is not"
     for one in slow:
         one.sendall(body)
-        one.recv(65536)
+        reply_on(one)
     if not soon(server.answers):
         yield "forty idle clients close the server to all"
     for one in slow:
@@ -162,9 +162,11 @@ def few_descriptors():
     """Sixty connections with forty descriptors: no busy loop, a word in the log, and the server goes on."""
     server = Server(FIVE, prefix=("prlimit", "--nofile=40"))
     clients = [server.connect() for _ in range(60)]
+    if not server.wait_for("no connection can be taken"):
+        yield f"it does not say so: {server.log[-2:]}"
     _, spent = server.cost(lambda: time.sleep(1.5))
-    if spent > 0.5 or not server.logged("no connection can be taken"):
-        yield f"{spent} s of processor time in 1.5 s, {server.log[-2:]}"
+    if spent > 0.5:
+        yield f"{spent} s of processor time in 1.5 s"
     for one in clients:
         one.close()
     yield from server.goes_on()
@@ -201,7 +203,7 @@ def options():
             yield f"{words}: status {ran.returncode}, {ran.stderr}"
     if subprocess.run([Server.program], stderr=subprocess.DEVNULL).returncode != 2 or subprocess.run([Server.program, "--help"], stdout=subprocess.DEVNULL).returncode != 0:
         yield "no graph, or --help"
-    server = Server(FIVE, "--queue=0", "--timeout=0.5")
+    server = Server(FIVE, "--queue=0", "--timeout=99.5")
     if server.ask(ROUTE)[0] != 200:
         yield "with a queue of none, an idle server does not answer"
     for words, named in ((["--port", str(server.port)], f"127.0.0.1:{server.port}: Address already in use"), (["--host", "192.0.2.1"], "192.0.2.1:8080: ")):
@@ -228,14 +230,14 @@ def waits_for_100():
     body = b'{"source": 1, "target": 4}'
     with server.connect() as one:
         one.sendall(b"POST /route HTTP/1.1\r\nHost: here\r\nExpect: 100-continue\r\nContent-Length: %d\r\n\r\n" % len(body))
-        if statuses(one.recv(4096)) != [100]:
+        if statuses(reply_on(one)) != [100]:
             yield "no 100 Continue"
         one.sendall(body)
-        if statuses(one.recv(4096)) != [200]:
+        if statuses(reply_on(one)) != [200]:
             yield "no reply after 100 Continue"
     with server.connect() as one:
         one.sendall(b"POST /route HTTP/1.1\r\nHost: here\r\nExpect: 100-continue\r\nContent-Length: 2000000\r\n\r\n")
-        if statuses(one.recv(4096)) != [413]:
+        if statuses(reply_on(one)) != [413]:
             yield "a body that is too long is asked for"
     data = b"POST /route HTTP/1.1\r\nHost: here\r\nContent-Length: 2000000\r\n\r\n" + b" " * 2000000
     if statuses(server.raw(data)) != [413]:
@@ -245,13 +247,13 @@ def waits_for_100():
 
 def kept_connections(count):
     """Many kept connections, each asked in turn several times: every reply is right."""
-    server, wrong = Server(TOWN, "--queue", str(count), "--connections", str(count + 10), "--timeout", "600", "--slow", str(count)), []
+    server, wrong = Server(TOWN, "--queue", str(count), "--connections", str(count + 10), "--slow", str(count), "--read", "600", "--idle", "600"), []
     sockets = [server.connect() for _ in range(count)]
     for turn in range(3):
         for place, one in enumerate(sockets):
             one.sendall(b"GET /route?source=%d&target=%d HTTP/1.1\r\nHost: here\r\n\r\n" % (place % 4000 + 1, (place + turn) % 4000 + 1))
         for place, one in enumerate(sockets):
-            got = one.recv(65536)
+            got = reply_on(one)
             if statuses(got) != [200] or b'{"source": %d, "target": %d, ' % (place % 4000 + 1, (place + turn) % 4000 + 1) not in got:
                 wrong.append(got[:100])
     if wrong or server.counted("diffuse_requests_total") != 3 * count:

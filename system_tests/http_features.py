@@ -150,6 +150,17 @@ def roads_of_a_box(room):
     server.end()
 
 
+def many_roads(room):
+    """Of more roads than a page is to draw the answer has those of twenty thousand points, and says that they are not all."""
+    n = 22_000
+    graph = written(room, "many.gr", f"p sp {n} {n // 2}\n" + "".join(f"a {v} {v + 1} 1\n" for v in range(1, n, 2)))
+    server = Server(graph, "--places", written(room, "many.co", "".join(f"v {v} {100 * (v % 200)} {100 * (v // 200)}\n" for v in range(1, n + 1))))
+    reply = server.ask("/roads?box=-1,-1,1,1&pixels=100000")[1]
+    if reply["complete"] or len(reply["lines"]) != 10_000:
+        yield f"{len(reply['lines'])} roads are drawn, complete: {reply['complete']}"
+    server.end()
+
+
 def decoded(text):
     """The places of an encoded polyline of five digits, in millionths of a degree."""
     bits = shift = 0
@@ -171,7 +182,7 @@ def bad_names(room):
     graph = written(room, "ring.gr", RING)
     for text, said in (("7 A\n", "line 1"), ("1 A\n0 B\n", "line 2"), ("A\n", "line 1"), ("1\n", "line 1")):
         names = written(room, "bad.names", text)
-        ran = subprocess.run([Server.program, graph, "--port", "0", "--names", names], stderr=subprocess.PIPE, text=True, timeout=20)
+        ran = subprocess.run([Server.program, graph, "--port", "0", "--names", names], stderr=subprocess.PIPE, text=True, timeout=PATIENCE)
         if ran.returncode != 1 or not ran.stderr.startswith(f"diffuse-server: {names}: {said}"):
             yield f"{text!r}: status {ran.returncode}, {ran.stderr}"
 

@@ -9,7 +9,7 @@ from pathlib import Path
 
 from http_faults import Trickle
 from http_requests import FIVE, TOWN
-from http_server import ROUTE, Server, again_and_again, beside, replace, soon, together
+from http_server import ROUTE, Server, again_and_again, beside, received, replace, reply_on, soon, statuses, together
 
 
 def table_to(last):
@@ -27,7 +27,7 @@ def beside_the_program(program, asks, *words):
     questions = f"p aux sp p2p {asks}\n" + "".join("q {} {}\n".format(*pair) for pair in pairs)
     solved = subprocess.run([program, "solve", TOWN, "-", "--plain"], input=questions, stdout=subprocess.PIPE, text=True, check=True).stdout
     wanted = [(int(value), [int(v) for v in route.split()]) for value, route in re.findall(r"^d (\d+) \d+\nr ([\d ]+)$", solved, re.M)]
-    server, got = Server(TOWN, "--timeout", "600", *words), [None] * asks
+    server, got = Server(TOWN, *words), [None] * asks
 
     def client(first):
         own = server.client()
@@ -44,15 +44,13 @@ def beside_the_program(program, asks, *words):
 
 
 def over_its_limits():
-    """One search at a time, and a queue of two: of sixteen clients some are answered and the others refused, and it goes on."""
-    server, seen = Server(TOWN, "--handles", "1", "--queue", "2"), []
-
-    def client():
-        seen.extend(server.ask(TABLE)[0] for _ in range(3))
-
-    together([client] * 16)
-    if set(seen) != {200, 503} or server.ask("/route?source=1&target=2")[0] != 200:
-        yield f"statuses {sorted(set(seen))}"
+    """One search at a time, and a queue of two: sixteen clients ask until some were answered and others refused, and it goes on."""
+    server, seen = Server(TOWN, "--handles", "1", "--queue", "2"), set()
+    wanted = {(200, None), (503, "the queue is full")}
+    with again_and_again([server.asker(TABLE, lambda status, reply: seen.add((status, reply.get("detail")))) for _ in range(16)]):
+        soon(lambda: seen >= wanted)
+    if seen != wanted or not soon(server.answers):
+        yield f"replies {seen}"
     yield from server.ends()
 
 
@@ -66,32 +64,39 @@ def street(room, count):
 def late(room):
     """A table that takes longer than the timeout is refused, its search stops for less than half of what the table takes, and routes go on."""
     path, n = street(room, 100_000)
-    whole = Server(path, "--handles", "1", "--timeout", "600")
+    whole = Server(path, "--handles", "1")
     status, cost = whole.cost(lambda: whole.ask(table_to(n))[0])
     server = Server(path, "--handles", "1", "--timeout", "0.02")
-    for _ in range(3):
-        ((refused, reply), is_quiet), spent = server.cost(lambda: (server.ask(table_to(n)), soon(server.is_quiet)))
-        if (status, refused, reply["detail"], is_quiet) != (200, 503, "timed out", True) or spent > cost / 2:
-            yield f"{refused} {reply} after {spent} s of the processor, and the whole table takes {cost}"
+
+    def refused():
+        answer, reply = server.ask(table_to(n))
+        return answer, reply["detail"], soon(server.is_quiet)
+
+    got, spent = server.costs([refused] * 5)
+    if status != 200 or set(got) != {(503, "timed out", True)} or spent > cost / 2:
+        yield f"{got} after {spent} s of the processor at least, and the whole table takes {cost}"
     yield from whole.ends()
     yield from server.goes_on()
 
 
-def routes_beside_tables():
-    """Tables and trees leave a thread to routes: while as many tables as there are handles are asked, routes are answered."""
-    server, tables, routes = Server(TOWN, "--handles", "2", "--timeout", "600"), [], []
-    askers = [server.asker(TABLE, lambda status, _: tables.append(status)) for _ in range(4)]
-    with again_and_again([*askers, server.asker("/route?source=1&target=2", lambda status, _: routes.append(status))]):
-        soon(lambda: len(tables) >= 20)
-    if tables.count(200) < 20 or routes.count(200) < 2 * len(tables):
-        yield f"{routes.count(200)} routes beside {tables.count(200)} tables"
+def routes_beside_tables(room):
+    """Tables and trees leave a thread to routes: while ten tables are answered, up to when the last one is begun, twice as many routes are, and more."""
+    path, n = street(room, 50_000)
+    server, routes = Server(path, "--handles", "2"), []
+    tables, client = server.send_all(*[table_to(n)] * 10), server.client()
+    soon(lambda: server.counted("diffuse_requests_waiting") > 5, 60)
+    while server.counted("diffuse_requests_waiting") > 0:
+        routes.append(server.ask("/route?source=1&target=2", client=client)[0])
+    got = [statuses(reply_on(one)) for one in tables]
+    if got != [[200]] * 10 or routes.count(200) < 20:
+        yield f"{routes.count(200)} routes beside {got.count([200])} tables"
     yield from server.ends()
 
 
 def one_at_a_time(room):
     """Routes that are asked one at a time leave the lists of a few searches, however many threads wait: 26 bytes a vertex each."""
     path, n = street(room, 200_000)
-    server = Server(path, "--handles", "16", "--timeout", "600")
+    server = Server(path, "--handles", "16")
     client = server.client()
     before = server.counted("diffuse_resident_bytes")
     for target in range(1, 41):
@@ -107,7 +112,7 @@ def new_graphs(room):
     path = Path(room) / "changing.gr"
     texts = [FIVE.read_text(), FIVE.read_text().replace("a 2 4 5", "a 2 4 1")]
     path.write_text(texts[0])
-    server, heard = Server(path, "--factors", "--timeout", "600"), []
+    server, heard = Server(path, "--factors"), []
     with again_and_again([server.asker(ROUTE, lambda status, reply: heard.append((status, reply.get("value")))) for _ in range(6)]):
         for turn in range(1, 21):
             replace(path, texts[turn % 2])
@@ -179,13 +184,14 @@ def trees(room):
 
 def drained():
     """SIGTERM while tables are being answered: all that came are answered, and the server ends with status 0."""
-    server, replies = Server(TOWN, "--timeout", "600", "--drain", "600"), []
+    server = Server(TOWN, "--drain", "600")
     idle = server.client()
     server.ask("/health", client=idle)
-    with beside([lambda: replies.append(server.ask(TABLE)[0])] * 12):
-        soon(lambda: server.counted("diffuse_connections ") >= 14 or len(replies) == 12)
-        status = server.end()
-    if status != 0 or replies != [200] * 12:
+    asked = server.send_all(*[TABLE] * 12)
+    server.send(signal.SIGTERM)
+    replies = [statuses(received(one)) for one in asked]
+    status = server.wait()
+    if status != 0 or replies != [[200]] * 12:
         yield f"status {status}, replies {replies}, {server.log[-2:]}"
     try:
         server.ask("/health")
@@ -198,7 +204,7 @@ def ends_under_load(trials):
     """SIGTERM while forty clients connect anew for each request: the server ends before its time is over, and no request is lost whose connection was there before."""
     slowest = 0
     for trial in range(trials):
-        server, told, lost = Server(TOWN, "--drain", "600", "--timeout", "600"), [float("inf")], []
+        server, told, lost = Server(TOWN, "--drain", "600"), [float("inf")], []
 
         def client():
             while True:

@@ -8,7 +8,7 @@ from pathlib import Path
 
 from common import TOP
 from http_requests import TOWN
-from http_server import Server
+from http_server import PATIENCE, Server
 
 # The example of the format's documentation: (38.5, -120.2), (40.7, -120.95), (43.252, -126.453).
 POLYLINE = "_p~iF~ps|U_ulLnnqC_mqNvxq`@"
@@ -57,7 +57,7 @@ def bad_files(room):
              ("--also", CHAIN_METRES + "a 1 1 1\n", "line 6")]
     for option, text, said in cases:
         other = written(room, "other", text)
-        ran = subprocess.run([Server.program, graph, "--port", "0", option, f"metres={other}" if option == "--also" else other], stderr=subprocess.PIPE, text=True, timeout=20)
+        ran = subprocess.run([Server.program, graph, "--port", "0", option, f"metres={other}" if option == "--also" else other], stderr=subprocess.PIPE, text=True, timeout=PATIENCE)
         if ran.returncode != 1 or not ran.stderr.startswith(f"diffuse-server: {other}: ") or said not in ran.stderr:
             yield f"{option} with {text!r}: status {ran.returncode}, {ran.stderr}"
 
@@ -95,7 +95,7 @@ def from_a_map(room):
                    for i, of, name in ((1, (1, 2, 3), "High Street"), (2, (3, 4), "Low Street")))
     path, into = written(room, "small.osm", f'<osm version="0.6">{nodes}{ways}</osm>'), Path(room) / "roads"
     command = [sys.executable, "-m", "diffuse", "roads", path, into]
-    ran = subprocess.run(command, env={**os.environ, "PYTHONPATH": str(package)}, stdout=subprocess.PIPE, stderr=subprocess.STDOUT, text=True, timeout=60)
+    ran = subprocess.run(command, env={**os.environ, "PYTHONPATH": str(package)}, stdout=subprocess.PIPE, stderr=subprocess.STDOUT, text=True, timeout=PATIENCE)
     if ran.returncode:
         yield f"status {ran.returncode}: {ran.stdout[-300:]}"
         return

@@ -5,6 +5,7 @@ import functools
 import http.client
 import json
 import os
+import random
 import re
 import resource
 import signal
@@ -14,19 +15,19 @@ import threading
 import time
 from pathlib import Path
 
-PATIENCE = 120
+PATIENCE = 600
 GET = b"GET /health HTTP/1.1\r\nHost: here\r\n\r\n"
 ROUTE = "/route?source=1&target=4"
 
 
 class Server:
-    """A server over a graph, on a port that the system chooses; with `prefix`, run by another program, as prlimit."""
+    """A server over a graph, on a port that the system chooses, with much time for its answers; with `prefix`, run by another program, as prlimit."""
 
     program, reader = "diffuse-server", None
 
     def __init__(self, graph, *words, prefix=()):
         self.log, self.ready = [], threading.Event()
-        self.run = subprocess.Popen([*prefix, self.program, graph, "--port", "0", *words], stdout=subprocess.DEVNULL, stderr=subprocess.PIPE, text=True)
+        self.run = subprocess.Popen([*prefix, self.program, graph, "--port", "0", "--timeout", "600", *words], stdout=subprocess.DEVNULL, stderr=subprocess.PIPE, text=True)
         atexit.register(self.run.kill)
         self.reader = threading.Thread(target=self.read_log, daemon=True)
         self.reader.start()
@@ -69,15 +70,22 @@ class Server:
 
         return call
 
+    def send_all(self, *paths):
+        """Connections, on each of which a path has been asked for, and no reply is read."""
+        sockets = [self.connect() for _ in paths]
+        for one, path in zip(sockets, paths):
+            one.sendall(f"GET {path} HTTP/1.1\r\nHost: here\r\n\r\n".encode())
+        return sockets
+
     def answers(self):
         """Whether a route is answered."""
         try:
             return self.ask(ROUTE, client=self.client(timeout=10))[0] == 200
-        except OSError:
+        except (OSError, http.client.HTTPException):
             return False
 
     def counted(self, name):
-        """The sum of a counter or gauge, as the server reports it."""
+        """The sum of counters or gauges whose names begin so, or in one of several ways, as the server reports them."""
         return sum(float(line.split()[-1]) for line in self.ask("/metrics")[1].splitlines() if line.startswith(name))
 
     def logged(self, event):
@@ -90,13 +98,18 @@ class Server:
         self.run.send_signal(name)
 
     def processor_time(self):
-        fields = Path(f"/proc/{self.run.pid}/stat").read_text().rpartition(")")[2].split()
-        return (int(fields[11]) + int(fields[12])) / os.sysconf("SC_CLK_TCK")
+        """By the system's clock of this process, as clock_getcpuclockid numbers it."""
+        return time.clock_gettime(~self.run.pid << 3 | 2)
 
     def cost(self, call):
-        """What a call gives, and the processor time that the server takes meanwhile, which a busy machine does not change."""
+        """What a call gives, and the processor time that the server takes meanwhile: a slow machine makes it longer, a busy one does not."""
         before = self.processor_time()
         return call(), self.processor_time() - before
+
+    def costs(self, calls):
+        """What calls give, and the least processor time that one of them takes."""
+        given, spent = zip(*map(self.cost, calls))
+        return given, min(spent)
 
     def allow_memory(self, more):
         """From now on the server may have so many bytes more than now; None: as many as it wants."""
@@ -105,7 +118,7 @@ class Server:
 
     def is_quiet(self):
         """Whether no request waits or is searched for."""
-        return self.counted("diffuse_searches_running") + self.counted("diffuse_requests_waiting") == 0
+        return self.counted(("diffuse_searches_running", "diffuse_requests_waiting")) == 0
 
     def wait(self):
         """The status with which it ends, when all of its log is read; None if it goes on."""
@@ -135,7 +148,8 @@ class Server:
 
     def raw(self, data, ends=False, wait=PATIENCE):
         """What comes back for some bytes, until the server closes or is silent for a while; `ends`: the client closes its end."""
-        with self.connect(timeout=wait) as one:
+        with self.connect() as one:
+            one.settimeout(wait)
             try:
                 one.sendall(data)
                 if ends:
@@ -154,6 +168,18 @@ def received(one):
     except OSError:
         pass
     return b"".join(parts)
+
+
+def reply_on(one):
+    """One reply, whole, as it comes on a socket; or what comes before that is closed."""
+    text = b""
+    while part := one.recv(65536):
+        text += part
+        head, end, body = text.partition(b"\r\n\r\n")
+        size = re.search(rb"\r\nContent-Length: (\d+)", head)
+        if end and len(body) >= int(size[1] if size else 0):
+            break
+    return text
 
 
 def statuses(text):
@@ -214,6 +240,9 @@ def replace(path, text):
 
 
 def free_port():
-    with socket.socket() as one:
-        one.bind(("127.0.0.1", 0))
-        return one.getsockname()[1]
+    """A port that nobody has, below those that the system gives to connections."""
+    while True:
+        port = random.randint(20000, 32000)
+        with socket.socket() as one, contextlib.suppress(OSError):
+            one.bind(("127.0.0.1", port))
+            return port

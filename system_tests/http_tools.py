@@ -11,11 +11,11 @@ from pathlib import Path
 from common import TOP
 from http_places import written
 from http_requests import TOWN
-from http_server import PATIENCE, Server
+from http_server import PATIENCE, Server, free_port
 
 PAGE = "server/README.md"
 # For a load of one address on a busy machine.
-PATIENT = ("--slow", "1024", "--timeout", "600", "--read", "600")
+PATIENT = ("--slow", "1024", "--read", "600")
 
 
 def by_ab(*connections):
@@ -72,7 +72,7 @@ def pixels(path):
 
 
 def as_shown(room):
-    """The commands of the page, as written."""
+    """The commands of the page, as written, but at a port that is free, and with longer pauses."""
     if shutil.which("curl") is None:
         print("curl is not installed: the page's commands are not run", flush=True)
         return
@@ -80,7 +80,9 @@ def as_shown(room):
     os.symlink(TOP / "examples", f"{room}/examples")
     os.makedirs(f"{room}/INTO", exist_ok=True)
     os.symlink(Server.program, f"{room}/INTO/diffuse-server")
+    port = str(free_port())
     for number, command, lines in pages.commands(PAGE):
-        ran = subprocess.run(["timeout", str(PATIENCE), "bash", "-c", command], cwd=room, stdout=subprocess.PIPE, stderr=subprocess.STDOUT, text=True)
+        tried = command.replace("8180", port).replace("sleep 1", "sleep 5")
+        ran = subprocess.run(["timeout", str(PATIENCE), "bash", "-c", tried], cwd=room, stdout=subprocess.PIPE, stderr=subprocess.STDOUT, text=True)
         if ran.returncode or ran.stdout.splitlines() != lines:
             yield f"{PAGE}:{number}: {command}: status {ran.returncode} and\n{ran.stdout}"

@@ -81,7 +81,7 @@ def by_workers(plan):
     cases = {order: [case for case in plan.engine.values() if case.best_first == order and list(case.settings.values())[1:] == [16, 5, 1024]]
              for order in (False, True)}
     workers = [case.settings["workers"] for case in cases[False]]
-    panel = Panel(75, "Wall time of five sources", "workers (16 shards, width 5; {:,} vertices)".format(cases[False][0].files.vertices), workers, str)
+    panel = Panel(75, "Five questions: time on the clock", "worker threads ({:,} vertices, 16 shards, width 5)".format(cases[False][0].files.vertices), workers, str)
     one_thread = [plan.batches[FIVE_IN_TURN].median("diffuse", WALL)] * len(workers)
     for style, times in ((WORKERS, medians(cases[False], "diffuse", WALL)), (SAME_RULE, medians(cases[False], DIFFUSING, WALL)),
                          (BEST, medians(cases[True], "diffuse", WALL)), (PLAIN, one_thread), (HEAP, medians(cases[False], BASELINE, WALL))):
@@ -100,7 +100,7 @@ def by_vertices(plan):
     def motorways(order):
         return [case for case in plan.engine_growth if case.files.kind and case.best_first == order]
 
-    panel = Panel(480, "Processor time of one source", "vertices (2.5 arcs a vertex; workers: 1, with motorways)",
+    panel = Panel(480, "One question: processor time by size of graph", "vertices (2.5 arcs a vertex; workers: 1, with motorways)",
                   [case.files.vertices for case in plan.growth], short)
     for style, cases, name in ((WORKERS, motorways(False), "diffuse"), (SAME_RULE, motorways(False), DIFFUSING), (BEST, motorways(True), "diffuse"),
                                (PLAIN, plan.growth, "diffuse"), (HEAP, plan.growth, BASELINE)):
@@ -110,7 +110,7 @@ def by_vertices(plan):
 
 def by_pairs(cases, left):
     """The time of `solve` by pairs over one graph, in all."""
-    panel = Panel(left, "Processor time of pairs", "pairs (%s)" % cases[0].files.name, [case.count() for case in cases], "{:,}".format)
+    panel = Panel(left, "Routes between pairs: processor time in all", "number of pairs (%s)" % cases[0].files.name, [case.count() for case in cases], "{:,}".format)
     for style, name in ((BY_FACTORS, FACTORS), (PLAIN, "diffuse"), (HEAP, BASELINE)):
         panel.add(style, [(case.count(), case.median(name, TIME)) for case in cases])
     return panel

@@ -47,7 +47,7 @@ SMALL = [
     ("services", ["Graph and pairs", "How"], [(SERVED, head, head) for head in ("Pairs a second", "Wall time a pair", "First answer after",
                                                                                 "Peak memory")],
      [((f"{graph}, {pairs} pairs by services", way), (f"{graph}, {pairs} pairs", way)) for graph, pairs, way in SERVICES]),
-    ("libraries", ["Graph", "Library"], [(LIBRARIES, head, head) for head in ("Open", "Tree", "Route", "Graph, MB")],
+    ("libraries", ["Graph", "Library"], [(LIBRARIES, head, head) for head in ("Open", "Tree", "Route", "100 near routes", "Graph, MB")],
      [((graph, name), (graph, name)) for graph in (NEW_YORK, FLORIDA) for name in SHARED]),
     ("workers", ["Workers", "Shards", "Width", "Order"], [(WORKERS, head, head) for head in (
         "Messages an arc", "Processor time", "Wall time", "Time to plain C++")],

@@ -196,9 +196,8 @@ enum diffuse_status diffuse_graph_route(struct diffuse_graph *graph, enum diffus
 DIFFUSE_CHECKED((1))
 enum diffuse_status diffuse_graph_number(struct diffuse_graph *graph, const struct diffuse_arc *arcs, size_t n_arcs);
 
-/* What diffuse_graph_route writes, and the numbers of the hops arcs that the route takes: at each step, of the arcs that lead to
-   its next vertex, the one that makes the best of its value so far, and of those that do the one with the least number. So the code
-   is that of these arcs. The places after them are left as they are. If the room is shorter than hops + 1, or the places for arcs are
+/* What diffuse_graph_route writes, and the numbers of the hops arcs that the route takes: where parallel arcs join two
+   vertices of the route, the one that gives the best value, and of equally good ones the one with the least number. The places after them are left as they are. If the room is shorter than hops + 1, or the places for arcs are
    fewer than hops, code and hops are written all the same, and neither list is. The handle of a graph that was opened by
    diffuse_graph_reweigh has no numbers until it is numbered.
    CLOSED, NO_NUMBERS, NO_VERTEX, NO_ALGEBRA, MEMORY, STOPPED, NO_ROUTE, NO_ROOM or DONE. */

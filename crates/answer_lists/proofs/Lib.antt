@@ -1,10 +1,8 @@
-mod Costs
 mod Filling
 mod Judged
 mod NearLines
 mod NearListed
 mod Spelled
 mod Tabling
-mod RouteArcs
-mod SameFactors
 mod Telling
+mod RouteArcs

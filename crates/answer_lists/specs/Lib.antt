@@ -5,6 +5,5 @@ pub mod KeptTree
 pub mod Near
 pub mod Reweighing
 pub mod Route
-pub mod Sharing
 pub mod Table
 pub mod Tree

@@ -5,6 +5,7 @@ ghost use Rattle.command_files.specs.Opening.{CannotCreate, CreatesIf, IsAmong, 
 use crate::files::FileSystem;
 use crate::opening::STDIN_NAME;
 use crate::refusal::Refusal;
+use crate::watching::Watching;
 use batch_inputs::{WRITE, fault_of_run};
 use command_args::WatchOptions;
 
@@ -32,15 +33,20 @@ pub fn create_accounts<P: FileSystem>(
     files: &mut P,
     options: &WatchOptions<'_>,
     others: &[&str],
-) -> Result<Option<P::NewFile>, Refusal>
-    ensures creates { IfOk result (λ accounts. CreatesIf P.creates P.tells_same
+) -> Result<Watching<P::NewFile>, Refusal>
+    ensures creates { IfOk result (λ w. CreatesIf P.creates P.tells_same
         (map (λ name. name.now) others.now) (accounts_name options.now) files.old files.new) }
-    ensures wanted { IfOk result (λ accounts. IsSome accounts ↔ IsSome options.now.accounts) }
+    ensures wanted { IfOk result (λ w. IsSome w.accounts ↔ IsSome options.now.accounts) }
+    ensures progress { IfOk result (λ w. w.progress ≡ options.now.progress) }
     ensures refused { IfErr result (CannotCreate P.creates P.tells_same
         (map (λ name. name.now) others.now) (accounts_name options.now) files.old files.new) }
 {
+    let progress = options.progress;
     let Some(name) = options.accounts else {
-        return Ok(None);
+        return Ok(Watching {
+            accounts: None,
+            progress,
+        });
     };
     if name == STDIN_NAME {
         return Err(Refusal::NoFile);
@@ -49,7 +55,10 @@ pub fn create_accounts<P: FileSystem>(
         return Err(Refusal::FileTaken);
     }
     match files.create(name) {
-        Ok(file) => Ok(Some(file)),
+        Ok(file) => Ok(Watching {
+            accounts: Some(file),
+            progress,
+        }),
         Err(_) => Err(Refusal::Fault(fault_of_run(WRITE))),
     }
 }

@@ -4,15 +4,15 @@ ghost use Rattle.program.specs.Commands.{DoesBundle, DoesCheck, DoesServe, DoesS
 ghost use Rattle.command_files.specs.Moments.{moment};
 ghost use Rattle.program.specs.Ordering.{DoesOrder};
 
-use crate::answering::{answer, serve_chosen};
+use crate::answering::{answer, answer_pair, serve_chosen};
 use crate::judging::{end_check, judge};
 use crate::method::Method;
 use crate::ordering::order_input;
-use batch_run::{BundleInput, OrderedInput, PairInput};
+use batch_run::BundleInput;
 use command_args::{BundleArgs, CheckArgs, OrderArgs, ServeArgs, SolveArgs};
 use command_files::{
-    ERRORS_NAME, FileSystem, Host, OUTPUT_NAME, STDIN_NAME, choose, open_pair, open_to_bundle,
-    open_to_check, open_to_order, refuse,
+    ERRORS_NAME, FileSystem, Host, OUTPUT_NAME, STDIN_NAME, choose, create_accounts,
+    open_to_bundle, open_to_check, open_to_order, open_to_serve, open_to_solve, refuse, show_times,
 };
 use fault_reports::end_with;
 use std::sync::Wait;
@@ -35,13 +35,13 @@ pub fn solve<'t, R: AllocGlobal + Threads + Wait + Sync, P: FileSystem, W: RoadW
         Err(refusal) => return refuse(&mut host.errors, refusal),
     };
     host.files.measure(args.watching.times);
-    let (mut graph, mut questions, mut order) = match open_pair(
-        &mut host.files,
-        args.graph,
-        args.questions,
-        &args.options,
-    ) {
+    let (mut graph, mut questions, mut order) = match open_to_solve(&mut host.files, args) {
         Ok(opened) => opened,
+        Err(refusal) => return refuse(&mut host.errors, refusal),
+    };
+    let taken = [args.graph, args.questions, OUTPUT_NAME, ERRORS_NAME];
+    let mut watching = match create_accounts(&mut host.files, &args.watching, &taken) {
+        Ok(watching) => watching,
         Err(refusal) => return refuse(&mut host.errors, refusal),
     };
     let method = Method {
@@ -50,16 +50,16 @@ pub fn solve<'t, R: AllocGlobal + Threads + Wait + Sync, P: FileSystem, W: RoadW
         settings: &args.options.settings,
         chosen,
     };
-    let mut pair = PairInput {
-        graph: &mut graph,
-        questions: &mut questions,
-    };
-    let mut input = OrderedInput {
-        input: &mut pair,
-        order: &mut order,
-    };
-    let taken = [args.graph, args.questions, OUTPUT_NAME, ERRORS_NAME];
-    answer(&method, &mut input, host, &args.watching, &taken)
+    let status = answer_pair(
+        &method,
+        &mut graph,
+        &mut questions,
+        &mut order,
+        host,
+        &mut watching,
+    );
+    show_times(host, args.watching.times, status);
+    status
 }
 
 /// Answers the bundle on standard input. An order, if one is named, is opened, and the file of
@@ -83,19 +83,21 @@ pub fn bundle<
         Ok(opened) => opened,
         Err(refusal) => return refuse(&mut host.errors, refusal),
     };
+    let taken = [STDIN_NAME, OUTPUT_NAME, ERRORS_NAME];
+    let mut watching = match create_accounts(&mut host.files, &args.watching, &taken) {
+        Ok(watching) => watching,
+        Err(refusal) => return refuse(&mut host.errors, refusal),
+    };
     let method = Method {
         rt,
         alloc: rt.alloc(),
         settings: &args.options.settings,
         chosen,
     };
-    let mut bundle = BundleInput { bundle: &mut text };
-    let mut input = OrderedInput {
-        input: &mut bundle,
-        order: &mut order,
-    };
-    let taken = [STDIN_NAME, OUTPUT_NAME, ERRORS_NAME];
-    answer(&method, &mut input, host, &args.watching, &taken)
+    let mut input = BundleInput { bundle: &mut text };
+    let status = answer(&method, &mut input, &mut order, host, &mut watching);
+    show_times(host, args.watching.times, status);
+    status
 }
 
 /// Replies to the requests of standard input over the graph of a file, which is opened first, and
@@ -112,12 +114,7 @@ pub fn serve<'t, R: AllocGlobal + Threads + Wait + Sync, P: FileSystem, W: RoadW
         Ok(chosen) => chosen,
         Err(refusal) => return refuse(&mut host.errors, refusal),
     };
-    let (mut graph, mut requests, mut order) = match open_pair(
-        &mut host.files,
-        args.graph,
-        STDIN_NAME,
-        &args.options,
-    ) {
+    let (mut graph, mut requests, mut order) = match open_to_serve(&mut host.files, args) {
         Ok(opened) => opened,
         Err(refusal) => return refuse(&mut host.errors, refusal),
     };

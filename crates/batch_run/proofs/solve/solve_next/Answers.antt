@@ -30,7 +30,7 @@ returns-in-Ok g c =
         after = tt;
         solved = over (λ r. IsSolvedFor (g.A.PathAlgebra.meaning batch.algebra) r (asked_of batch.questions.now) c.args.i c.in-Ok.solved.now) _ (graph_of c.args.solver.now)
             (rw (c.task.ensures.algebra, c.task.ensures.questions) at c.in-Ok.ensures.solved) (search rules);
-        undiffused = λ _. tt;
+        plain = λ _. tt;
         stops = tt;
         reported = λ d. none_due (g.A.PathAlgebra.meaning batch.algebra) batch.run.now.settings.now (graph_of c.args.solver.now) g.O.Watcher.may_become (is_without_diffusions c.args.solver.now) kind (c.args.i + 1)
             (get_or (asked_of batch.questions.now).questions c.args.i d) _;
@@ -44,7 +44,7 @@ returns-in-Err g c =
       record {
         after = tt;
         solved = tt;
-        undiffused = λ _. refl;
+        plain = λ _. refl;
         stops = inl refl;
         reported = λ _. prefix_none _ _ _ _ _ _;
       },
@@ -67,7 +67,7 @@ returns-in-Ok-solve_next_by_factors g c =
         after = tt;
         solved = over (λ r. IsSolvedFor (g.A.PathAlgebra.meaning batch.algebra) r (asked_of batch.questions.now) c.args.i c.in-Ok-solve_next_by_factors.solved.now) _ (graph_of c.args.solver.now)
             (rw (c.task-in-Factors.ensures.algebra, c.task-in-Factors.ensures.questions) at c.in-Ok-solve_next_by_factors.ensures.solved) (search rules);
-        undiffused = λ _. tt;
+        plain = λ _. tt;
         stops = tt;
         reported = λ d. none_due (g.A.PathAlgebra.meaning batch.algebra) batch.run.now.settings.now (graph_of c.args.solver.now) g.O.Watcher.may_become (is_without_diffusions c.args.solver.now) kind (c.args.i + 1)
             (get_or (asked_of batch.questions.now).questions c.args.i d) _;
@@ -81,7 +81,7 @@ returns-in-Err-solve_next_by_factors g c =
       record {
         after = tt;
         solved = tt;
-        undiffused = λ _. refl;
+        plain = λ _. refl;
         stops = inl refl;
         reported = λ _. prefix_none _ _ _ _ _ _;
       },
@@ -108,7 +108,7 @@ returns-in-Workers g c =
       record {
         after = tt;
         solved = over (λ r. IfOk result (λ s. IsSolvedFor A r asked c.args.i s.now)) _ roads by_workers.solved (search rules);
-        undiffused = λ e. absurd (false≢true (sym kind ∙ e));
+        plain = λ e. absurd (false≢true (sym kind ∙ e));
         stops = search rules;
         reported = λ d. subst (λ (b : Bool). ReportedAllOrPrefix A batch.run.now.settings.now roads g.O.Watcher.may_become (accounts_due b (c.args.i + 1) (get_or asked.questions c.args.i d)) c.args.watcher.now c.solve_next_by_workers.new.watcher result) (sym kind)
             (over (λ r. ReportedAllOrPrefix A batch.run.now.settings.now r g.O.Watcher.may_become (accounts_due false (c.args.i + 1) (get_or asked.questions c.args.i d)) c.args.watcher.now c.solve_next_by_workers.new.watcher result) _ roads

@@ -84,11 +84,7 @@ fn order_of(rt: &(impl Abort + AllocGlobal), number: usize) -> Order {
 }
 
 /// A graph that is factored by an order.
-fn factored(
-    rt: &(impl Abort + AllocGlobal),
-    graph: &Graph,
-    order: &Order,
-) -> Factors<CountedSums> {
+fn factored(rt: &(impl Abort + AllocGlobal), graph: &Graph, order: &Order) -> Factors<CountedSums> {
     let roads = graph.outgoing();
     assert!(rt; order.vertices.len() == roads.vertices() as usize);
     Factors::by_order(rt.alloc(), sums(rt), roads, order).expect(rt, "memory")

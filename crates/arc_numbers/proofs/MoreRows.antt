@@ -9,9 +9,6 @@ use Rattle.road_graph.specs.GraphData.{GraphData, ListsArcsFrom}
 use Rattle.road_graph.specs.Making.{HasRow}
 use Rattle.arc_numbers.specs.Rows.{AreRowsFrom, IsRowFrom}
 
-pub no_rows : (g : GraphData) → AreRowsFrom g 0 (0 ∷ []) []
-no_rows g = record { count = refl; last = refl; rows = λ v low high. absurd (omega (arith, low, high)) }
-
 module _ (g : GraphData) (n : ℕ) (starts numbers row : List ℕ) (end : ℕ) (ends : end ≡ length numbers + length row) where
   abbrev longer : List ℕ
   longer = starts ++ end ∷ []

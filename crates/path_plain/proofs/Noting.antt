@@ -13,12 +13,6 @@ abbrev pub IsOn : Option (List ℕ) → ℕ → Type 0
 IsOn None v = ⊤
 IsOn (Some list) v = Contains list v
 
-pub same_notes : (touched : Option (List ℕ)) (is_new : Bool) (v : ℕ) → is_some (noted_if is_new touched v) ≡ is_some touched
-same_notes None true v = refl
-same_notes None false v = refl
-same_notes (Some list) true v = refl
-same_notes (Some list) false v = refl
-
 -- no vertex of a blank search is touched
 pub noted_blank : (V : Type 0) (n : ℕ) (touched : Option (List ℕ)) → noted_list touched ≡ [] → IsNoted {V = V} n touched (replicate n None) (replicate n false)
 noted_blank V n None e = tt

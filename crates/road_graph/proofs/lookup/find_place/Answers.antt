@@ -4,10 +4,6 @@ use Rattle.road_graph.specs.GraphData.{IsAscendingFrom}
 use Rattle.road_graph.proofs.Places.{has_in_row, stands_in_row}
 use Rattle.road_graph.proofs.lookup.find_place.Goals as goal
 
-pub row_of-requires : goal.row_of-requires
-row_of-requires c = (has_in_row c.args.graph.now c.starts-starts.result.now c.args.numbers.now
-    (c.starts-starts.ensures.all c.args.numbers.now c.requires.numbers) c.holds.ensures c.args.a c.args.tail c.requires.arc c.requires.tail).0
-
 pub place_of-requires-clause-ascending : goal.place_of-requires-clause-ascending
 place_of-requires-clause-ascending c =
     subst (λ (xs : List ℕ). IsAscendingFrom 0 xs) (sym c.row_of.ensures)

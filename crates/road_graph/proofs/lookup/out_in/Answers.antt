@@ -1,13 +1,7 @@
 use Rattle.std.proofs.Common.{◌-◌, List, ℕ, refl, subst, sym, get_or}
 use Rattle.road_graph.specs.GraphData.{ListsArcsFrom}
-use Rattle.road_graph.specs.declared.Side.TheVariants.{Tail}
-use Rattle.road_graph.proofs.Places.{has_row}
 use Rattle.road_graph.proofs.Reading.{row_lists_from}
 use Rattle.road_graph.proofs.lookup.out_in.Goals as goal
-
-pub row_of-requires : goal.row_of-requires
-row_of-requires c = has_row Tail c.args.graph.now.vertices c.args.graph.now.arcs c.starts.result.now c.args.numbers.now
-    (c.starts.ensures.all c.args.numbers.now c.requires.numbers) c.args.v c.requires.vertex.0 c.requires.vertex.1
 
 pub returns : goal.returns
 returns c = subst (λ (xs : List ℕ). ListsArcsFrom c.args.graph.now c.args.v xs) (sym c.row_of.ensures)

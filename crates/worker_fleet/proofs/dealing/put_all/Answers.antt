@@ -3,12 +3,6 @@ use Rattle.std.specs.Vec.Iter.{into_iter_items}
 use Rattle.worker_fleet.proofs.PushedAt.{put_step, put_none}
 use Rattle.worker_fleet.proofs.dealing.put_all.Goals as goal
 
-pub push_at-requires : goal.push_at-requires
-push_at-requires g c =
-    let h = c.loop-group.invariant.within 0 (c.in-Some.group, c.in-Some.thing) in
-    let step = c.in-Some.ensures.steps in
-    grind rules
-
 pub loop-group-preserved : goal.loop-group-preserved
 loop-group-preserved g c =
     let was = c.loop-group.invariant in

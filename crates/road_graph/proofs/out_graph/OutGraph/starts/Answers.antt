@@ -1,7 +1,7 @@
 use Rattle.std.proofs.Common.{◌≡◌, ℕ, List, subst, sym}
 use Rattle.road_graph.specs.declared.Side.TheVariants.{Tail}
 use Rattle.road_graph.specs.GraphData.{GraphData}
-use Rattle.road_graph.specs.Making.{AreRows, AreNumbers, AreRowStarts}
+use Rattle.road_graph.specs.Making.{AreRows, AreNumbers}
 use Rattle.road_graph.proofs.OneRows.{with_starts}
 use Rattle.road_graph.proofs.out_graph.OutGraph.starts.Goals as goal
 
@@ -13,10 +13,3 @@ returns-clause-all c = λ (numbers : List ℕ) are.
     subst (λ (xs : List ℕ). AreRows Tail c.args.self.now.vertices c.args.self.now.arcs xs numbers) (sym c.as_slice.ensures.value)
     (subst (λ (h : GraphData). AreRows Tail h.vertices h.arcs c.self.inside.starts.items numbers) is
     (with_starts G c.self.inside.starts.items c.self.inside.roads.items c.self.invariant.1 numbers here))
-
-pub returns-clause-some : goal.returns-clause-some
-returns-clause-some c =
-    let G : GraphData = record { vertices = c.self.inside.vertices; arcs = c.self.inside.arcs.value.items } in
-    let is : G ≡ c.args.self.now = c.self.view_is in
-    let here : AreRowStarts Tail G c.self.inside.starts.items = (c.self.invariant.1.numbers, c.self.invariant.1.rows) in
-    subst (λ (xs : List ℕ). AreRowStarts Tail c.args.self.now xs) (sym c.as_slice.ensures.value) (subst (λ (h : GraphData). AreRowStarts Tail h c.self.inside.starts.items) is here)

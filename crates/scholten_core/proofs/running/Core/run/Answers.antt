@@ -1,5 +1,4 @@
 use Rattle.std.proofs.Common.{arith, ◌≡◌, ◌+◌, ap, ◌∙◌, sym, cond}
-use Rattle.std.proofs.lemmas.Grind.{common_steps}
 use Rattle.scholten_core.proofs.CoreSteps.{run_more, run_bound}
 use Rattle.scholten_core.proofs.running.Core.run.Goals as goal
 use Rattle.scholten_core.proofs.running.Core.run.Goals.{then-apply, else-apply}
@@ -16,6 +15,3 @@ loop-event-preserved g c =
       | then-apply w ↦ w.enabled-is ∙ ap (λ b. c.loop-event.enabled + cond b 1 0) (sym w.if-apply.true)
       | else-apply w ↦ w.enabled-is ∙ (let z : c.loop-event.enabled ≡ c.loop-event.enabled + 0 = omega arith in z) ∙ ap (λ b. c.loop-event.enabled + cond b 1 0) (sym w.if-apply.false)
     ])
-
-pub loop-event-init : goal.loop-event-init
-loop-event-init g c = grind (arith, common_steps)

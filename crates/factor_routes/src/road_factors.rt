@@ -11,7 +11,7 @@ use elimination_order::{
     Care, Counts, Order, Ordered, approximate_minimum_degree, nested_dissection,
 };
 use path_algebra::{Cost, CountedSums};
-use path_factors::{Asker, Factors};
+use path_factors::{Asker, Factors, Links};
 use road_graph::{InGraph, Memory, OutGraph};
 use std::alloc::Global;
 use std::marker::Model;
@@ -92,8 +92,8 @@ impl RoadFactors {
         }
     }
 
-    /// The factors of a graph by an order of its vertices. Any order gives the same answers, a good
-    /// one few links. `by_head` is the same graph, with its arcs by head.
+    /// The factors of a graph by an order of its vertices, with all of their links or those needed.
+    /// Any order gives the same answers, a good one few links. `by_head` is the same graph, with its arcs by head.
     ///
     /// # Errors
     /// `Heavy` as of `of`; never `Dense`.
@@ -103,6 +103,7 @@ impl RoadFactors {
         graph: &OutGraph,
         by_head: &InGraph,
         order: &Order,
+        links: Links,
     ) -> Result<RoadFactors, Unfactored>
         requires same { by_head.now ≡ graph.now }
         requires order { length order.now.vertices.items ≡ graph.now.vertices }
@@ -115,7 +116,7 @@ impl RoadFactors {
         let Some(sums) = fitting_sums(cost, by_head) else {
             return Err(Unfactored::Heavy);
         };
-        match Factors::by_order(alloc, sums, graph, order) {
+        match Factors::by_order(alloc, sums, graph, order, links) {
             Ok(factors) => Ok(RoadFactors { sums, factors }),
             Err(Memory) => Err(Unfactored::Memory),
         }
@@ -143,7 +144,7 @@ impl RoadFactors {
             IsTooDense graph.now.vertices (length graph.now.arcs) c) }
     {
         let (order, _) = RoadFactors::seek_order(alloc, cost, graph, by_head, Some(Care::Fast))?;
-        RoadFactors::by_order(alloc, cost, graph, by_head, &order)
+        RoadFactors::by_order(alloc, cost, graph, by_head, &order, Links::Needed)
     }
 
     /// What holds of every factored graph. Nothing is computed.

@@ -1,7 +1,7 @@
 //! Factors of a graph over the links of another with the same arcs.
 use elimination_order::{Order, OrderBuilder};
 use path_algebra::{Cost, CountedSums, Labels};
-use path_factors::{Factors, Unfit};
+use path_factors::{Factors, Links, Unfit};
 use path_trials::{FIVE, made};
 use road_graph::{Graph, Vertex};
 use std::process::Abort;
@@ -87,7 +87,7 @@ fn order_of(rt: &(impl Abort + AllocGlobal), number: usize) -> Order {
 fn factored(rt: &(impl Abort + AllocGlobal), graph: &Graph, order: &Order) -> Factors<CountedSums> {
     let roads = graph.outgoing();
     assert!(rt; order.vertices.len() == roads.vertices() as usize);
-    Factors::by_order(rt.alloc(), sums(rt), roads, order).expect(rt, "memory")
+    Factors::by_order(rt.alloc(), sums(rt), roads, order, Links::Needed).expect(rt, "memory")
 }
 
 /// The first five labels.
@@ -98,6 +98,17 @@ fn five(rt: &impl Abort, labels: &Labels<u64>) -> Five {
         found[i] = labels.of(Vertex(i as u32 + 1));
     }
     found
+}
+
+/// Asserts the labels of a graph that is factored with all links.
+fn assert_whole(rt: &(impl Abort + AllocGlobal), graph: &Graph, order: &Order, wanted: &Five) {
+    let roads = graph.outgoing();
+    assert!(rt; graph.has(Vertex(1)) && order.vertices.len() == roads.vertices() as usize);
+    let factors = Factors::by_order(rt.alloc(), sums(rt), roads, order, Links::All);
+    let labels = factors
+        .expect(rt, "memory")
+        .solve_by(rt.alloc(), &[Vertex(1)]);
+    assert!(rt; five(rt, &labels.expect(rt, "memory")) == *wanted);
 }
 
 /// Asserts what comes of reweighing factors for a graph.
@@ -119,16 +130,19 @@ fn assert_reweighed(
     }
 }
 
-/// Asserts what comes of reweighing one graph for another, in all orders.
+/// Asserts the labels of a graph with all links, and what comes of reweighing another for it, in all
+/// orders.
 fn assert_in_all_orders(
     rt: &(impl Abort + AllocGlobal),
     one: &Graph,
     other: &Graph,
-    wanted: &Result<Five, Unfit>,
+    wanted: &Five,
 ) {
     for number in 0..120 {
-        let factors = factored(rt, one, &order_of(rt, number));
-        assert_reweighed(rt, &factors, other, wanted);
+        let order = order_of(rt, number);
+        assert_whole(rt, other, &order, wanted);
+        let factors = factored(rt, one, &order);
+        assert_reweighed(rt, &factors, other, &Ok(*wanted));
     }
 }
 
@@ -136,7 +150,7 @@ fn assert_in_all_orders(
 fn five_vertices_reweighed_in_all_orders(rt: HostRuntime) {
     for (one, other, labels) in &REWEIGHED {
         let (one, other) = (five_of(&rt, one), five_of(&rt, other));
-        assert_in_all_orders(&rt, &one, &other, &Ok(*labels));
+        assert_in_all_orders(&rt, &one, &other, labels);
     }
 }
 
@@ -150,7 +164,8 @@ fn with_arc(rt: &(impl Abort + AllocGlobal), n: u32, arc: (u32, u32, u32)) -> Gr
 /// not joined has none. What was refused changes nothing.
 #[test]
 fn an_arc_with_no_link_is_refused(rt: HostRuntime) {
-    let factors = factored(&rt, &five_of(&rt, &ONE), &order_at(&rt, &[1, 2, 3, 4, 0]));
+    let order = order_at(&rt, &[1, 2, 3, 4, 0]);
+    let factors = factored(&rt, &five_of(&rt, &ONE), &order);
     let back = Ok([Some(0), Some(26), Some(9), Some(67), None]);
     let beside = Ok([Some(0), Some(9), Some(9), Some(50), None]);
     for (n, arc, wanted) in &[

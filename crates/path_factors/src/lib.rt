@@ -29,4 +29,5 @@ mod weighing;
 pub use asker::Asker;
 pub use factors::Factors;
 pub use link::Link;
+pub use prune::Links;
 pub use reweigh::Unfit;

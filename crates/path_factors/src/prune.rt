@@ -14,6 +14,15 @@ use road_graph::Memory;
 use std::alloc::Global;
 use std::snapshot::Snapshot;
 
+/// Which links a factor keeps.
+#[derive(Clone, Copy, Debug, PartialEq, Eq)]
+pub enum Links {
+    /// All: it is made sooner.
+    All,
+    /// Those that no way over others replaces: it answers sooner.
+    Needed,
+}
+
 /// Whether another edge of a place is marked and the ways over its end are no worse than an edge,
 /// both ways; `end` is the edge from there to the end of the edge.
 fn is_bypassed<A: ComposingAlgebra>(
@@ -111,7 +120,7 @@ impl<'g, A: ComposingAlgebra> Weighing<'g, A> {
     }
 
     /// Marks edges of a place that do for all.
-    fn mark(&self, marks: &mut Vec<bool>, v: usize) -> Result<(), Memory>
+    fn mark(&self, marks: &mut Vec<bool>, v: usize, links: Links) -> Result<(), Memory>
         requires { v < self.now.roads.vertices }
         ensures marks { OnOk result
             (length marks.new.items ≡ length (row_of self.now.factor.leaving v)) }
@@ -121,6 +130,9 @@ impl<'g, A: ComposingAlgebra> Weighing<'g, A> {
         let count = self.count(v);
         marks.clear();
         marks.resize(count, true)?;
+        if let Links::All = links {
+            return Ok(());
+        }
         for i in 0..count {
             self.choose_after(marks, v, i);
         }
@@ -128,7 +140,7 @@ impl<'g, A: ComposingAlgebra> Weighing<'g, A> {
     }
 
     /// The marked edges of all places.
-    fn thinned(&self, alloc: Global) -> Result<PackedRows<A::Walk>, Memory>
+    fn thinned(&self, alloc: Global, links: Links) -> Result<PackedRows<A::Walk>, Memory>
         ensures { IfOk result (λ rows. AreThinTo (A.meaning self.now.algebra)
             (A.walks self.now.algebra) self.now.factor self.now.roads.vertices rows) }
     {
@@ -138,15 +150,15 @@ impl<'g, A: ComposingAlgebra> Weighing<'g, A> {
         let mut marks: Vec<bool> = Vec::new(alloc);
         let mut rows = PackedRows::new(alloc, n, self.rows.edges())?;
         for v in 0..n {
-            self.mark(&mut marks, v)?;
+            self.mark(&mut marks, v, links)?;
             rows = rows.push_marked(&self.rows, v, &marks)?;
         }
         Ok(rows)
     }
 
-    /// The factor without the edges that others do for, once each arc has a walk at its link and
-    /// each place is eliminated.
-    pub(crate) fn prune(self, alloc: Global) -> Result<Factors<A>, Memory>
+    /// The factor with all edges, or without those that others do for, once each arc has a walk at
+    /// its link and each place is eliminated.
+    pub(crate) fn prune(self, alloc: Global, links: Links) -> Result<Factors<A>, Memory>
         requires covers { CoversArcs (A.walks self.algebra) self.roads self.factor }
         requires closed { AreClosedTo (A.walks self.algebra) self.factor self.roads.vertices }
         ensures algebra { IfOk result (λ f. f.algebra ≡ self.entry.algebra) }
@@ -155,7 +167,7 @@ impl<'g, A: ComposingAlgebra> Weighing<'g, A> {
     {
         self.holds();
         laws_hold(self.algebra);
-        let rows = self.thinned(alloc)?;
+        let rows = self.thinned(alloc, links)?;
         Ok(Factors {
             algebra: self.algebra,
             graph: Snapshot::of(self.graph),

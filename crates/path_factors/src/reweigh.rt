@@ -1,13 +1,15 @@
 //! A graph is factored over the links of another one: the same order, other weights.
 ghost use Rattle.std.specs.Prelude.{◌≡◌, IfOk, IfErr};
 ghost use Rattle.std.specs.Arc.{arc_value};
-ghost use Rattle.path_factors.specs.Factors.{ArePlaces};
+ghost use Rattle.path_factors.specs.Factors.{ArePlaces, CoversArcs};
 ghost use Rattle.path_factors.specs.Edges.{AreBlank};
+ghost use Rattle.path_factors.specs.Eliminating.{AreClosedTo};
 ghost use Rattle.path_factors.specs.Heads.{IsOutline, heads_in};
 ghost use Rattle.path_factors.specs.Reweighing.{Fits, IsReason, JoinsNoOthers};
 
 use crate::factors::Factors;
 use crate::packed::PackedRows;
+use crate::prune::Links;
 use crate::weighing::Weighing;
 use elimination_order::Order;
 use path_algebra::{ComposingAlgebra, composition_holds};
@@ -53,28 +55,30 @@ impl<'g, A: ComposingAlgebra> Weighing<'g, A> {
         }
     }
 
-    /// The factor of a graph by an order, over rows with its outline and no walk at any link.
+    /// A weighing of a graph by an order, over rows with its outline and no walk at any link, once
+    /// each place is eliminated.
     pub(crate) fn weigh(
-        alloc: Global,
         algebra: A,
         graph: &'g OutGraph,
         order: Arc<Snapshot<Order>>,
         places: Vec<u32>,
         rows: PackedRows<A::Walk>,
-    ) -> Result<Factors<A>, Memory>
+    ) -> Self
         requires places { ArePlaces graph.now.vertices (arc_value order).value.vertices.items places.items }
         requires outline { IsOutline graph.now places.items (heads_in rows.leaving) }
         requires risers { AreBlank (A.walks algebra).no_walk rows.leaving }
         requires fallers { AreBlank (A.walks algebra).no_walk rows.entering }
-        ensures algebra { IfOk result (λ f. f.algebra ≡ algebra) }
-        ensures roads { IfOk result (λ f. f.roads ≡ graph.now) }
-        ensures order { IfOk result (λ f. f.factor.order ≡ (arc_value order).value.vertices.items) }
+        ensures algebra { result.algebra ≡ algebra }
+        ensures roads { result.roads ≡ graph.now }
+        ensures order { result.factor.order ≡ (arc_value order).value.vertices.items }
+        ensures covers { CoversArcs (A.walks result.algebra) result.roads result.factor }
+        ensures closed { AreClosedTo (A.walks result.algebra) result.factor result.roads.vertices }
     {
         composition_holds(algebra);
         let mut weighing = Weighing::open(algebra, graph, order, places, rows);
         weighing.load();
         weighing.eliminate_all();
-        weighing.prune(alloc)
+        weighing
     }
 }
 
@@ -107,6 +111,10 @@ impl<A: ComposingAlgebra> Factors<A> {
         let places = self.places.to_vec(alloc)?;
         let heads = self.heads.copy(alloc)?;
         let rows = PackedRows::blank(alloc, heads, algebra.no_walk())?;
-        Ok(Ok(Weighing::weigh(alloc, algebra, graph, order, places, rows)?))
+        let factors = Weighing::weigh(algebra, graph, order, places, rows).prune(
+            alloc,
+            Links::Needed,
+        )?;
+        Ok(Ok(factors))
     }
 }

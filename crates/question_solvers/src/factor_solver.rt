@@ -6,10 +6,12 @@ ghost use Rattle.elimination_order.specs.Bounds.{AreWithinBounds, IsTooDense};
 ghost use Rattle.elimination_order.specs.declared.counts.Counts.{Counts};
 ghost use Rattle.question_solvers.specs.declared.factor_solver.NoFactors.TheVariants.{Dense, Heavy};
 
+use crate::order_care::links_for;
 use crate::plain_solver::PlainSolver;
 use elimination_order::{Care, Counts, Order};
 use factor_routes::{RoadFactors, RouteAsker, Unfactored};
 use path_algebra::{Cost, PathAlgebra};
+use path_factors::Links;
 use road_graph::{InGraph, Memory, OutGraph};
 use std::alloc::Global;
 
@@ -22,29 +24,12 @@ pub(crate) struct Factored {
 }
 
 impl Factored {
-    /// The factors of a graph for what arcs cost, by an order of its vertices. `by_head` is the
-    /// same graph, with its arcs by head.
-    pub(crate) fn by_order(
-        alloc: Global,
-        cost: Cost,
-        graph: &OutGraph,
-        by_head: &InGraph,
-        order: &Order,
-    ) -> Result<Factored, Unfactored>
-        requires same { by_head.now ≡ graph.now }
-        requires order { length order.now.vertices.items ≡ graph.now.vertices }
-        ensures roads { IfOk result (λ f. f.factors.roads ≡ graph.now) }
-        ensures cost { IfOk result (λ f. f.factors.algebra.cost ≡ cost) }
-        ensures order { IfOk result (λ f. f.factors.factor.order ≡ order.now.vertices.items) }
-        ensures heavy { IfErr result (λ e. e ≡ Unfactored.Heavy → (k : ℕ) →
-            CountsFit graph.now (cost_of cost) k → ⊥) }
-        ensures dense { IfErr result (λ e. (c : Counts) → e ≢ Unfactored.Dense c) }
+    /// These factors, and lists for as many vertices as their graph has.
+    pub(crate) fn new(alloc: Global, factors: RoadFactors) -> Result<Factored, Memory>
+        ensures { IfOk result (λ f. f.factors ≡ factors) }
     {
-        let factors = RoadFactors::by_order(alloc, cost, graph, by_head, order)?;
-        match factors.asker(alloc) {
-            Ok(asker) => Ok(Factored { factors, asker }),
-            Err(Memory) => Err(Unfactored::Memory),
-        }
+        let asker = factors.asker(alloc)?;
+        Ok(Factored { factors, asker })
     }
 }
 
@@ -77,6 +62,8 @@ pub struct FactorSolver<A: PathAlgebra> {
     pub(crate) plain: PlainSolver<A>,
     /// The order by which the graph is factored, once it is given or found.
     pub(crate) order: Option<Order>,
+    /// Which links the factors keep.
+    pub(crate) links: Links,
     /// The factors by that order, once they are made.
     pub(crate) factored: Option<Factored>,
     /// For which costs the graph is not factored, and why.
@@ -102,6 +89,7 @@ impl<A: PathAlgebra> FactorSolver<A> {
         FactorSolver {
             plain: PlainSolver::new(alloc, graph),
             order,
+            links: Links::Needed,
             factored: None,
             refused: None,
         }
@@ -169,6 +157,7 @@ impl<A: PathAlgebra> FactorSolver<A> {
         };
         match RoadFactors::seek_order(alloc, cost, &plain.graph, by_head, care) {
             Ok((order, counts)) => {
+                self.links = links_for(care);
                 self.order = Some(order);
                 return Ok(Some(counts));
             }
@@ -207,8 +196,11 @@ impl<A: PathAlgebra> FactorSolver<A> {
         let (Some(by_head), Some(order)) = (&plain.by_head, &self.order) else {
             unreachable!()
         };
-        match Factored::by_order(alloc, cost, &plain.graph, by_head, order) {
-            Ok(factored) => self.factored = Some(factored),
+        match RoadFactors::by_order(alloc, cost, &plain.graph, by_head, order, self.links) {
+            Ok(factors) => {
+                let factored = Factored::new(alloc, factors)?;
+                self.factored = Some(factored);
+            }
             Err(Unfactored::Memory) => return Err(Memory),
             Err(Unfactored::Dense(_)) => unreachable!(),
             Err(Unfactored::Heavy) => self.refused = Some((cost, NoFactors::Heavy)),

@@ -1,6 +1,7 @@
-//! How much time an order of elimination may take.
+//! How much time factors may take.
 
 use elimination_order::Care;
+use path_factors::Links;
 use road_files::{Kind, Questions};
 
 /// A fast nested dissection repays its time if a graph has at most so many vertices for each pair.
@@ -24,5 +25,14 @@ pub(crate) fn care_for(vertices: u32, questions: &Questions) -> Option<Care> {
         Some(Care::Fast)
     } else {
         None
+    }
+}
+
+/// Which links repay their time: those that are needed, if an order does that is found with care.
+pub(crate) fn links_for(care: Option<Care>) -> Links {
+    if care.is_some() {
+        Links::Needed
+    } else {
+        Links::All
     }
 }

@@ -5,8 +5,8 @@ use Rattle.path_factors.specs.Eliminating.{AreClosedTo}
 use Rattle.path_factors.proofs.Loading.{still_covers}
 use Rattle.path_factors.proofs.weighing.Weighing.weigh.Goals as goal
 
-pub prune-requires-clause-covers : goal.prune-requires-clause-covers
-prune-requires-clause-covers g c κs within =
+pub returns-clause-covers : goal.returns-clause-covers
+returns-clause-covers g c =
     let opened = c.open-weighing.result in
     let loaded = c.load.new.self in
     let done = c.eliminate_all.new.self in
@@ -19,8 +19,8 @@ prune-requires-clause-covers g c κs within =
     let roads_now = subst (λ r. CoversArcs (g.A.ComposingAlgebra.walks loaded.algebra) r done.factor) (sym all.same.roads) kept in
     subst (λ a. CoversArcs (g.A.ComposingAlgebra.walks a) done.roads done.factor) (sym all.same.algebra) roads_now
 
-pub prune-requires-clause-closed : goal.prune-requires-clause-closed
-prune-requires-clause-closed g c κs within =
+pub returns-clause-closed : goal.returns-clause-closed
+returns-clause-closed g c =
     let loaded = c.load.new.self in
     let done = c.eliminate_all.new.self in
     let all = c.eliminate_all.ensures in

@@ -15,5 +15,5 @@ by_order-requires-clause-order g c = c.seek_order.new.self.each _ c.in-Some-Some
 
 pub invariant_of-self-in-Ok-clause-ordered : goal.invariant_of-self-in-Ok-clause-ordered
 invariant_of-self-in-Ok-clause-ordered g c =
-    recorded (λ f. option_map (λ o. o.vertices.items) c.seek_order.new.self.order ≡ Some f.factors.factor.order) c.in-Ok.factored
-    (ap (option_map (λ o. o.vertices.items)) c.in-Some-Some.is-1 ∙ ap Some (sym c.in-Ok.ensures.order))
+    recorded (λ f. option_map (λ o. o.vertices.items) c.seek_order.new.self.order ≡ Some f.factors.factor.order) c.in_ok-factored-in-Ok.factored
+    (ap (option_map (λ o. o.vertices.items)) c.in-Some-Some.is-1 ∙ ap Some (sym (ap (λ f. f.factor.order) c.in_ok-factored-in-Ok.ensures ∙ c.in-Ok.ensures.order)))

@@ -177,7 +177,7 @@ module _ {V : Type 0} (A : Algebra V) (g : GraphData) (asked : Asked) where
 
 -- a question is not solved: memory or a thread was refused; or, if workers answer, one of them
 -- stopped
-pub group_may_stop : (stops : GroupFault → Type 0) (plain : Bool) (f : GroupFault) → (plain ≡ true → f ≡ group.Memory) → stops f → MayStop plain stops (causes.Unsolved f)
+pub group_may_stop : (stops : GroupFault → Type 0) (undiffused : Bool) (f : GroupFault) → (undiffused ≡ true → f ≡ group.Memory) → stops f → MayStop undiffused stops (causes.Unsolved f)
 group_may_stop stops true f only stop = λ other. absurd (other (only refl))
 group_may_stop stops false f only stop = λ other. (refl, stop)
 

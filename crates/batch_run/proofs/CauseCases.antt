@@ -42,22 +42,22 @@ numbered (Unsolved Stalled) = inr (inl refl)
 numbered (Unsolved Gated) = inr (inr (inl refl))
 numbered Write = inr (inr (inr (inl refl)))
 
-module _ (plain : Bool) (stops : GroupFault → Type 0) where
+module _ (undiffused : Bool) (stops : GroupFault → Type 0) where
   -- 40 reports a limit of turns
-  pub stalled_by_number : (cause : Cause) → MayStop plain stops cause → number_of cause ≡ 40 → (plain ≡ false) × stops Stalled
+  pub stalled_by_number : (cause : Cause) → MayStop undiffused stops cause → number_of cause ≡ 40 → (undiffused ≡ false) × stops Stalled
   stalled_by_number (Unsolved Memory) may e = absurd (omega (arith, e))
   stalled_by_number (Unsolved Stalled) may e = may (λ same. let bad : Stalled ≡ Memory = same in cc)
   stalled_by_number (Unsolved Gated) may e = absurd (omega (arith, e))
   stalled_by_number Write may e = absurd (omega (arith, e))
 
   -- and 41 a gate
-  pub gated_by_number : (cause : Cause) → MayStop plain stops cause → number_of cause ≡ 41 → (plain ≡ false) × stops Gated
+  pub gated_by_number : (cause : Cause) → MayStop undiffused stops cause → number_of cause ≡ 41 → (undiffused ≡ false) × stops Gated
   gated_by_number (Unsolved Memory) may e = absurd (omega (arith, e))
   gated_by_number (Unsolved Stalled) may e = absurd (omega (arith, e))
   gated_by_number (Unsolved Gated) may e = may (λ same. let bad : Gated ≡ Memory = same in cc)
   gated_by_number Write may e = absurd (omega (arith, e))
 
 -- a cause says less of a group if its fault does
-pub may_stop_weaker : (plain : Bool) (stops says : GroupFault → Type 0) → ((f : GroupFault) → stops f → says f) → (cause : Cause) → MayStop plain stops cause → MayStop plain says cause
-may_stop_weaker plain stops says less (Unsolved f) may = λ other. let stop = may other in (stop.0, less f stop.1)
-may_stop_weaker plain stops says less Write may = tt
+pub may_stop_weaker : (undiffused : Bool) (stops says : GroupFault → Type 0) → ((f : GroupFault) → stops f → says f) → (cause : Cause) → MayStop undiffused stops cause → MayStop undiffused says cause
+may_stop_weaker undiffused stops says less (Unsolved f) may = λ other. let stop = may other in (stop.0, less f stop.1)
+may_stop_weaker undiffused stops says less Write may = tt

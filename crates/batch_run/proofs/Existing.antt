@@ -1,11 +1,11 @@
 -- Every question has a right answer: best values, their tree, and the line that both give each
 -- vertex.
-use Rattle.std.proofs.Common.{◌≡◌, ℕ, List, [], ◌∷◌, refl, sym, ◌∙◌, All, Option, Some, None}
+use Rattle.std.proofs.Common.{◌≡◌, ℕ, List, [], ◌∷◌, refl, subst, All, Option, Some, None}
 use Rattle.std.proofs.lemmas.List.Elements.{All-nil, All-cons, All-head, All-tail}
 use Rattle.road_graph.specs.GraphData.{GraphData, IsGraph, HasVertex}
 use Rattle.path_algebra.specs.Algebra.{Algebra}
-use Rattle.path_algebra.specs.Walks.{AreBest, label_of, IsParentChain}
-use Rattle.route_tree.specs.Tree.{Branches, IsTree, IsLinked, IsRoute, hops_of}
+use Rattle.path_algebra.specs.Walks.{AreBest, IsBestLabel, label_of, IsParentChain}
+use Rattle.route_tree.specs.Tree.{AreHopsAt, Branches, IsTree, IsLinked, IsRoute, hops_of}
 use Rattle.route_tree.specs.Told.{IsParentRoute}
 use Rattle.road_files.specs.Asked.{Question, FromSource, BetweenPair, FromSources, Asked}
 use Rattle.answer_text.specs.declared.answers.Reached.{Reached}
@@ -13,7 +13,6 @@ use Rattle.answer_text.specs.AnswerData.{AnswerData, SourceAnswer, PairAnswer, S
 use Rattle.answer_text.specs.IsAnswer.{AreVertexLines, IsPairAnswer, IsAnswer, AreAnswers, IsAnswerList}
 use Rattle.batch_run.specs.WrittenLines.{written_lines}
 use Rattle.batch_run.specs.Answered.{AsksWithin}
-use Rattle.batch_run.proofs.LinesAreRight.{best_by_label, least_by_hops, unreached_by_label, unreached_by_hops}
 use Rattle.batch_run.proofs.WrittenLines.{lines_are_right}
 
 module _ {V : Type 0} (A : Algebra V) (g : GraphData) (roads : IsGraph g)
@@ -32,16 +31,14 @@ module _ {V : Type 0} (A : Algebra V) (g : GraphData) (roads : IsGraph g)
   pair_by : (s v : ℕ) (labels : List (Option V)) (t : Branches) → HasVertex g v → AreBest A g (s ∷ []) labels → IsTree A g (s ∷ []) t →
       ((k : ℕ) → hops_of t v ≡ Some k → (list : List ℕ) × IsRoute t v list) → (label : Option V) (hops : Option ℕ) → label_of labels v ≡ label → hops_of t v ≡ hops →
       (found : Option FoundData) × IsPairAnswer A g s v found
-  pair_by s v labels t in_v best tree routed None hops label_is hops_is =
-      (None, unreached_by_label A g (s ∷ []) v (label_of labels v) (best.best v in_v) (λ x e. let bad : None ≡ Some x = sym label_is ∙ e in cc))
-  pair_by s v labels t in_v best tree routed (Some x) None label_is hops_is =
-      (None, unreached_by_hops A g (s ∷ []) v (hops_of t v) (tree.hops v in_v) (λ k e. let bad : None ≡ Some k = sym hops_is ∙ e in cc))
+  pair_by s v labels t in_v best tree routed None hops label_is hops_is = (None, subst (IsBestLabel A g (s ∷ []) v) label_is (best.best v in_v))
+  pair_by s v labels t in_v best tree routed (Some x) None label_is hops_is = (None, subst (AreHopsAt A g (s ∷ []) v) hops_is (tree.hops v in_v))
   pair_by s v labels t in_v best tree routed (Some x) (Some k) label_is hops_is =
       let list = routed k hops_is in (
         Some (record { code = A.code x; hops = k; route = list.0 }),
         record {
-          code = (x, best_by_label A g (s ∷ []) v (label_of labels v) (label_of labels v) x (best.best v in_v) refl label_is, refl);
-          hops = least_by_hops A g (s ∷ []) v (hops_of t v) (hops_of t v) k (tree.hops v in_v) refl hops_is;
+          code = (x, subst (IsBestLabel A g (s ∷ []) v) label_is (best.best v in_v), refl);
+          hops = subst (AreHopsAt A g (s ∷ []) v) hops_is (tree.hops v in_v);
           route = from_one s v list.0 (follows (s ∷ []) t tree v in_v list.0 list.1);
         },
       )

@@ -18,9 +18,10 @@ use Rattle.worker_fleet.specs.declared.group.GroupFault.TheVariants.{Memory}
 use Rattle.batch_settings.specs.declared.settings.Settings.{Settings}
 use Rattle.batch_run.specs.declared.watcher.Progress.{Progress}
 use Rattle.batch_run.specs.Answered.{AnsweredAll, WroteAnswers, WroteFirst, WroteWhole, WroteAllOrFirst, begun_text}
-use Rattle.batch_run.specs.Reports.{Preparation, ReportedWritten}
+use Rattle.question_solvers.specs.declared.factor_solver.Factoring.{Factoring}
+use Rattle.batch_run.specs.Reports.{Preparation, ReportedFirst}
 use Rattle.batch_run.proofs.AnsweredFirst.{no_fewer_failures}
-use Rattle.batch_run.proofs.WrittenReports.{written_kept}
+use Rattle.batch_run.proofs.WrittenReports.{first_still, kept_at_least}
 
 -- the cause is that of the answers; or there was none, and the flush failed
 abbrev pub IsFirstCause : (answered : Result (Unit {0}) Cause) (before after : ℕ) → Cause → Type 0
@@ -110,7 +111,8 @@ sound_flushed b m a Y answered (Ok u) was ok same = same ∙ subst (λ x. OnOk x
 sound_flushed b m a Y answered (Err f) was ok same = tt
 
 -- a flush reports nothing, and what was written stays
-pub reported_flushed : {V S W : Type 0} (A : Algebra V) (how : Settings) (g : GraphData) (asked : Asked) (plain : Bool) (Told : Preparation → Type 0) (may_become : S → Progress → S → Type 0) (old new : S) (out mid out_after : Output W) →
-    Keeps mid.written out_after.written → ReportedWritten A how g asked plain Told may_become old new out mid → ReportedWritten A how g asked plain Told may_become old new out out_after
-reported_flushed A how g asked plain Told may_become old new out mid out_after keeps was =
-    record { made = was.made; told = was.told; reported = was.reported; written = written_kept A g asked out mid out_after keeps was.reported.prefix was.written }
+pub reported_flushed : {V S W : Type 0} (A : Algebra V) (how : Settings) (g : GraphData) (asked : Asked) (undiffused : Bool) (Told : Preparation → Type 0) (MayTell : Factoring → Type 0)
+    (may_become : S → Progress → S → Type 0) (old new : S) (out mid out_after : Output W) → Keeps mid.written out_after.written → (whole : Bool) → ReportedFirst A how g asked undiffused Told MayTell may_become old new out mid whole
+    → ReportedFirst A how g asked undiffused Told MayTell may_become old new out out_after whole
+reported_flushed A how g asked undiffused Told MayTell may_become old new out mid out_after keeps =
+    first_still A how g asked undiffused Told Told (λ p told. told) MayTell MayTell (λ f may. may) may_become old new out mid out_after (kept_at_least A g asked out mid out_after keeps)

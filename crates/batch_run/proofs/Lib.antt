@@ -1,5 +1,4 @@
 mod SourceByMore
-mod LinesAreRight
 mod WrittenLines
 pub mod CauseCases
 mod AnsweredFirst

@@ -17,11 +17,9 @@ use Rattle.batch_run.specs.declared.solve.diffusion.EndedDiffusion.{EndedDiffusi
 use Rattle.batch_settings.specs.declared.settings.Settings.{Settings}
 use Rattle.batch_run.specs.declared.watcher.Progress.{Progress}
 use Rattle.batch_run.specs.declared.watcher.Progress.TheVariants as report
-use Rattle.elimination_order.specs.declared.counts.Counts.{Counts}
-use Rattle.question_solvers.specs.declared.factor_solver.Factoring.{Factoring}
 use Rattle.batch_run.specs.Cut.{IsCut, order_of}
 use Rattle.batch_run.specs.Diffusions.{IsEnded}
-use Rattle.batch_run.specs.Reports.{IsAccount, Due, Beginning, Ordering, Attempt, Account, Preparation, Answering, IsReportOf, FollowsReports, Reported, ReportedAllOrPrefix, ReportedPrefix, accounts_due, question_due, questions_due, order_due, factoring_due, start_due, batch_due, count_diffusions, diffused}
+use Rattle.batch_run.specs.Reports.{IsAccount, Due, Beginning, Account, Preparation, Answering, IsReportOf, FollowsReports, Reported, ReportedAllOrPrefix, ReportedPrefix, accounts_due, question_due, questions_due, due_if, start_due, batch_due, count_diffusions, diffused}
 
 -- the counts of a diffusion that was run to its end are those that were gathered
 module _ {S V : Type 0} (meaning : S → Algebra V) where
@@ -65,7 +63,7 @@ module _ {V S : Type 0} (A : Algebra V) (how : Settings) (g : GraphData) (may_be
   none s = record { reports = []; are_due = tt; told = refl }
 
   -- nothing is due of a question that is solved without diffusions
-  pub none_due : (plain : Bool) → plain ≡ true → (k : ℕ) (q : Question) (s : S) → Reported A how g may_become (accounts_due plain k q) s s
+  pub none_due : (undiffused : Bool) → undiffused ≡ true → (k : ℕ) (q : Question) (s : S) → Reported A how g may_become (accounts_due undiffused k q) s s
   none_due true e k q s = none s
   none_due false e k q s = absurd (false≢true e)
 
@@ -128,61 +126,49 @@ module _ {V S : Type 0} (A : Algebra V) (how : Settings) (g : GraphData) (may_be
 
 -- due of a batch until so many questions are answered
 abbrev pub due_first : Bool → Preparation → List Question → ℕ → List Due
-due_first plain made qs i = start_due plain made qs ++ questions_due plain 0 (take i qs)
+due_first undiffused made qs i = start_due undiffused made qs ++ questions_due undiffused 0 (take i qs)
 
 -- of one question more
-due_push : (plain : Bool) (n : ℕ) (qs : List Question) (i k : ℕ) (d : Question) → i < length qs → k ≡ n + i + 1 →
-    questions_due plain n (take (suc i) qs) ≡ questions_due plain n (take i qs) ++ question_due plain k (get_or qs i d)
-due_push plain n [] i k d low e = absurd (omega (arith, low))
-due_push plain n (q ∷ qs) zero k d low e =
+due_push : (undiffused : Bool) (n : ℕ) (qs : List Question) (i k : ℕ) (d : Question) → i < length qs → k ≡ n + i + 1 →
+    questions_due undiffused n (take (suc i) qs) ≡ questions_due undiffused n (take i qs) ++ question_due undiffused k (get_or qs i d)
+due_push undiffused n [] i k d low e = absurd (omega (arith, low))
+due_push undiffused n (q ∷ qs) zero k d low e =
     let number : n + 1 ≡ k = omega (arith, e) in
-    append-nil (question_due plain (n + 1) q) ∙ ap (λ (m : ℕ). question_due plain m q) number
-due_push plain n (q ∷ qs) (suc i) k d low e =
-    let head = question_due plain (n + 1) q in
-    ap (λ (x : List Due). head ++ x) (due_push plain (n + 1) qs i k d (omega (arith, low)) (omega (arith, e)))
-    ∙ sym (append_assoc head (questions_due plain (n + 1) (take i qs)) (question_due plain k (get_or qs i d)))
+    append-nil (question_due undiffused (n + 1) q) ∙ ap (λ (m : ℕ). question_due undiffused m q) number
+due_push undiffused n (q ∷ qs) (suc i) k d low e =
+    let head = question_due undiffused (n + 1) q in
+    ap (λ (x : List Due). head ++ x) (due_push undiffused (n + 1) qs i k d (omega (arith, low)) (omega (arith, e)))
+    ∙ sym (append_assoc head (questions_due undiffused (n + 1) (take i qs)) (question_due undiffused k (get_or qs i d)))
 
 -- what is due of the first questions is a prefix of what is due of all
-due_from : (plain : Bool) (n : ℕ) (qs : List Question) (i : ℕ) → (rest : List Due) × (questions_due plain n qs ≡ questions_due plain n (take i qs) ++ rest)
-due_from plain n qs zero = (questions_due plain n qs, refl)
-due_from plain n [] (suc i) = ([], refl)
-due_from plain n (q ∷ qs) (suc i) =
-    let head = question_due plain (n + 1) q in
-    let after = due_from plain (n + 1) qs i in
-    (after.0, ap (λ (x : List Due). head ++ x) after.1 ∙ sym (append_assoc head (questions_due plain (n + 1) (take i qs)) after.0))
+due_from : (undiffused : Bool) (n : ℕ) (qs : List Question) (i : ℕ) → (rest : List Due) × (questions_due undiffused n qs ≡ questions_due undiffused n (take i qs) ++ rest)
+due_from undiffused n qs zero = (questions_due undiffused n qs, refl)
+due_from undiffused n [] (suc i) = ([], refl)
+due_from undiffused n (q ∷ qs) (suc i) =
+    let head = question_due undiffused (n + 1) q in
+    let after = due_from undiffused (n + 1) qs i in
+    (after.0, ap (λ (x : List Due). head ++ x) after.1 ∙ sym (append_assoc head (questions_due undiffused (n + 1) (take i qs)) after.0))
 
 -- what is due until so many questions are answered is a prefix of all
-pub first_follows : (plain : Bool) (made : Preparation) (qs : List Question) (i : ℕ) → (rest : List Due) × (batch_due plain made qs ≡ due_first plain made qs i ++ rest)
-first_follows plain made qs i =
-    let head = start_due plain made qs in
-    let after = due_from plain 0 qs i in
-    (after.0, ap (λ (x : List Due). head ++ x) after.1 ∙ sym (append_assoc head (questions_due plain 0 (take i qs)) after.0))
+first_follows : (undiffused : Bool) (made : Preparation) (qs : List Question) (i : ℕ) → (rest : List Due) × (batch_due undiffused made qs ≡ due_first undiffused made qs i ++ rest)
+first_follows undiffused made qs i =
+    let head = start_due undiffused made qs in
+    let after = due_from undiffused 0 qs i in
+    (after.0, ap (λ (x : List Due). head ++ x) after.1 ∙ sym (append_assoc head (questions_due undiffused 0 (take i qs)) after.0))
 
--- and so is what is due before the graph is factored
-pub start_follows : (plain : Bool) (made : Preparation) (qs : List Question) → (rest : List Due) × (batch_due plain made qs ≡ Beginning (length qs) (count_diffusions plain qs) ∷ rest)
-start_follows plain made qs = ((order_due made.found ++ factoring_due made.became) ++ questions_due plain 0 qs, refl)
-
-pub order_follows : (plain : Bool) (made : Preparation) (qs : List Question) →
-    (rest : List Due) × (batch_due plain made qs ≡ (Beginning (length qs) (count_diffusions plain qs) ∷ order_due made.found) ++ rest)
-order_follows plain made qs =
-    let first = Beginning (length qs) (count_diffusions plain qs) in (
-      factoring_due made.became ++ questions_due plain 0 qs,
-      ap (λ (x : List Due). first ∷ x) (append_assoc (order_due made.found) (factoring_due made.became) (questions_due plain 0 qs)),
-    )
-
-module _ (plain : Bool) (made : Preparation) (qs : List Question) (i k : ℕ) (q : Question) (low : i < length qs) (number : k ≡ i + 1) where
-  pub next_due : due_first plain made qs (i + 1) ≡ due_first plain made qs i ++ question_due plain k (get_or qs i q)
+module _ (undiffused : Bool) (made : Preparation) (qs : List Question) (i k : ℕ) (q : Question) (low : i < length qs) (number : k ≡ i + 1) where
+  pub next_due : due_first undiffused made qs (i + 1) ≡ due_first undiffused made qs i ++ question_due undiffused k (get_or qs i q)
   next_due =
-      let head = start_due plain made qs in
+      let head = start_due undiffused made qs in
       let same : i + 1 ≡ suc i = omega arith in
-      ap (due_first plain made qs) same ∙ ap (λ (x : List Due). head ++ x) (due_push plain 0 qs i k q low (omega (arith, number)))
-      ∙ sym (append_assoc head (questions_due plain 0 (take i qs)) (question_due plain k (get_or qs i q)))
+      ap (due_first undiffused made qs) same ∙ ap (λ (x : List Due). head ++ x) (due_push undiffused 0 qs i k q low (omega (arith, number)))
+      ∙ sym (append_assoc head (questions_due undiffused 0 (take i qs)) (question_due undiffused k (get_or qs i q)))
 
   -- and so it is with some accounts of the next question
-  pub accounts_follow : (ds es : List Due) → accounts_due plain k (get_or qs i q) ≡ ds ++ es → (rest : List Due) × (batch_due plain made qs ≡ (due_first plain made qs i ++ ds) ++ rest)
+  pub accounts_follow : (ds es : List Due) → accounts_due undiffused k (get_or qs i q) ≡ ds ++ es → (rest : List Due) × (batch_due undiffused made qs ≡ (due_first undiffused made qs i ++ ds) ++ rest)
   accounts_follow ds es e =
-      let first = due_first plain made qs i in
-      let after = first_follows plain made qs (i + 1) in
+      let first = due_first undiffused made qs i in
+      let after = first_follows undiffused made qs (i + 1) in
       let last = Answering k ∷ [] in (
         es ++ (last ++ after.0),
         after.1 ∙ ap (λ (x : List Due). x ++ after.0) next_due
@@ -191,56 +177,27 @@ module _ (plain : Bool) (made : Preparation) (qs : List Question) (i k : ℕ) (q
             ∙ ap (λ (x : List Due). first ++ (ds ++ x)) (append_assoc es last after.0) ∙ sym (append_assoc first ds (es ++ (last ++ after.0))),
       )
 
-module _ {V S : Type 0} (A : Algebra V) (how : Settings) (g : GraphData) (may_become : S → Progress → S → Type 0) (plain : Bool) (qs : List Question) where
+module _ {V S : Type 0} (A : Algebra V) (how : Settings) (g : GraphData) (may_become : S → Progress → S → Type 0) where
   -- the batch begins
-  pub begun : (n d : ℕ) (old new : S) → n ≡ length qs → d ≡ count_diffusions plain qs → may_become old (report.Begun n d) new →
-      Reported A how g may_become (Beginning (length qs) (count_diffusions plain qs) ∷ []) old new
-  begun n d old new count diffusions become =
-      one A how g may_become (Beginning (length qs) (count_diffusions plain qs)) (report.Begun n d) old new
+  pub begun : (undiffused : Bool) (qs : List Question) (n d : ℕ) (old new : S) → n ≡ length qs → d ≡ count_diffusions undiffused qs → may_become old (report.Begun n d) new →
+      Reported A how g may_become (Beginning (length qs) (count_diffusions undiffused qs) ∷ []) old new
+  begun undiffused qs n d old new count diffusions become =
+      one A how g may_become (Beginning (length qs) (count_diffusions undiffused qs)) (report.Begun n d) old new
       (ap (λ (m : ℕ). report.Begun m d) count ∙ ap (λ (m : ℕ). report.Begun (length qs) m) diffusions) become
 
-  ordered : (found : Option Counts) (old new : S) → IfSome found (λ c. may_become old (report.Ordered c) new) → IfNone found (new ≡ old) → Reported A how g may_become (order_due found) old new
-  ordered None old new told untold = subst (Reported A how g may_become [] old) (sym untold) (none A how g may_become old)
-  ordered (Some c) old new told untold = one A how g may_become (Ordering c) (report.Ordered c) old new refl told
-
-  factored : (became : Option Factoring) (old new : S) → IfSome became (λ f. may_become old (report.Factored f) new) → IfNone became (new ≡ old) → Reported A how g may_become (factoring_due became) old new
-  factored None old new told untold = subst (Reported A how g may_become [] old) (sym untold) (none A how g may_become old)
-  factored (Some f) old new told untold = one A how g may_become (Attempt f) (report.Factored f) old new refl told
-
-  module _ (made : Preparation) (old mid next : S) (first : Reported A how g may_become (Beginning (length qs) (count_diffusions plain qs) ∷ []) old mid)
-      (some : IfSome made.found (λ c. may_become mid (report.Ordered c) next)) (no : IfNone made.found (next ≡ mid)) where
-    -- what an order counted is told
-    pub begun_ordered : Reported A how g may_become (Beginning (length qs) (count_diffusions plain qs) ∷ order_due made.found) old next
-    begun_ordered = more A how g may_become (Beginning (length qs) (count_diffusions plain qs) ∷ []) (order_due made.found) old mid next first (ordered made.found mid next some no)
-
-    -- and then what became of factoring the graph
-    pub started : (new : S) → IfSome made.became (λ f. may_become next (report.Factored f) new) → IfNone made.became (new ≡ next) → Reported A how g may_become (due_first plain made qs 0) old new
-    started new told untold =
-        let begin = Beginning (length qs) (count_diffusions plain qs) in
-        let asked = order_due made.found in
-        let made_of = factoring_due made.became in
-        subst (λ (ds : List Due). Reported A how g may_become ds old new) (sym (append-nil (begin ∷ asked ++ made_of)))
-        (more A how g may_become (begin ∷ asked) made_of old next new begun_ordered (factored made.became next new told untold))
-
-  module _ (made : Preparation) where
-    -- all questions are answered
-    pub ended : (i : ℕ) (old new : S) → length qs ≤ i → Reported A how g may_become (due_first plain made qs i) old new → Reported A how g may_become (batch_due plain made qs) old new
-    ended i old new le h = subst (λ (x : List Question). Reported A how g may_become (start_due plain made qs ++ questions_due plain 0 x) old new) (take_all i qs le) h
-
-    -- one question more is answered
-    pub answered : (i k : ℕ) (q : Question) → i < length qs → k ≡ i + 1 → (old mid new : S) → Reported A how g may_become (due_first plain made qs i) old mid →
-        Reported A how g may_become (question_due plain k (get_or qs i q)) mid new → Reported A how g may_become (due_first plain made qs (i + 1)) old new
-    answered i k q low number old mid new first one =
-        subst (λ (x : List Due). Reported A how g may_become x old new) (sym (next_due plain made qs i k q low number))
-        (more A how g may_become (due_first plain made qs i) (question_due plain k (get_or qs i q)) old mid new first one)
+  -- what there is to tell is told
+  pub reported_if : {X : Type 0} (due : X → Due) (said : X → Progress) → ((x : X) → IsReportOf A how g (due x) (said x)) → (o : Option X) (old new : S) → IfSome o (λ x. may_become old (said x) new)
+      → IfNone o (new ≡ old) → Reported A how g may_become (due_if due o) old new
+  reported_if due said is None old new told untold = subst (Reported A how g may_become [] old) (sym untold) (none A how g may_become old)
+  reported_if due said is (Some x) old new told untold = one A how g may_become (due x) (said x) old new (is x) told
 
 -- a question is answered
-module _ {V S : Type 0} (A : Algebra V) (how : Settings) (g : GraphData) (may_become : S → Progress → S → Type 0) (plain : Bool) (k : ℕ) (q : Question) where
-  pub question_answered : (old mid new : S) → Reported A how g may_become (accounts_due plain k q) old mid → may_become mid (report.Answered k) new → Reported A how g may_become (question_due plain k q) old new
+module _ {V S : Type 0} (A : Algebra V) (how : Settings) (g : GraphData) (may_become : S → Progress → S → Type 0) (undiffused : Bool) (k : ℕ) (q : Question) where
+  pub question_answered : (old mid new : S) → Reported A how g may_become (accounts_due undiffused k q) old mid → may_become mid (report.Answered k) new → Reported A how g may_become (question_due undiffused k q) old new
   question_answered old mid new accounts become =
-      more A how g may_become (accounts_due plain k q) (Answering k ∷ []) old mid new accounts (one A how g may_become (Answering k) (report.Answered k) mid new refl become)
+      more A how g may_become (accounts_due undiffused k q) (Answering k ∷ []) old mid new accounts (one A how g may_become (Answering k) (report.Answered k) mid new refl become)
 
--- the plain solver answers by no diffusion
+-- without diffusions there are none
 none_diffused : (qs : List Question) → flat_map (diffused true) qs ≡ []
 none_diffused [] = refl
 none_diffused (q ∷ qs) = flat_map-cons (diffused true) q qs ∙ none_diffused qs

@@ -1,5 +1,6 @@
 -- A run under settings that suit ends by no fault of a setting.
-use Rattle.std.proofs.Common.{◌≡◌, ◌≢◌, ◌↔◌, ◌∙◌, Bool, true, false, Option, Result, Ok, Err, sym, ap}
+use Rattle.std.proofs.Common.{◌≡◌, ◌≢◌, ◌↔◌, ◌∙◌, Bool, true, false, Option, None, Some, Result, Ok, Err, inr, refl, sym, ap}
+use Rattle.std.specs.Prelude.{IsSome}
 use Rattle.path_algebra.specs.declared.counted_sums.Cost.{Cost}
 use Rattle.batch_inputs.specs.declared.faults.File.TheVariants.{NoFile}
 use Rattle.batch_inputs.specs.declared.faults.RunFault.{RunFault}
@@ -12,9 +13,17 @@ fault_or : RunFault → Result (Unit {0}) RunFault → RunFault
 fault_or f (Ok u) = f
 fault_or f (Err g) = g
 
+some_if : {X : Type 0} (o : Option X) → o ≢ None → IsSome o
+some_if None other = absurd (other refl)
+some_if (Some x) other = refl
+
 module _ (cost : Option Cost) (how : Settings) (suits : Bool) (suit : suits ≡ true) (exactly : (suits ≡ false) ↔ IsUnsuited cost how) where
   not_unsuited : IsUnsuited cost how → ⊥
   not_unsuited unsuited = let bad : true ≡ false = sym suit ∙ exactly.1 unsuited in cc
+
+  -- if factors are chosen, the algebra has a cost
+  pub has_cost : how.factors ≡ true → IsSome cost
+  has_cost chosen = some_if cost (λ none. not_unsuited (inr (chosen, none)))
 
   -- it succeeds
   pub suited_whole : IsRefusedUnsuited cost how (Ok tt)

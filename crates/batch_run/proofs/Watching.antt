@@ -1,5 +1,5 @@
 -- What a run reports to its watcher, from what answering reports.
-use Rattle.std.proofs.Common.{◌≡◌, ◌≢◌, ◌⊎◌, [], Ok, Err, inl, inr, refl}
+use Rattle.std.proofs.Common.{◌≡◌, ◌≢◌, ◌⊎◌, [], true, false, Ok, Err, inl, inr, refl}
 use Rattle.text_lines.specs.Streams.{Output}
 use Rattle.road_graph.specs.GraphData.{GraphData}
 use Rattle.road_files.specs.Asked.{Asked}
@@ -11,7 +11,7 @@ use Rattle.batch_settings.specs.declared.settings.Settings.{Settings}
 use Rattle.batch_run.specs.declared.watcher.Progress.{Progress}
 use Rattle.batch_run.specs.Causes.{fault_of}
 use Rattle.batch_settings.specs.Choice.{without_diffusions}
-use Rattle.batch_run.specs.Reports.{IsTold, ReportedWhole, ReportedWritten, Watched}
+use Rattle.batch_run.specs.Reports.{IsFactoringTold, IsTold, ReportedFirst, Watched}
 use Rattle.batch_run.proofs.CauseCases.{no_setting}
 
 module _ {V S W : Type 0} (A : Algebra V) (how : Settings) (IsRead : GraphData → Asked → Type 0) (may_become : S → Progress → S → Type 0) (old : S) (out out_after : Output W) where
@@ -33,37 +33,22 @@ module _ {V S W : Type 0} (A : Algebra V) (how : Settings) (IsRead : GraphData �
 
   -- what it reports of inputs that were read, from what answering them reports
   module _ (new : S) (g : GraphData) (asked : Asked) (read : IsRead g asked) where
-    pub watched_all : ReportedWhole A how g (without_diffusions how) (IsTold g how.factors) asked.questions may_become old new → Watched A how IsRead may_become old new out out_after (Ok tt)
+    pub watched_all : ReportedFirst A how g asked (without_diffusions how) (IsTold g how.factors) (IsFactoringTold g) may_become old new out out_after true → Watched A how IsRead may_become old new out out_after (Ok tt)
     watched_all w = record {
-      reports = w.reported.reports;
-      are = record {
-        all = record { graph = g; asked = asked; read = read; made = w.made; told = w.told; are_due = w.reported.are_due };
-        first = tt;
-        nothing = tt;
-        untouched = tt;
-      };
-      told = w.reported.told;
+      reports = w.0;
+      are = record { all = record { graph = g; asked = asked; read = read; first = w.1 }; first = tt; nothing = tt; untouched = tt };
+      told = w.2;
     }
 
-    pub watched_first : (cause : Cause) → ReportedWritten A how g asked (without_diffusions how) (IsTold g how.factors) may_become old new out out_after → Watched A how IsRead may_become old new out out_after (Err (fault_of cause))
+    pub watched_first : (cause : Cause) → ReportedFirst A how g asked (without_diffusions how) (IsTold g how.factors) (IsFactoringTold g) may_become old new out out_after false →
+        Watched A how IsRead may_become old new out out_after (Err (fault_of cause))
     watched_first cause w = record {
-      reports = w.reported.reported.reports;
+      reports = w.0;
       are = record {
         all = tt;
-        first = λ _ _. record {
-          graph = g;
-          asked = asked;
-          read = read;
-          made = w.made;
-          told = w.told;
-          prefix = w.reported.prefix;
-          rest = w.reported.rest;
-          due_is = w.reported.due_is;
-          are_due = w.reported.reported.are_due;
-          written = w.written;
-        };
+        first = λ _ _. record { graph = g; asked = asked; read = read; first = w.1 };
         nothing = λ other. absurd (other refl);
         untouched = λ setting. absurd (no_setting cause setting);
       };
-      told = w.reported.reported.told;
+      told = w.2;
     }

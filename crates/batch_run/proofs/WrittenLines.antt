@@ -1,14 +1,13 @@
--- The lines of the vertices by best labels and their tree.
-use Rattle.std.proofs.Common.{◌≡◌, ℕ, ◌+◌, ◌-◌, ◌<◌, List, length, get_or, Option, None, refl, ◌∙◌, arith}
+-- The lines of the vertices by best labels and their tree are right.
+use Rattle.std.proofs.Common.{◌≡◌, ℕ, ◌+◌, ◌-◌, ◌<◌, List, length, get_or, Option, Some, None, inl, inr, refl, ◌∙◌, arith}
 use Rattle.std.proofs.lemmas.List.FromFn.{get_or-map-range_with_len, length-map-range_with_len}
 use Rattle.road_graph.specs.GraphData.{GraphData}
 use Rattle.path_algebra.specs.Algebra.{Algebra}
-use Rattle.path_algebra.specs.Walks.{AreBest, label_of}
-use Rattle.route_tree.specs.Tree.{Branches, IsTree, hops_of, parent_of}
+use Rattle.path_algebra.specs.Walks.{AreBest, IsBestLabel, label_of}
+use Rattle.route_tree.specs.Tree.{AreHopsAt, Branches, IsParentAt, IsTree, hops_of, parent_of}
 use Rattle.answer_text.specs.declared.answers.Reached.{Reached}
-use Rattle.answer_text.specs.IsAnswer.{AreVertexLines}
+use Rattle.answer_text.specs.IsAnswer.{AreVertexLines, IsVertexLine}
 use Rattle.batch_run.specs.WrittenLines.{written_line, written_lines}
-use Rattle.batch_run.proofs.LinesAreRight.{line_is_right}
 
 module _ {V : Type 0} (A : Algebra V) (labels : List (Option V)) (t : Branches) (n : ℕ) where
   pub lines_count : length (written_lines A labels t n) ≡ n
@@ -24,7 +23,14 @@ module _ {V : Type 0} (A : Algebra V) (labels : List (Option V)) (t : Branches) 
       line ≡ written_line A label hops parent → label ≡ label_of labels v → hops ≡ hops_of t v → parent ≡ parent_of t v → line ≡ get_or (written_lines A labels t n) i None
   line_is i v line label hops parent lt at is l h p = rw (line_at i v lt at, is, l, h, p) refl
 
--- the lines of best labels and their tree are right
+-- the line of a vertex is right, and so are all lines
+line_is_right : {V : Type 0} (A : Algebra V) (g : GraphData) (sources : List ℕ) (v : ℕ) (label : Option V) (hops parent : Option ℕ) → IsBestLabel A g sources v label → AreHopsAt A g sources v hops →
+    IsParentAt A g sources v hops parent → IsVertexLine A g sources v (written_line A label hops parent)
+line_is_right A g sources v None k u best hops parents = best
+line_is_right A g sources v (Some x) None u best hops parents = absurd (hops x best.attained)
+line_is_right A g sources v (Some x) (Some k) None best hops parents = record { code = (x, best, refl); hops = hops; parent = inl (parents, refl) }
+line_is_right A g sources v (Some x) (Some k) (Some u) best hops parents = record { code = (x, best, refl); hops = hops; parent = inr parents }
+
 pub lines_are_right : {V : Type 0} (A : Algebra V) (g : GraphData) (sources : List ℕ) (labels : List (Option V)) (t : Branches) (n : ℕ) → n ≡ g.vertices →
     AreBest A g sources labels → IsTree A g sources t →
     AreVertexLines A g sources (written_lines A labels t n)

@@ -1,8 +1,10 @@
--- What was reported of a batch was written before, and stays written.
-use Rattle.std.proofs.Common.{◌≡◌, inl, inr, ℕ, ◌+◌, ◌<◌, ◌≤◌, List, [], ◌∷◌, ◌++◌, length, map, get_or, Bool, Option, None, Some, Err, refl, sym, subst, append_assoc, append-nil}
+-- What was reported of a batch is so, and stays so.
+use Rattle.std.proofs.Common.{◌≡◌, inl, inr, ℕ, ◌+◌, ◌<◌, ◌≤◌, List, [], ◌∷◌, ◌++◌, length, map, get_or, Bool, false, Option, None, Some, Err, refl, sym, ap, ◌∙◌, subst, append_assoc, append-nil}
 use Rattle.std.specs.Prelude.{IfNone, IfSome}
 use Rattle.std.specs.Io.KnownBytes.{Appends, Keeps}
 use Rattle.std.specs.List.{AllByRecursion}
+use Rattle.std.proofs.lemmas.Bool.{false≢true}
+use Rattle.std.proofs.lemmas.List.{take_all}
 use Rattle.std.proofs.KnownBytes.{Appends-kept, Appends-trans}
 use Rattle.road_graph.specs.GraphData.{GraphData}
 use Rattle.text_lines.proofs.WriteLaws.{left_appends}
@@ -17,10 +19,10 @@ use Rattle.batch_run.specs.declared.watcher.Progress.{Progress}
 use Rattle.batch_run.specs.declared.watcher.Progress.TheVariants as report
 use Rattle.elimination_order.specs.declared.counts.Counts.{Counts}
 use Rattle.question_solvers.specs.declared.factor_solver.Factoring.{Factoring}
-use Rattle.batch_run.specs.Reports.{Account, Attempt, Beginning, Due, Ordering, Preparation, IsWritten, Answering, Reported, ReportedPrefix, ReportedWhole, ReportedWritten, accounts_due, batch_due, count_diffusions, diffused, factoring_due, order_due, question_due}
+use Rattle.batch_run.specs.Reports.{Account, Attempt, Beginning, Due, Ordering, Preparation, IsSo, Answering, Reported, ReportedFirst, ReportedPrefix, accounts_due, batch_due, count_diffusions, diffused, due_if, question_due, questions_due, start_due}
 use Rattle.batch_run.proofs.CauseCases.{write_or_other}
 use Rattle.batch_run.proofs.AnsweredFirst.{AnsweredFirst}
-use Rattle.batch_run.proofs.Reporting.{accounts_follow, answered, begun_ordered, due_first, ended, first_follows, more, next_due, none, order_follows, start_follows, started}
+use Rattle.batch_run.proofs.Reporting.{accounts_follow, due_first, more, next_due, none, reported_if}
 
 module _ {V : Type 0} (A : Algebra V) (g : GraphData) (asked : Asked) where
   -- the first answers are written
@@ -34,7 +36,7 @@ module _ {V : Type 0} (A : Algebra V) (g : GraphData) (asked : Asked) where
 
   module _ {X : Type 0} (old mid new : Output X) where
     -- they stay so when more is written
-    more_at_least : (text : List ℕ) → Appends mid.written new.written text → (n : ℕ) → WroteAtLeast A g asked n old mid → WroteAtLeast A g asked n old new
+    pub more_at_least : (text : List ℕ) → Appends mid.written new.written text → (n : ℕ) → WroteAtLeast A g asked n old mid → WroteAtLeast A g asked n old new
     more_at_least text more n w = record {
       answers = w.answers;
       right = w.right;
@@ -43,157 +45,186 @@ module _ {V : Type 0} (A : Algebra V) (g : GraphData) (asked : Asked) where
     }
 
     -- and when nothing is
-    kept_at_least : Keeps mid.written new.written → (n : ℕ) → WroteAtLeast A g asked n old mid → WroteAtLeast A g asked n old new
+    pub kept_at_least : Keeps mid.written new.written → (n : ℕ) → WroteAtLeast A g asked n old mid → WroteAtLeast A g asked n old new
     kept_at_least keeps n w = record { answers = w.answers; right = w.right; more = w.more; bytes = Appends-kept old.written mid.written new.written _ w.bytes keeps }
 
-    due_still : ((n : ℕ) → WroteAtLeast A g asked n old mid → WroteAtLeast A g asked n old new) → (d : Due) → IsWritten A g asked old mid d → IsWritten A g asked old new d
-    due_still still (Beginning n k) w = still 0 w
-    due_still still (Ordering counts) w = tt
-    due_still still (Attempt became) w = tt
-    due_still still (Account k s) w = tt
-    due_still still (Answering n) w = still n w
+  -- what reports say stays so while these answers stay, and while no less may be told of factoring
+  module _ (MayTell Wide : Factoring → Type 0) (wider : (f : Factoring) → MayTell f → Wide f) {X : Type 0} (old mid new : Output X)
+      (still : (n : ℕ) → WroteAtLeast A g asked n old mid → WroteAtLeast A g asked n old new) where
+    due_still : (d : Due) → IsSo A g asked MayTell old mid d → IsSo A g asked Wide old new d
+    due_still (Beginning n k) w = still 0 w
+    due_still (Ordering counts) w = tt
+    due_still (Attempt became) w = wider became w
+    due_still (Account k s) w = tt
+    due_still (Answering n) w = still n w
 
-    all_still : ((n : ℕ) → WroteAtLeast A g asked n old mid → WroteAtLeast A g asked n old new) → (ds : List Due) →
-        AllByRecursion (IsWritten A g asked old mid) ds → AllByRecursion (IsWritten A g asked old new) ds
-    all_still still [] all = tt
-    all_still still (d ∷ ds) all = (due_still still d all.0, all_still still ds all.1)
+    pub all_still : (ds : List Due) → AllByRecursion (IsSo A g asked MayTell old mid) ds → AllByRecursion (IsSo A g asked Wide old new) ds
+    all_still [] all = tt
+    all_still (d ∷ ds) all = (due_still d all.0, all_still ds all.1)
 
-    pub written_more : (text : List ℕ) → Appends mid.written new.written text → (ds : List Due) → AllByRecursion (IsWritten A g asked old mid) ds → AllByRecursion (IsWritten A g asked old new) ds
-    written_more text more = all_still (more_at_least text more)
+  module _ (MayTell : Factoring → Type 0) {X : Type 0} (old new : Output X) where
+    pub so_then : (ds es : List Due) → AllByRecursion (IsSo A g asked MayTell old new) ds → AllByRecursion (IsSo A g asked MayTell old new) es →
+        AllByRecursion (IsSo A g asked MayTell old new) (ds ++ es)
+    so_then [] es all more = more
+    so_then (d ∷ ds) es all more = (all.0, so_then ds es all.1 more)
 
-    pub written_kept : Keeps mid.written new.written → (ds : List Due) → AllByRecursion (IsWritten A g asked old mid) ds → AllByRecursion (IsWritten A g asked old new) ds
-    written_kept keeps = all_still (kept_at_least keeps)
-
-  module _ {X : Type 0} (old new : Output X) where
-    pub written_then : (ds es : List Due) → AllByRecursion (IsWritten A g asked old new) ds → AllByRecursion (IsWritten A g asked old new) es →
-        AllByRecursion (IsWritten A g asked old new) (ds ++ es)
-    written_then [] es all more = more
-    written_then (d ∷ ds) es all more = (all.0, written_then ds es all.1 more)
-
-    written_prefix : (ds es : List Due) → AllByRecursion (IsWritten A g asked old new) (ds ++ es) → AllByRecursion (IsWritten A g asked old new) ds
-    written_prefix [] es all = tt
-    written_prefix (d ∷ ds) es all = (all.0, written_prefix ds es all.1)
+    so_prefix : (ds es : List Due) → AllByRecursion (IsSo A g asked MayTell old new) (ds ++ es) → AllByRecursion (IsSo A g asked MayTell old new) ds
+    so_prefix [] es all = tt
+    so_prefix (d ∷ ds) es all = (all.0, so_prefix ds es all.1)
 
     -- accounts say nothing of what was written
-    accounts_written : (k : ℕ) (xs : List ℕ) → AllByRecursion (IsWritten A g asked old new) (map (Account k) xs)
-    accounts_written k [] = tt
-    accounts_written k (x ∷ xs) = (tt, accounts_written k xs)
+    accounts_so : (k : ℕ) (xs : List ℕ) → AllByRecursion (IsSo A g asked MayTell old new) (map (Account k) xs)
+    accounts_so k [] = tt
+    accounts_so k (x ∷ xs) = (tt, accounts_so k xs)
 
-    pub within_accounts : (plain : Bool) (k : ℕ) (q : Question) (ds es : List Due) → accounts_due plain k q ≡ ds ++ es → AllByRecursion (IsWritten A g asked old new) ds
-    within_accounts plain k q ds es e = written_prefix ds es (subst (AllByRecursion (IsWritten A g asked old new)) e (accounts_written k (diffused plain q)))
+    pub within_accounts : (undiffused : Bool) (k : ℕ) (q : Question) (ds es : List Due) → accounts_due undiffused k q ≡ ds ++ es → AllByRecursion (IsSo A g asked MayTell old new) ds
+    within_accounts undiffused k q ds es e = so_prefix ds es (subst (AllByRecursion (IsSo A g asked MayTell old new)) e (accounts_so k (diffused undiffused q)))
 
     -- a question is reported as answered when its answer is written
-    pub question_written : (plain : Bool) (k : ℕ) (q : Question) → WroteAtLeast A g asked k old new → AllByRecursion (IsWritten A g asked old new) (question_due plain k q)
-    question_written plain k q w = written_then (accounts_due plain k q) (Answering k ∷ []) (accounts_written k (diffused plain q)) (w, tt)
+    pub question_so : (undiffused : Bool) (k : ℕ) (q : Question) → WroteAtLeast A g asked k old new → AllByRecursion (IsSo A g asked MayTell old new) (question_due undiffused k q)
+    question_so undiffused k q w = so_then (accounts_due undiffused k q) (Answering k ∷ []) (accounts_so k (diffused undiffused q)) (w, tt)
 
-  order_written : {X : Type 0} (old new : Output X) (found : Option Counts) → AllByRecursion (IsWritten A g asked old new) (order_due found)
-  order_written old new None = tt
-  order_written old new (Some c) = (tt, tt)
+    so_if : {X : Type 0} (due : X → Due) (o : Option X) → ((x : X) → o ≡ Some x → IsSo A g asked MayTell old new (due x)) → AllByRecursion (IsSo A g asked MayTell old new) (due_if due o)
+    so_if due None so = tt
+    so_if due (Some x) so = (so x refl, tt)
 
-  factoring_written : {X : Type 0} (old new : Output X) (became : Option Factoring) → AllByRecursion (IsWritten A g asked old new) (factoring_due became)
-  factoring_written old new None = tt
-  factoring_written old new (Some f) = (tt, tt)
+    -- before the first question the header is written
+    pub begun_so : (undiffused : Bool) (found : Option Counts) → WroteAtLeast A g asked 0 old new →
+        AllByRecursion (IsSo A g asked MayTell old new) (Beginning (length asked.questions) (count_diffusions undiffused asked.questions) ∷ due_if Ordering found)
+    begun_so undiffused found header = (header, so_if Ordering found (λ c is. tt))
 
-  -- before the first question the header is
-  pub begun_written : {X : Type 0} (old new : Output X) (plain : Bool) (found : Option Counts) → WroteAtLeast A g asked 0 old new →
-      AllByRecursion (IsWritten A g asked old new) (Beginning (length asked.questions) (count_diffusions plain asked.questions) ∷ order_due found)
-  begun_written old new plain found header = (header, order_written old new found)
-
-  pub start_written : {X : Type 0} (old new : Output X) (plain : Bool) (made : Preparation) → WroteAtLeast A g asked 0 old new →
-      AllByRecursion (IsWritten A g asked old new) (due_first plain made asked.questions 0)
-  start_written old new plain made header = (
-    header,
-    written_then old new (order_due made.found ++ factoring_due made.became) []
-        (written_then old new (order_due made.found) (factoring_due made.became) (order_written old new made.found) (factoring_written old new made.became)) tt,
-  )
+    pub start_so : (undiffused : Bool) (made : Preparation) → ((f : Factoring) → made.became ≡ Some f → MayTell f) → WroteAtLeast A g asked 0 old new →
+        AllByRecursion (IsSo A g asked MayTell old new) (start_due undiffused made asked.questions)
+    start_so undiffused made may header =
+        so_then (Beginning (length asked.questions) (count_diffusions undiffused asked.questions) ∷ due_if Ordering made.found) (due_if Attempt made.became) (begun_so undiffused made.found header)
+        (so_if Attempt made.became may)
 
   -- when it stopped at a question
-  pub written_still : (q : Question) {X : Type 0} (old mid new : Output X) (cause : Cause) (ds : List Due) → WroteNext A g q mid new (Err cause) →
-      AllByRecursion (IsWritten A g asked old mid) ds → AllByRecursion (IsWritten A g asked old new) ds
-  written_still q {X = X} old mid new cause ds h all = elim (write_or_other cause) [
-    | inl write ↦ written_more old mid new (h.0 write).2.prefix (h.0 write).2.bytes ds all
-    | inr other ↦ subst (λ (x : Output X). AllByRecursion (IsWritten A g asked old x) ds) (sym (h.1 other)) all
+  pub so_at_stop : (MayTell : Factoring → Type 0) (q : Question) {X : Type 0} (old mid new : Output X) (cause : Cause) (ds : List Due) → WroteNext A g q mid new (Err cause) →
+      AllByRecursion (IsSo A g asked MayTell old mid) ds → AllByRecursion (IsSo A g asked MayTell old new) ds
+  so_at_stop MayTell q {X = X} old mid new cause ds h all = elim (write_or_other cause) [
+    | inl write ↦ all_still MayTell MayTell (λ f may. may) old mid new (more_at_least old mid new (h.0 write).2.prefix (h.0 write).2.bytes) ds all
+    | inr other ↦ subst (λ (x : Output X). AllByRecursion (IsSo A g asked MayTell old x) ds) (sym (h.1 other)) all
   ]
 
--- so many questions were reported as answered, and of factoring what may be told; and what that
--- says was written
-pub record ReportedUntil {V S W : Type 0} (A : Algebra V) (how : Settings) (g : GraphData) (asked : Asked) (plain : Bool) (Told : Preparation → Type 0) (may_become : S → Progress → S → Type 0)
-    (i : ℕ) (old new : S) (out out_after : Output W) : Type 0 where
+-- so many questions were reported as answered, with what may be told of factoring; and what that says
+-- is so
+pub record ReportedUntil {V S W : Type 0} (A : Algebra V) (how : Settings) (g : GraphData) (asked : Asked) (undiffused : Bool) (Told : Preparation → Type 0) (MayTell : Factoring → Type 0)
+    (may_become : S → Progress → S → Type 0) (i : ℕ) (old new : S) (out out_after : Output W) : Type 0 where
   pub made : Preparation
   pub told : Told made
-  pub reported : Reported A how g may_become (due_first plain made asked.questions i) old new
-  pub written : AllByRecursion (IsWritten A g asked out out_after) (due_first plain made asked.questions i)
+  pub reported : Reported A how g may_become (due_first undiffused made asked.questions i) old new
+  pub so : AllByRecursion (IsSo A g asked MayTell out out_after) (due_first undiffused made asked.questions i)
 
-module _ {V S W : Type 0} (A : Algebra V) (how : Settings) (g : GraphData) (asked : Asked) (plain : Bool) (Told : Preparation → Type 0) (may_become : S → Progress → S → Type 0)
-    (old : S) (out : Output W) where
+module _ {V S W : Type 0} (A : Algebra V) (how : Settings) (g : GraphData) (asked : Asked) (undiffused : Bool) (Told : Preparation → Type 0) (MayTell : Factoring → Type 0)
+    (may_become : S → Progress → S → Type 0) (old : S) (out : Output W) where
   module _ (made : Preparation) (told : Told made) (out_after : Output W) where
-    reported_as : (new : S) (ds rest : List Due) → batch_due plain made asked.questions ≡ ds ++ rest → Reported A how g may_become ds old new → AllByRecursion (IsWritten A g asked out out_after) ds →
-        ReportedWritten A how g asked plain Told may_become old new out out_after
-    reported_as new ds rest e h all = record { made = made; told = told; reported = record { prefix = ds; rest = rest; due_is = e; reported = h }; written = all }
+    first_are : (new : S) (ds rest : List Due) → batch_due undiffused made asked.questions ≡ ds ++ rest → Reported A how g may_become ds old new → AllByRecursion (IsSo A g asked MayTell out out_after) ds →
+        ReportedFirst A how g asked undiffused Told MayTell may_become old new out out_after false
+    first_are new ds rest e h so =
+        (h.reports, record { made = made; told = told; prefix = ds; rest = rest; due_is = e; all = λ bad. absurd (false≢true bad); are_due = h.are_due; so = so }, h.told)
 
     -- nothing was reported
-    pub unreported : (new : S) → new ≡ old → ReportedWritten A how g asked plain Told may_become old new out out_after
-    unreported new e = reported_as new [] (batch_due plain made asked.questions) refl (subst (λ (s : S). Reported A how g may_become [] old s) (sym e) (none A how g may_become old)) tt
+    pub unreported : (new : S) → new ≡ old → ReportedFirst A how g asked undiffused Told MayTell may_become old new out out_after false
+    unreported new e = first_are new [] (batch_due undiffused made asked.questions) refl (subst (λ (s : S). Reported A how g may_become [] old s) (sym e) (none A how g may_become old)) tt
 
-    module _ (header : WroteAtLeast A g asked 0 out out_after) (mid : S) (first : Reported A how g may_become (Beginning (length asked.questions) (count_diffusions plain asked.questions) ∷ []) old mid) where
+    module _ (header : WroteAtLeast A g asked 0 out out_after) (mid : S) (first : Reported A how g may_become (Beginning (length asked.questions) (count_diffusions undiffused asked.questions) ∷ []) old mid) where
       -- only that the batch begins was
-      pub only_begun : ReportedWritten A how g asked plain Told may_become old mid out out_after
-      only_begun = let after = start_follows plain made asked.questions in reported_as mid _ after.0 after.1 first (header, tt)
+      pub only_begun : ReportedFirst A how g asked undiffused Told MayTell may_become old mid out out_after false
+      only_begun = first_are mid _ ((due_if Ordering made.found ++ due_if Attempt made.became) ++ questions_due undiffused 0 asked.questions) refl first (header, tt)
 
       module _ (next : S) (some : IfSome made.found (λ c. may_become mid (report.Ordered c) next)) (no : IfNone made.found (next ≡ mid)) where
+        abbrev begin : List Due
+        begin = Beginning (length asked.questions) (count_diffusions undiffused asked.questions) ∷ due_if Ordering made.found
+
+        ordered : Reported A how g may_become begin old next
+        ordered =
+            more A how g may_become (Beginning (length asked.questions) (count_diffusions undiffused asked.questions) ∷ []) (due_if Ordering made.found) old mid next first
+            (reported_if A how g may_become Ordering report.Ordered (λ c. refl) made.found mid next some no)
+
         -- and then what an order counted
-        pub only_ordered : ReportedWritten A how g asked plain Told may_become old next out out_after
+        pub only_ordered : ReportedFirst A how g asked undiffused Told MayTell may_become old next out out_after false
         only_ordered =
-            let after = order_follows plain made asked.questions in
-            reported_as next _ after.0 after.1 (begun_ordered A how g may_become plain asked.questions made old mid next first some no) (begun_written A g asked out out_after plain made.found header)
+            first_are next begin (due_if Attempt made.became ++ questions_due undiffused 0 asked.questions) (append_assoc begin (due_if Attempt made.became) (questions_due undiffused 0 asked.questions))
+            ordered (begun_so A g asked MayTell out out_after undiffused made.found header)
 
         -- and then what became of factoring the graph
-        pub until_first : (new : S) → IfSome made.became (λ f. may_become next (report.Factored f) new) → IfNone made.became (new ≡ next) → ReportedUntil A how g asked plain Told may_become 0 old new out out_after
-        until_first new told_some told_none = record {
-          made = made;
-          told = told;
-          reported = started A how g may_become plain asked.questions made old mid next first some no new told_some told_none;
-          written = start_written A g asked out out_after plain made header;
+        pub until_first : ((f : Factoring) → made.became ≡ Some f → MayTell f) → (new : S) → IfSome made.became (λ f. may_become next (report.Factored f) new) → IfNone made.became (new ≡ next) →
+            ReportedUntil A how g asked undiffused Told MayTell may_become 0 old new out out_after
+        until_first may new told_some told_none =
+            let none_yet = sym (append-nil (start_due undiffused made asked.questions)) in
+            record {
+              made = made;
+              told = told;
+              reported = subst (λ (ds : List Due). Reported A how g may_become ds old new) none_yet
+                  (more A how g may_become begin (due_if Attempt made.became) old next new ordered (reported_if A how g may_become Attempt report.Factored (λ f. refl) made.became next new told_some told_none));
+              so = subst (AllByRecursion (IsSo A g asked MayTell out out_after)) none_yet (start_so A g asked MayTell out out_after undiffused made may header);
+            }
+
+  module _ (i : ℕ) (mid : S) (out_mid : Output W) (was : ReportedUntil A how g asked undiffused Told MayTell may_become i old mid out out_mid) where
+    -- one question more was
+    pub until_next : (q : Question) (new : S) (out_after : Output W) (text : List ℕ) → i < length asked.questions → Reported A how g may_become (question_due undiffused (i + 1) (get_or asked.questions i q)) mid new →
+        WrotePrefix out_mid out_after text [] → AnsweredFirst A g asked (i + 1) out out_after → ReportedUntil A how g asked undiffused Told MayTell may_become (i + 1) old new out out_after
+    until_next q new out_after text low one wrote progress =
+        let first = due_first undiffused was.made asked.questions i in
+        let next = question_due undiffused (i + 1) (get_or asked.questions i q) in
+        let due_is = sym (next_due undiffused was.made asked.questions i (i + 1) q low refl) in
+        record {
+          made = was.made;
+          told = was.told;
+          reported = subst (λ (x : List Due). Reported A how g may_become x old new) due_is (more A how g may_become first next old mid new was.reported one);
+          so = subst (AllByRecursion (IsSo A g asked MayTell out out_after)) due_is
+              (so_then A g asked MayTell out out_after first next
+              (all_still A g asked MayTell MayTell (λ f may. may) out out_mid out_after (more_at_least A g asked out out_mid out_after text (left_appends out_mid out_after text wrote)) first was.so)
+              (question_so A g asked MayTell out out_after undiffused (i + 1) (get_or asked.questions i q) (at_least A g asked (i + 1) out out_after progress)));
         }
 
-  module _ (i : ℕ) (mid : S) (out_mid : Output W) (was : ReportedUntil A how g asked plain Told may_become i old mid out out_mid) where
-    -- one question more was
-    pub until_next : (q : Question) (new : S) (out_after : Output W) (text : List ℕ) → i < length asked.questions → Reported A how g may_become (question_due plain (i + 1) (get_or asked.questions i q)) mid new →
-        WrotePrefix out_mid out_after text [] → AnsweredFirst A g asked (i + 1) out out_after → ReportedUntil A how g asked plain Told may_become (i + 1) old new out out_after
-    until_next q new out_after text low one wrote progress = record {
-      made = was.made;
-      told = was.told;
-      reported = answered A how g may_become plain asked.questions was.made i (i + 1) q low refl old mid new was.reported one;
-      written = subst (AllByRecursion (IsWritten A g asked out out_after)) (sym (next_due plain was.made asked.questions i (i + 1) q low refl))
-          (written_then A g asked out out_after (due_first plain was.made asked.questions i) (question_due plain (i + 1) (get_or asked.questions i q))
-          (written_more A g asked out out_mid out_after text (left_appends out_mid out_after text wrote) (due_first plain was.made asked.questions i) was.written)
-          (question_written A g asked out out_after plain (i + 1) (get_or asked.questions i q) (at_least A g asked (i + 1) out out_after progress)));
-    }
-
     -- no more is to come
-    pub until_all : length asked.questions ≤ i → ReportedWhole A how g plain Told asked.questions may_become old mid
-    until_all le = record { made = was.made; told = was.told; reported = ended A how g may_become plain asked.questions was.made i old mid le was.reported }
-
-    pub until_ended : ReportedWritten A how g asked plain Told may_become old mid out out_mid
-    until_ended = let after = first_follows plain was.made asked.questions i in reported_as was.made was.told out_mid mid (due_first plain was.made asked.questions i) after.0 after.1 was.reported was.written
+    pub until_all : (whole : Bool) → length asked.questions ≤ i → ReportedFirst A how g asked undiffused Told MayTell may_become old mid out out_mid whole
+    until_all whole le =
+        let first = due_first undiffused was.made asked.questions i in (
+          was.reported.reports,
+          record {
+            made = was.made;
+            told = was.told;
+            prefix = first;
+            rest = [];
+            due_is = sym (ap (λ (qs : List Question). start_due undiffused was.made asked.questions ++ questions_due undiffused 0 qs) (take_all i asked.questions le)) ∙ sym (append-nil first);
+            all = λ _. refl;
+            are_due = was.reported.are_due;
+            so = was.so;
+          },
+          was.reported.told,
+        )
 
     -- it stopped at the next, after some accounts of it
     pub until_stopped : (q : Question) (new : S) (out_after : Output W) (cause : Cause) → i < length asked.questions →
-        ReportedPrefix A how g may_become (accounts_due plain (i + 1) (get_or asked.questions i q)) mid new → WroteNext A g (get_or asked.questions i q) out_mid out_after (Err cause) →
-        ReportedWritten A how g asked plain Told may_become old new out out_after
+        ReportedPrefix A how g may_become (accounts_due undiffused (i + 1) (get_or asked.questions i q)) mid new → WroteNext A g (get_or asked.questions i q) out_mid out_after (Err cause) →
+        ReportedFirst A how g asked undiffused Told MayTell may_become old new out out_after false
     until_stopped q new out_after cause low part wrote =
-        let first = due_first plain was.made asked.questions i in
-        let after = accounts_follow plain was.made asked.questions i (i + 1) q low refl part.prefix part.rest part.due_is in
-        reported_as was.made was.told out_after new (first ++ part.prefix) after.0 after.1
+        let first = due_first undiffused was.made asked.questions i in
+        let after = accounts_follow undiffused was.made asked.questions i (i + 1) q low refl part.prefix part.rest part.due_is in
+        first_are was.made was.told out_after new (first ++ part.prefix) after.0 after.1
         (more A how g may_become first part.prefix old mid new was.reported part.reported)
-        (written_then A g asked out out_after first part.prefix (written_still A g asked (get_or asked.questions i q) out out_mid out_after cause first wrote was.written)
-        (within_accounts A g asked out out_after plain (i + 1) (get_or asked.questions i q) part.prefix part.rest part.due_is))
+        (so_then A g asked MayTell out out_after first part.prefix (so_at_stop A g asked MayTell (get_or asked.questions i q) out out_mid out_after cause first wrote was.so)
+        (within_accounts A g asked MayTell out out_after undiffused (i + 1) (get_or asked.questions i q) part.prefix part.rest part.due_is))
 
--- what is told of factoring may be told more widely
-module _ {V S W : Type 0} (A : Algebra V) (how : Settings) (g : GraphData) (asked : Asked) (plain : Bool) (Told Wide : Preparation → Type 0) (wider : (b : Preparation) → Told b → Wide b)
-    (may_become : S → Progress → S → Type 0) (old new : S) (out out_after : Output W) where
-  pub whole_wider : ReportedWhole A how g plain Told asked.questions may_become old new → ReportedWhole A how g plain Wide asked.questions may_become old new
-  whole_wider w = record { made = w.made; told = wider w.made w.told; reported = w.reported }
-
-  pub written_wider : ReportedWritten A how g asked plain Told may_become old new out out_after → ReportedWritten A how g asked plain Wide may_become old new out out_after
-  written_wider w = record { made = w.made; told = wider w.made w.told; reported = w.reported; written = w.written }
+-- first reports stay so while what they say does, and while no less may be told of factoring
+pub first_still : {V S W : Type 0} (A : Algebra V) (how : Settings) (g : GraphData) (asked : Asked) (undiffused : Bool) (Told WideTold : Preparation → Type 0) (wider_told : (p : Preparation) → Told p → WideTold p)
+    (MayTell Wide : Factoring → Type 0) (wider : (f : Factoring) → MayTell f → Wide f) (may_become : S → Progress → S → Type 0) (old new : S) (out mid out_after : Output W)
+    → ((n : ℕ) → WroteAtLeast A g asked n out mid → WroteAtLeast A g asked n out out_after) → (whole : Bool) → ReportedFirst A how g asked undiffused Told MayTell may_become old new out mid whole
+    → ReportedFirst A how g asked undiffused WideTold Wide may_become old new out out_after whole
+first_still A how g asked undiffused Told WideTold wider_told MayTell Wide wider may_become old new out mid out_after still whole w = (
+  w.0,
+  record {
+    made = w.1.made;
+    told = wider_told w.1.made w.1.told;
+    prefix = w.1.prefix;
+    rest = w.1.rest;
+    due_is = w.1.due_is;
+    all = w.1.all;
+    are_due = w.1.are_due;
+    so = all_still A g asked MayTell Wide wider out mid out_after still w.1.prefix w.1.so;
+  },
+  w.2,
+)

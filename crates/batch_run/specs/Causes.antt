@@ -20,6 +20,6 @@ fault_of cause = record { number = number_of cause; file = NoFile; line = 0 }
 
 -- a batch may stop for this: memory or a thread, or a write; and if workers answer, a limit of
 -- turns or a gate that stopped a group of diffusions, of which `stops` says what holds
-abbrev pub MayStop : (plain : Bool) → (stops : GroupFault → Type 0) → Cause → Type 0
-MayStop plain stops (Unsolved fault) = fault ≢ Memory → (plain ≡ false) × stops fault
-MayStop plain stops Write = Unit {0}
+abbrev pub MayStop : (undiffused : Bool) → (stops : GroupFault → Type 0) → Cause → Type 0
+MayStop undiffused stops (Unsolved fault) = fault ≢ Memory → (undiffused ≡ false) × stops fault
+MayStop undiffused stops Write = Unit {0}

@@ -3,7 +3,7 @@
 -- from 4 was gathered, question 2 from 5 was, 2 are answered. With the plain solver: it begins (2
 -- questions, 0 diffusions), 1 is answered, 2 are. With factors: it begins (2 questions, 0
 -- diffusions), an order is found, the graph is factored, 1 is answered, 2 are.
-use Rattle.std.specs.Prelude.{◌≡◌, ◌≢◌, ℕ, ◌+◌, Bool, true, false, List, [], ◌∷◌, ◌++◌, length, map, Option, None, Some, IfSome, IsSome, Result, Ok, Err, OnOk, IfErr}
+use Rattle.std.specs.Prelude.{◌≡◌, ◌≢◌, ℕ, ◌+◌, Bool, true, false, List, [], ◌∷◌, ◌++◌, length, map, Option, None, Some, IfSome, is_some, Result, Ok, Err, OnOk, IfErr}
 use Rattle.std.specs.List.{AllByRecursion, AllZip, flat_map}
 use Rattle.text_lines.specs.Streams.{Output}
 use Rattle.road_graph.specs.GraphData.{GraphData}
@@ -16,6 +16,7 @@ use Rattle.station.specs.Gather.{IsGathered}
 use Rattle.elimination_order.specs.Bounds.{AreWithinBounds}
 use Rattle.elimination_order.specs.declared.counts.Counts.{Counts}
 use Rattle.question_solvers.specs.declared.factor_solver.Factoring.{Factoring}
+use Rattle.question_solvers.specs.declared.factor_solver.Factoring.TheVariants.{Untried}
 use Rattle.question_solvers.specs.Solvers.{IsToldRightly}
 use Rattle.batch_inputs.specs.declared.faults.File.TheVariants.{NoFile}
 use Rattle.batch_inputs.specs.declared.faults.RunFault.{RunFault}
@@ -60,46 +61,41 @@ IsReportOf A how g (Attempt became) r = r ≡ Factored became
 IsReportOf A how g (Account k s) r = (tally : Tally) × IsAccount A how g s tally × (r ≡ Gathered k s tally)
 IsReportOf A how g (Answering n) r = r ≡ Answered n
 
--- the sources from which a question is answered by diffusions: none with the plain solver
+-- the sources from which a question is answered by diffusions: none if it is answered without them
 abbrev pub diffused : Bool → Question → List ℕ
 diffused true q = []
 diffused false q = sources_of q
 
 -- how many diffusions the questions are answered by
 abbrev pub count_diffusions : Bool → List Question → ℕ
-count_diffusions plain qs = length (flat_map (diffused plain) qs)
+count_diffusions undiffused qs = length (flat_map (diffused undiffused) qs)
 
 -- due of a question of this number: an account of the diffusion from each of its sources, in order
 abbrev pub accounts_due : Bool → ℕ → Question → List Due
-accounts_due plain k q = map (Account k) (diffused plain q)
+accounts_due undiffused k q = map (Account k) (diffused undiffused q)
 
 -- due of a question of this number: its accounts, and that it is answered
 abbrev pub question_due : Bool → ℕ → Question → List Due
-question_due plain k q = accounts_due plain k q ++ Answering k ∷ []
+question_due undiffused k q = accounts_due undiffused k q ++ Answering k ∷ []
 
 -- due of questions, in order, when so many are answered: for each its accounts, and that it is
 -- answered
 abbrev pub questions_due : Bool → ℕ → List Question → List Due
-questions_due plain n [] = []
-questions_due plain n (q ∷ qs) = accounts_due plain (n + 1) q ++ Answering (n + 1) ∷ [] ++ questions_due plain (n + 1) qs
+questions_due undiffused n [] = []
+questions_due undiffused n (q ∷ qs) = accounts_due undiffused (n + 1) q ++ Answering (n + 1) ∷ [] ++ questions_due undiffused (n + 1) qs
 
--- due of an order, if one was found
-abbrev pub order_due : Option Counts → List Due
-order_due None = []
-order_due (Some counts) = Ordering counts ∷ []
-
--- due of factoring, if factors are to answer
-abbrev pub factoring_due : Option Factoring → List Due
-factoring_due None = []
-factoring_due (Some became) = Attempt became ∷ []
+-- due of what there is, if there is any
+abbrev pub due_if : {X : Type 0} → (X → Due) → Option X → List Due
+due_if due None = []
+due_if due (Some x) = due x ∷ []
 
 -- due before the first question: that the batch begins, and what is told of factoring its graph
 abbrev pub start_due : Bool → Preparation → List Question → List Due
-start_due plain made qs = Beginning (length qs) (count_diffusions plain qs) ∷ order_due made.found ++ factoring_due made.became
+start_due undiffused made qs = Beginning (length qs) (count_diffusions undiffused qs) ∷ due_if Ordering made.found ++ due_if Attempt made.became
 
 -- due of a batch: that, and then what is due of each question
 abbrev pub batch_due : Bool → Preparation → List Question → List Due
-batch_due plain made qs = start_due plain made qs ++ questions_due plain 0 qs
+batch_due undiffused made qs = start_due undiffused made qs ++ questions_due undiffused 0 qs
 
 -- what is told of an order for this graph: that one was found, if it was, with counts within the
 -- bounds; nothing if the settings choose no factors
@@ -107,15 +103,15 @@ abbrev pub IsOrderTold : GraphData → (factors : Bool) → Option Counts → Ty
 IsOrderTold g true found = IfSome found (AreWithinBounds g.vertices (length g.arcs))
 IsOrderTold g false found = found ≡ None
 
--- what is told of factoring this graph: if the settings choose factors, what became of it, and if it
--- is too dense, counts that are above a bound; else nothing
-abbrev pub IsFactoringTold : GraphData → (factors : Bool) → Option Factoring → Type 0
-IsFactoringTold g true became = IsSome became × IfSome became (IsToldRightly g)
-IsFactoringTold g false became = became ≡ None
-
+-- what is told of factoring this graph: such an order; and what became of it, exactly if the settings
+-- choose factors
 pub record IsTold (g : GraphData) (factors : Bool) (made : Preparation) : Type 0 where
   pub order : IsOrderTold g factors made.found
-  pub factoring : IsFactoringTold g factors made.became
+  pub factoring : is_some made.became ≡ factors
+
+-- what became of it is told once it was tried, and if it is too dense, with counts above a bound
+abbrev pub IsFactoringTold : GraphData → Factoring → Type 0
+IsFactoringTold g became = IsToldRightly g became × (became ≢ Untried)
 
 -- given these reports, one after the other, a watcher went from the one state to the other
 abbrev pub FollowsReports : {S : Type 0} → (S → Progress → S → Type 0) → S → List Progress → S → Type 0
@@ -140,60 +136,50 @@ abbrev pub ReportedAllOrPrefix : {V S T E : Type 0} (A : Algebra V) (how : Setti
 ReportedAllOrPrefix A how g may_become due old new (Ok _) = Reported A how g may_become due old new
 ReportedAllOrPrefix A how g may_become due old new (Err _) = ReportedPrefix A how g may_become due old new
 
--- all that is due of questions was reported, and of factoring what may be told
-pub record ReportedWhole {V S : Type 0} (A : Algebra V) (how : Settings) (g : GraphData) (plain : Bool) (Told : Preparation → Type 0) (qs : List Question) (may_become : S → Progress → S → Type 0) (old new : S) : Type 0 where
+-- what a report says is so: that a batch begins, and the header was written before; of factoring,
+-- what may be told of it; that so many questions are answered, and their answers were written too,
+-- each whole
+abbrev pub IsSo : {V W : Type 0} → Algebra V → GraphData → Asked → (Factoring → Type 0) → (out out_after : Output W) → Due → Type 0
+IsSo A g asked MayTell out out_after (Beginning n d) = WroteAtLeast A g asked 0 out out_after
+IsSo A g asked MayTell out out_after (Ordering counts) = Unit {0}
+IsSo A g asked MayTell out out_after (Attempt became) = MayTell became
+IsSo A g asked MayTell out out_after (Account k s) = Unit {0}
+IsSo A g asked MayTell out out_after (Answering n) = WroteAtLeast A g asked n out out_after
+
+-- these reports are the first that are due of a batch, in order, with what is told of factoring, and
+-- what each says is so; if the batch is whole they are all, and no others
+pub record FirstReports {V W : Type 0} (A : Algebra V) (how : Settings) (g : GraphData) (asked : Asked) (undiffused : Bool) (Told : Preparation → Type 0) (MayTell : Factoring → Type 0)
+    (out out_after : Output W) (whole : Bool) (reports : List Progress) : Type 0 where
   pub made : Preparation
   pub told : Told made
-  pub reported : Reported A how g may_become (batch_due plain made qs) old new
-
--- what a report says was written, before: that a batch begins, the header; that so many questions
--- are answered, their answers too, each whole
-abbrev pub IsWritten : {V W : Type 0} → Algebra V → GraphData → Asked → Output W → Output W → Due → Type 0
-IsWritten A g asked out out_after (Beginning n d) = WroteAtLeast A g asked 0 out out_after
-IsWritten A g asked out out_after (Ordering counts) = Unit {0}
-IsWritten A g asked out out_after (Attempt became) = Unit {0}
-IsWritten A g asked out out_after (Account k s) = Unit {0}
-IsWritten A g asked out out_after (Answering n) = WroteAtLeast A g asked n out out_after
-
--- a prefix of what is due of a batch was reported, of factoring what may be told, and what it says
--- was written
-pub record ReportedWritten {V S W : Type 0} (A : Algebra V) (how : Settings) (g : GraphData) (asked : Asked) (plain : Bool) (Told : Preparation → Type 0) (may_become : S → Progress → S → Type 0) (old new : S) (out out_after : Output W) : Type 0 where
-  pub made : Preparation
-  pub told : Told made
-  pub reported : ReportedPrefix A how g may_become (batch_due plain made asked.questions) old new
-  pub written : AllByRecursion (IsWritten A g asked out out_after) reported.prefix
-
--- these are all reports that are due of what was read, in order
-pub record AreAllReports {V : Type 0} (A : Algebra V) (how : Settings) (IsRead : GraphData → Asked → Type 0) (reports : List Progress) : Type 0 where
-  pub graph : GraphData
-  pub asked : Asked
-  pub read : IsRead graph asked
-  pub made : Preparation
-  pub told : IsTold graph how.factors made
-  pub are_due : AllZip (IsReportOf A how graph) (batch_due (without_diffusions how) made asked.questions) reports
-
--- these are the first reports that are due of what was read, in order, and what each says was
--- written
-pub record AreFirstReports {V W : Type 0} (A : Algebra V) (how : Settings) (IsRead : GraphData → Asked → Type 0) (out out_after : Output W) (reports : List Progress) : Type 0 where
-  pub graph : GraphData
-  pub asked : Asked
-  pub read : IsRead graph asked
-  pub made : Preparation
-  pub told : IsTold graph how.factors made
   pub prefix : List Due
   pub rest : List Due
-  pub due_is : batch_due (without_diffusions how) made asked.questions ≡ prefix ++ rest
-  pub are_due : AllZip (IsReportOf A how graph) prefix reports
-  pub written : AllByRecursion (IsWritten A graph asked out out_after) prefix
+  pub due_is : batch_due undiffused made asked.questions ≡ prefix ++ rest
+  pub all : whole ≡ true → rest ≡ []
+  pub are_due : AllZip (IsReportOf A how g) prefix reports
+  pub so : AllByRecursion (IsSo A g asked MayTell out out_after) prefix
+
+-- such reports were made to a watcher, and no others
+abbrev pub ReportedFirst : {V S W : Type 0} → Algebra V → Settings → GraphData → Asked → (undiffused : Bool) → (Preparation → Type 0) → (Factoring → Type 0) → (S → Progress → S → Type 0) →
+    (old new : S) → (out out_after : Output W) → (whole : Bool) → Type 0
+ReportedFirst A how g asked undiffused Told MayTell may_become old new out out_after whole =
+    (reports : List Progress) × FirstReports A how g asked undiffused Told MayTell out out_after whole reports × FollowsReports may_become old reports new
+
+-- so they are of a batch over what was read, and what they tell of factoring is right
+pub record AreFirstReports {V W : Type 0} (A : Algebra V) (how : Settings) (IsRead : GraphData → Asked → Type 0) (out out_after : Output W) (whole : Bool) (reports : List Progress) : Type 0 where
+  pub graph : GraphData
+  pub asked : Asked
+  pub read : IsRead graph asked
+  pub first : FirstReports A how graph asked (without_diffusions how) (IsTold graph how.factors) (IsFactoringTold graph) out out_after whole reports
 
 -- these are the reports of a batch over what was read, which ended with this outcome, while the
 -- output took bytes
 pub record AreReports {V W : Type 0} (A : Algebra V) (how : Settings) (IsRead : GraphData → Asked → Type 0) (out out_after : Output W) (outcome : Result (Unit {0}) RunFault) (reports : List Progress) : Type 0 where
   -- on success they are all that are due, in order, and no others
-  pub all : OnOk outcome (AreAllReports A how IsRead reports)
+  pub all : OnOk outcome (AreFirstReports A how IsRead out out_after true reports)
   -- before a fault of the run they are the first of these, and each question that they report as
   -- answered has its answer in the output, whole
-  pub first : IfErr outcome (λ f. f.file ≡ NoFile → f.number ≢ 43 → AreFirstReports A how IsRead out out_after reports)
+  pub first : IfErr outcome (λ f. f.file ≡ NoFile → f.number ≢ 43 → AreFirstReports A how IsRead out out_after false reports)
   -- before a fault of an input there are none
   pub nothing : IfErr outcome (λ f. f.file ≢ NoFile → reports ≡ [])
   -- nor before one of a setting

@@ -1,8 +1,8 @@
 //! Answers all questions of a batch.
-ghost use Rattle.std.specs.Prelude.{◌≡◌, ◌+◌, ◌<◌, length, slice_index_or, IfErr, IfNone, IfOk, IfSome, OnErr, OnOk};
+ghost use Rattle.std.specs.Prelude.{◌≡◌, ◌+◌, ◌<◌, length, slice_index_or, true, false, IfErr, IfNone, IfOk, IfSome, OnErr, OnOk};
 ghost use Rattle.road_files.specs.Asked.{AreQuestionsOf, Question, asked_of};
 ghost use Rattle.batch_run.specs.Answered.{AnsweredAll, WroteNext};
-ghost use Rattle.batch_run.specs.Batches.{IsAfter, IsReadyAt, MayStopBatch, ReportedBatch, ReportedOfBatch};
+ghost use Rattle.batch_run.specs.Batches.{IsAfter, IsReadyAt, MayStopBatch, ReportedBatch};
 ghost use Rattle.batch_run.specs.Factored.{IsSought, is_by_factors};
 ghost use Rattle.batch_run.specs.Reports.{Reported, ReportedPrefix, accounts_due, question_due};
 ghost use Rattle.batch_run.specs.Solvers.{IsSameSolver, graph_of, is_without_diffusions};
@@ -107,13 +107,13 @@ pub fn answer_all<A: PathAlgebra, W: RoadWrite, R: Threads + Wait + Sync, T: Gat
     ensures answered { AnsweredAll (A.meaning batch.now.algebra) (graph_of solver.old) (asked_of
         batch.now.questions.now) (MayStopBatch A.meaning T.may_answer batch.now solver.old) (W.seen
         out.old) (W.seen out.new) result }
-    ensures all { OnOk result (ReportedBatch A.meaning batch.now solver.old O.may_become watcher.old
-        watcher.new) }
-    ensures reported { ReportedOfBatch A.meaning batch.now solver.old O.may_become watcher.old
-        watcher.new (W.seen out.old) (W.seen out.new) }
+    ensures all { OnOk result (ReportedBatch A.meaning A.arc_cost batch.now solver.old O.may_become
+        watcher.old watcher.new (W.seen out.old) (W.seen out.new) true) }
+    ensures reported { ReportedBatch A.meaning A.arc_cost batch.now solver.old O.may_become
+        watcher.old watcher.new (W.seen out.old) (W.seen out.new) false }
 {
-    let plain = solver.is_without_diffusions();
-    begin(batch.algebra, batch.questions, plain, out, watcher)?;
+    let undiffused = solver.is_without_diffusions();
+    begin(batch.algebra, batch.questions, undiffused, out, watcher)?;
     let found = seek(batch, solver)?;
     report_order(found, watcher);
     start(batch, solver)?;

@@ -4,10 +4,10 @@ ghost use Rattle.road_files.specs.Asked.{AskWithin, AskWithin-prop, asked_of};
 ghost use Rattle.batch_settings.specs.InRange.{AreInRange};
 
 use batch_settings::Settings;
-use graph_text::FromArcs;
 use path_algebra::PathAlgebra;
 use question_solvers::Task;
 use road_files::Questions;
+use road_graph::Graph;
 use std::alloc::Global;
 
 /// How a batch is run, and by what.
@@ -48,14 +48,14 @@ impl<'b, A: PathAlgebra, R, T> Batch<'b, A, R, T> {
     }
 }
 
-/// A batch over the graph of a solver.
+/// A batch over the graph of workers.
 #[derive(Drop)]
-pub(crate) struct BatchOver<'b, A: PathAlgebra, G: FromArcs, R, T> {
+pub(crate) struct BatchOver<'b, A: PathAlgebra, R, T> {
     pub(crate) run: &'b Run<'b, R, T>,
     pub(crate) algebra: A,
-    pub(crate) graph: &'b G,
+    pub(crate) graph: &'b Graph,
     pub(crate) questions: &'b Questions,
     ghost in_range: { AreInRange run.now.settings.now },
     ghost few: { length (asked_of questions.now).questions ≤ 1048576 },
-    ghost within: { AskWithin (G.roads graph.now).vertices questions.now } by { AskWithin-prop (G.roads graph.now).vertices questions.now },
+    ghost within: { AskWithin graph.now.vertices questions.now } by { AskWithin-prop graph.now.vertices questions.now },
 }

@@ -17,7 +17,7 @@ use text_lines::{RoadWrite, WriteFault};
 pub(crate) fn begin<A: PathAlgebra, W: RoadWrite, O: Watcher>(
     algebra: A,
     questions: &Questions,
-    plain: bool,
+    undiffused: bool,
     out: &mut W,
     watcher: &mut O,
 ) -> Result<(), WriteFault>
@@ -26,12 +26,12 @@ pub(crate) fn begin<A: PathAlgebra, W: RoadWrite, O: Watcher>(
         (begun_text (A.meaning algebra) (asked_of questions.now) []) result }
     ensures reported { OnOk result (O.may_become watcher.old (Progress.Begun
         (length (asked_of questions.now).questions)
-        (count_diffusions plain (asked_of questions.now).questions)) watcher.new) }
+        (count_diffusions undiffused (asked_of questions.now).questions)) watcher.new) }
     ensures unreported { OnErr result (watcher.new ≡ watcher.old) }
 {
     let count = questions.len() as u32;
     write_header(out, questions.kind(), count, algebra.name())?;
-    let diffusions = count_diffusions(questions, plain);
+    let diffusions = count_diffusions(questions, undiffused);
     watcher.report(Progress::Begun {
         questions: count,
         diffusions,

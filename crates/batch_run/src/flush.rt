@@ -1,9 +1,9 @@
 //! Answers a batch and passes the answers on.
-ghost use Rattle.std.specs.Prelude.{◌≡◌, ◌≢◌, ◌+◌, ◌≤◌, ◌<◌, ◌⊎◌, [], Ok, Err, OnOk, IfErr};
+ghost use Rattle.std.specs.Prelude.{◌≡◌, ◌≢◌, ◌+◌, ◌≤◌, ◌<◌, ◌⊎◌, [], true, false, Ok, Err, OnOk, IfErr};
 ghost use Rattle.std.specs.Io.KnownBytes.{Keeps};
 ghost use Rattle.road_files.specs.Asked.{AreQuestionsOf, asked_of};
 ghost use Rattle.batch_run.specs.Answered.{IsPassedOn, PassedOnAll};
-ghost use Rattle.batch_run.specs.Batches.{MayStopBatch, ReportedBatch, ReportedOfBatch};
+ghost use Rattle.batch_run.specs.Batches.{MayStopBatch, ReportedBatch};
 ghost use Rattle.batch_run.specs.Solvers.{graph_of};
 
 use crate::answering::answer_all;
@@ -58,10 +58,10 @@ pub(crate) fn answer_and_flush<
     ensures passed_on { PassedOnAll (A.meaning batch.now.algebra) (graph_of solver.old) (asked_of
         batch.now.questions.now) (MayStopBatch A.meaning T.may_answer batch.now solver.old) (W.seen
         out.old) (W.seen out.new) result }
-    ensures all { OnOk result (ReportedBatch A.meaning batch.now solver.old O.may_become watcher.old
-        watcher.new) }
-    ensures reported { ReportedOfBatch A.meaning batch.now solver.old O.may_become watcher.old
-        watcher.new (W.seen out.old) (W.seen out.new) }
+    ensures all { OnOk result (ReportedBatch A.meaning A.arc_cost batch.now solver.old O.may_become
+        watcher.old watcher.new (W.seen out.old) (W.seen out.new) true) }
+    ensures reported { ReportedBatch A.meaning A.arc_cost batch.now solver.old O.may_become
+        watcher.old watcher.new (W.seen out.old) (W.seen out.new) false }
 {
     // Laws for the proof: right answers exist, the first of them begin all, and a graph is one.
     answers_exist(batch.algebra);

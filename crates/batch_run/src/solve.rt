@@ -1,5 +1,5 @@
 //! How the questions of a batch are solved.
-ghost use Rattle.std.specs.Prelude.{◌≡◌, ◌+◌, ◌<◌, true, length, slice_index_or, IfErr, IfOk, OnOk};
+ghost use Rattle.std.specs.Prelude.{◌≡◌, ◌+◌, ◌<◌, true, length, slice_index_or, is_some, IfErr, IfOk, IfSome, OnOk};
 ghost use Rattle.std.specs.Borrow.{sem};
 ghost use Rattle.road_graph.specs.GraphData.{IsGraph};
 ghost use Rattle.road_files.specs.Asked.{AreQuestionsOf, Question, asked_of};
@@ -7,7 +7,7 @@ ghost use Rattle.batch_run.specs.Batches.{IsReadyAt, StopsBatch};
 ghost use Rattle.batch_run.specs.Lending.{EndsBatch};
 ghost use Rattle.batch_run.specs.Reports.{ReportedAllOrPrefix, accounts_due};
 ghost use Rattle.question_solvers.specs.Solved.{IsSolvedFor};
-ghost use Rattle.batch_run.specs.Factored.{IsFactoringOf, is_by_factors};
+ghost use Rattle.batch_run.specs.Factored.{IsFactoringOf, WasTried, is_by_factors};
 ghost use Rattle.batch_run.specs.Solvers.{IsSameSolver, graph_of, is_without_diffusions};
 
 mod diffusion;
@@ -74,7 +74,8 @@ impl<A: PathAlgebra> Solver<A> {
 
     /// What became of factoring the graph, if factors are to answer.
     pub(crate) fn factoring(&self) -> Option<Factoring>
-        ensures { IsFactoringOf self.now result }
+        ensures some { is_some result ≡ is_by_factors self.now }
+        ensures is_true { IfSome result (IsFactoringOf self.now) }
     {
         match self {
             Solver::Plain(_) | Solver::Workers(_) => None,
@@ -91,6 +92,8 @@ pub(crate) fn start<A: PathAlgebra, R, T>(
     ensures same { IsSameSolver solver.old solver.new }
     ensures kind { is_by_factors solver.new ≡ is_by_factors solver.old }
     ensures ready { OnOk result (IsReadyAt A.meaning batch.now 0 solver.new) }
+    ensures tried { OnOk result (WasTried (A.meaning batch.now.algebra)
+        (A.arc_cost batch.now.algebra) solver.new) }
 {
     match solver {
         Solver::Plain(solver) => start_plain(&batch.task(), solver),
@@ -113,7 +116,8 @@ pub(crate) fn solve_next<'s, A: PathAlgebra, R: Threads + Wait + Sync, T: Gate, 
         solver.entry result) }
     ensures solved { IfOk result (λ s. IsSolvedFor (A.meaning batch.now.algebra)
         (graph_of solver.old) (asked_of batch.now.questions.now) i s.now) }
-    ensures plain { is_without_diffusions solver.old ≡ true → IfErr result (λ f. f ≡ GroupFault.Memory) }
+    ensures undiffused { is_without_diffusions solver.old ≡ true → IfErr result (λ f.
+        f ≡ GroupFault.Memory) }
     ensures stops { IfErr result (StopsBatch A.meaning T.may_answer batch.now (graph_of
         solver.old)) }
     ensures reported { (default : Question) → ReportedAllOrPrefix (A.meaning batch.now.algebra)

@@ -18,15 +18,15 @@ use Rattle.batch_run.specs.Causes.{MayStop, number_of}
 use Rattle.service.specs.Replies.{fault_text}
 use Rattle.service.specs.Answering.{MayAnswerAs}
 
-module _ {V : Type 0} (A : Algebra V) (plain : Bool) (how : Settings) (gate : ℕ → ℕ → Bool → Type 0) (g : GraphData) (asked : Asked) {X : Type 0} (old : Output X) where
+module _ {V : Type 0} (A : Algebra V) (undiffused : Bool) (how : Settings) (gate : ℕ → ℕ → Bool → Type 0) (g : GraphData) (asked : Asked) {X : Type 0} (old : Output X) where
   -- the right answers were written, whole
-  pub answered : (new : Output X) → WroteAnswers A g asked old new → new.failures ≡ old.failures → (text : List ℕ) × MayAnswerAs A plain how gate g asked text × WrotePrefix old new text []
+  pub answered : (new : Output X) → WroteAnswers A g asked old new → new.failures ≡ old.failures → (text : List ℕ) × MayAnswerAs A undiffused how gate g asked text × WrotePrefix old new text []
   answered new w same =
       let text : List ℕ = answers_text w.answers in
       (text, inl (w.answers, w.right, refl), record { prefix = text; text_is = sym (append-nil text); bytes = w.bytes; sound = same })
 
   -- a prefix of them was, and then a write failed
-  pub fell : (new : Output X) → WroteAnswersPrefix A g asked old new → new.failures ≡ old.failures + 1 → (text : List ℕ) × MayAnswerAs A plain how gate g asked text × FailedAfterPrefix old new text
+  pub fell : (new : Output X) → WroteAnswersPrefix A g asked old new → new.failures ≡ old.failures + 1 → (text : List ℕ) × MayAnswerAs A undiffused how gate g asked text × FailedAfterPrefix old new text
   fell new w one = (answers_text w.answers, inl (w.answers, w.right, refl), record { prefix = w.prefix; rest = w.rest; text_is = w.text_is; bytes = w.bytes; failed = one })
 
   -- if none was asked, memory ran out
@@ -37,9 +37,9 @@ module _ {V : Type 0} (A : Algebra V) (plain : Bool) (how : Settings) (gate : �
   memory Write other some none = absurd (other refl)
 
   -- the first of them were, each whole, and then the line of the fault that stopped it
-  pub stopped : {R E : Type 0} (cause : Cause) (mid new : Output X) (res : Result R E) → MayStop plain (Says gate how.workers how.turns) cause → cause ≢ Write → (how.shards ≡ 1 → how.best_first ≡ true → IsEnoughFor how g → number_of cause ≢ 40) → (cause ≢ Write → cause ≢ Unsolved Memory → asked.questions ≢ []) → WroteWhole A g asked old mid → mid.failures ≡ old.failures →
+  pub stopped : {R E : Type 0} (cause : Cause) (mid new : Output X) (res : Result R E) → MayStop undiffused (Says gate how.workers how.turns) cause → cause ≢ Write → (how.shards ≡ 1 → how.best_first ≡ true → IsEnoughFor how g → number_of cause ≢ 40) → (cause ≢ Write → cause ≢ Unsolved Memory → asked.questions ≢ []) → WroteWhole A g asked old mid → mid.failures ≡ old.failures →
       WritesText mid new (fault_text (number_of cause) 0) res
-      → (text : List ℕ) × MayAnswerAs A plain how gate g asked text × WritesText old new text res
+      → (text : List ℕ) × MayAnswerAs A undiffused how gate g asked text × WritesText old new text res
   stopped cause mid new res may other unstalled some w same line =
       let begun : List ℕ = begun_text A asked w.answers in
       let first : WrotePrefix old mid begun [] = record { prefix = begun; text_is = sym (append-nil begun); bytes = w.bytes; sound = same } in (

@@ -17,9 +17,9 @@ use Rattle.batch_run.proofs.Stopped.{stopped_for}
 
 module _ {S V : Type 0} (meaning : S → Algebra V) (algebra : S) (how : Settings) (answers : ℕ → ℕ → Bool → Type 0) (working : 0 < how.budget)
     (none : (rule : Dealing) (workers width budget limit turns : ℕ) → 0 < budget → width * turns ≤ limit → StopsGroup meaning (IsBrief algebra turns) rule workers width budget limit answers Stalled → ⊥) where
-  pub never_stalls : (g : GraphData) (asked : Asked) (plain : Bool) (cause : Cause) → MayStop plain (Stops meaning algebra g how answers) cause
+  pub never_stalls : (g : GraphData) (asked : Asked) (undiffused : Bool) (cause : Cause) → MayStop undiffused (Stops meaning algebra g how answers) cause
       → how.shards ≡ 1 → how.best_first ≡ true → IsEnoughFor how g → number_of cause ≢ 40
-  never_stalls g asked plain cause may one best enough =
+  never_stalls g asked undiffused cause may one best enough =
       not_stalled meaning algebra how answers (λ roads _. roads ≡ g) working none
       (record { one = one; best_first = best; enough = λ roads _ same graph. subst (IsEnoughFor how) (sym same) enough })
-      (Err (fault_of cause)) (stopped_for meaning algebra g how answers plain cause may (λ roads _. roads ≡ g) asked refl)
+      (Err (fault_of cause)) (stopped_for meaning algebra g how answers undiffused cause may (λ roads _. roads ≡ g) asked refl)

@@ -28,22 +28,22 @@ IsAnswered A g asked text =
 -- the run, which is no failed write. They are fewer than were asked, or memory ran out and none
 -- were. With one shard, best first, the fault is no limit of turns that is enough for the arcs of
 -- the graph.
-pub record IsStopped {V : Type 0} (A : Algebra V) (plain : Bool) (how : Settings) (gate : ℕ → ℕ → Bool → Type 0) (g : GraphData) (asked : Asked) (text : List ℕ) : Type 0 where
+pub record IsStopped {V : Type 0} (A : Algebra V) (undiffused : Bool) (how : Settings) (gate : ℕ → ℕ → Bool → Type 0) (g : GraphData) (asked : Asked) (text : List ℕ) : Type 0 where
   pub count : ℕ
   pub answers : List AnswerData
   pub right : AreAnswers A g (take count asked.questions) answers
   pub cause : Cause
   pub fewer : ((number_of cause ≡ 3) × (asked.questions ≡ [])) ⊎ (count < length asked.questions)
-  pub may : MayStop plain (Says gate how.workers how.turns) cause
+  pub may : MayStop undiffused (Says gate how.workers how.turns) cause
   pub other : cause ≢ Write
   pub unstalled : how.shards ≡ 1 → how.best_first ≡ true → IsEnoughFor how g → number_of cause ≢ 40
   pub text_is : text ≡ begun_text A asked answers ++ fault_text (number_of cause) 0
 
 -- which texts may reply to what is asked, with diffusions or without, where `gate` says what the
 -- gate may answer to a worker before a turn
-abbrev pub MayAnswerAs : {V : Type 0} → Algebra V → (plain : Bool) → Settings → (ℕ → ℕ → Bool → Type 0) → GraphData → Asked → List ℕ → Type 0
-MayAnswerAs A plain how gate g asked text =
-    IsAnswered A g asked text ⊎ IsStopped A plain how gate g asked text
+abbrev pub MayAnswerAs : {V : Type 0} → Algebra V → (undiffused : Bool) → Settings → (ℕ → ℕ → Bool → Type 0) → GraphData → Asked → List ℕ → Type 0
+MayAnswerAs A undiffused how gate g asked text =
+    IsAnswered A g asked text ⊎ IsStopped A undiffused how gate g asked text
 
 -- which of them if the solver answers that the settings choose
 abbrev pub MayAnswer : {V : Type 0} → Algebra V → Settings → (ℕ → ℕ → Bool → Type 0) → GraphData → Asked → List ℕ → Type 0

@@ -5,7 +5,7 @@ ghost use Rattle.graph_text.specs.GraphFiles.{gr_rules};
 ghost use Rattle.road_files.specs.Asked.{Asked};
 ghost use Rattle.batch_run.specs.Causes.{number_of};
 ghost use Rattle.batch_settings.specs.Choice.{without_diffusions};
-ghost use Rattle.batch_run.specs.Factored.{HasFactorsOf, is_by_factors};
+ghost use Rattle.batch_run.specs.Factored.{WasTried, is_by_factors};
 ghost use Rattle.batch_inputs.specs.Orders.{HasReadOrdered, IsOrderedFile, IsRunFile};
 ghost use Rattle.batch_inputs.specs.Spelled.{IsReadAs};
 ghost use Rattle.batch_inputs.specs.InputFaults.{IsNumberOf};
@@ -91,7 +91,7 @@ fn factor_graph<A: PathAlgebra, R, T>(
     solver: &mut Solver<A>,
 ) -> Result<(), Cause>
     ensures same { IsSameSolver solver.old solver.new }
-    ensures factors { OnOk result (HasFactorsOf (A.meaning algebra) solver.new) }
+    ensures tried { OnOk result (WasTried (A.meaning algebra) (A.arc_cost algebra) solver.new) }
     ensures memory { IfErr result (λ cause. number_of cause ≡ 3) }
     ensures chosen { OnErr result (is_by_factors solver.old ≡ true) }
 {
@@ -125,7 +125,7 @@ fn serve_over<
 >(
     answers: &BatchAnswers<'_, A, R, T>,
     solver: &mut Solver<A>,
-    requests_in: &mut Q,
+    requests: &mut Q,
     out: &mut W,
     watcher: &mut O,
 ) -> Result<(), RunFault>
@@ -133,14 +133,14 @@ fn serve_over<
         without_diffusions answers.now.run.now.settings.now }
     requires factors { is_by_factors solver.old ≡ answers.now.run.now.settings.now.factors }
     ensures ran { RanOver (A.meaning answers.now.algebra) answers.now.run.now.settings.now
-        (T.may_answer answers.now.run.now.gate.now) (graph_of solver.old) (Q.seen requests_in.old)
-        (Q.seen requests_in.new) (W.seen out.old) (W.seen out.new) result }
+        (T.may_answer answers.now.run.now.gate.now) (graph_of solver.old) (Q.seen requests.old)
+        (Q.seen requests.new) (W.seen out.old) (W.seen out.new) result }
     ensures told { ToldReads (MayGiveOver A.meaning T.may_answer answers.now (graph_of solver.old))
         (graph_of solver.old).vertices O.may_become watcher.old watcher.new
-        (Q.seen requests_in.old) (Q.seen requests_in.new) (W.seen out.old) }
+        (Q.seen requests.old) (Q.seen requests.new) (W.seen out.old) }
 {
     factor_graph(answers.run, answers.algebra, solver)?;
-    match serve(answers, solver, requests_in, out, watcher) {
+    match serve(answers, solver, requests, out, watcher) {
         Ok(()) => Ok(()),
         Err(stop) => Err(fault_of_stop(stop)),
     }
@@ -172,25 +172,18 @@ pub fn run_service<
 >(
     run: &Run<'_, R, T>,
     algebra: A,
-    graph_in: &mut G,
-    order_in: &mut Option<O>,
-    requests_in: &mut Q,
+    graph: &mut G,
+    order: &mut Option<O>,
+    requests: &mut Q,
     out: &mut W,
 ) -> Result<(), RunFault>
     ensures ran { RanService (A.meaning algebra) run.now.settings.now
-        (T.may_answer run.now.gate.now) (G.seen graph_in.old) (G.seen graph_in.new)
-        (option_map O.seen order_in.old) (option_map O.seen order_in.new) (Q.seen requests_in.old) (Q.seen requests_in.new) (W.seen out.old) (W.seen out.new) result }
+        (T.may_answer run.now.gate.now) (G.seen graph.old) (G.seen graph.new)
+        (option_map O.seen order.old) (option_map O.seen order.new) (Q.seen requests.old)
+        (Q.seen requests.new) (W.seen out.old) (W.seen out.new) result }
     ensures suited { IsRefusedUnsuited (A.arc_cost algebra) run.now.settings.now result }
 {
-    run_service_watched(
-        run,
-        algebra,
-        graph_in,
-        order_in,
-        requests_in,
-        out,
-        &mut Unwatched,
-    )
+    run_service_watched(run, algebra, graph, order, requests, out, &mut Unwatched)
 }
 
 /// Does what `run_service` does, and tells a watcher at each read of the requests, before it: just
@@ -208,26 +201,27 @@ pub fn run_service_watched<
 >(
     run: &Run<'_, R, T>,
     algebra: A,
-    graph_in: &mut G,
-    order_in: &mut Option<O>,
-    requests_in: &mut Q,
+    graph: &mut G,
+    order: &mut Option<O>,
+    requests: &mut Q,
     out: &mut W,
     watcher: &mut N,
 ) -> Result<(), RunFault>
     ensures ran { RanService (A.meaning algebra) run.now.settings.now
-        (T.may_answer run.now.gate.now) (G.seen graph_in.old) (G.seen graph_in.new)
-        (option_map O.seen order_in.old) (option_map O.seen order_in.new) (Q.seen requests_in.old) (Q.seen requests_in.new) (W.seen out.old) (W.seen out.new) result }
+        (T.may_answer run.now.gate.now) (G.seen graph.old) (G.seen graph.new)
+        (option_map O.seen order.old) (option_map O.seen order.new) (Q.seen requests.old)
+        (Q.seen requests.new) (W.seen out.old) (W.seen out.new) result }
     ensures suited { IsRefusedUnsuited (A.arc_cost algebra) run.now.settings.now result }
     ensures told { ToldOfService (A.meaning algebra) run.now.settings.now
         (T.may_answer run.now.gate.now) N.may_become watcher.old watcher.new
-        (G.seen graph_in.old) (Q.seen requests_in.old) (Q.seen requests_in.new) (W.seen out.old) }
+        (G.seen graph.old) (Q.seen requests.old) (Q.seen requests.new) (W.seen out.old) }
 {
     if !run.settings.suit(algebra) {
         return Err(fault_of_run(SETTINGS));
     }
     let answers = BatchAnswers { run, algebra };
-    match read_solver(run, graph_in, order_in) {
-        Ok(mut solver) => serve_over(&answers, &mut solver, requests_in, out, watcher),
+    match read_solver(run, graph, order) {
+        Ok(mut solver) => serve_over(&answers, &mut solver, requests, out, watcher),
         Err(fault) => Err(fault),
     }
 }

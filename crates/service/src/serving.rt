@@ -3,6 +3,7 @@ ghost use Rattle.std.specs.Prelude.{◌≡◌, ◌≢◌, ℕ, ◌≤◌, ◌+�
 ghost use Rattle.std.specs.Io.KnownBytes.{IsAtEnd, ReadConsumes};
 ghost use Rattle.service.specs.Giving.{MayGiveOver};
 ghost use Rattle.batch_settings.specs.Choice.{without_diffusions};
+ghost use Rattle.batch_run.specs.Factored.{WasTried};
 ghost use Rattle.batch_run.specs.Solvers.{graph_of, is_without_diffusions};
 ghost use Rattle.service.specs.Fed.{Served, ServedSoFar, ServedToLimit, ServedPart};
 ghost use Rattle.service.specs.Reading.{ToldReads};
@@ -51,8 +52,8 @@ fn read_piece<I: RoadRead, W: RoadWrite, O: ReadWatcher<I, W>>(
     input.read(buffer)
 }
 
-/// Replies to each request of an input, over the graph of the solver, as soon as it is whole. The
-/// watcher is told at each read.
+/// Replies to each request of an input, over the graph of the solver, as soon as it is whole. If
+/// factors are to answer, the graph was factored before. The watcher is told at each read.
 pub(crate) fn serve<
     A: PathAlgebra,
     I: RoadRead,
@@ -67,7 +68,10 @@ pub(crate) fn serve<
     out: &mut W,
     watcher: &mut O,
 ) -> Result<(), Stopped>
-    requires kind { is_without_diffusions solver.old ≡ without_diffusions answers.now.run.now.settings.now }
+    requires kind { is_without_diffusions solver.old ≡
+        without_diffusions answers.now.run.now.settings.now }
+    requires tried { WasTried (A.meaning answers.now.algebra)
+        (A.arc_cost answers.now.algebra) solver.old }
     ensures served { OnOk result (Served (MayGiveOver A.meaning T.may_answer answers.now (graph_of
         solver.old)) (graph_of solver.old).vertices (I.seen input.old).left (W.seen out.old) (W.seen
         out.new)) }

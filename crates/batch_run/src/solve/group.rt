@@ -15,7 +15,7 @@ use crate::solve::diffusion::{EndedDiffusion, GatheredDiffusion, gather_ended};
 use crate::solve::pace::Pace;
 use path_algebra::PathAlgebra;
 use post_floor::Floor;
-use road_graph::{Graph, Memory, Vertex};
+use road_graph::{Memory, Vertex};
 use scholten_core::roads_hold;
 use shard_part::Plan;
 use shard_part::laws::plan_holds;
@@ -28,7 +28,7 @@ use worker_fleet::{Gate, GroupFault, GroupSettings, TurnSettings, run_group};
 /// A floor, and its stations, for a diffusion from a source. Its shards are held back as the pace
 /// says.
 fn open_at_pace<'g, A: PathAlgebra, R, T>(
-    batch: &'g BatchOver<'_, A, Graph, R, T>,
+    batch: &'g BatchOver<'_, A, R, T>,
     plan: &'g Plan,
     source: Vertex,
     pace: Pace,
@@ -50,7 +50,7 @@ fn open_at_pace<'g, A: PathAlgebra, R, T>(
 
 /// A floor, and its stations, for a diffusion from each source, in order.
 fn open_all<'g, A: PathAlgebra, R, T>(
-    batch: &'g BatchOver<'_, A, Graph, R, T>,
+    batch: &'g BatchOver<'_, A, R, T>,
     plan: &'g Plan,
     sources: &[Vertex],
     pace: Pace,
@@ -105,7 +105,7 @@ fn take_last<'g, A: PathAlgebra>(
 
 /// What an ended diffusion came to.
 fn gathered_from<'g, A: PathAlgebra, R, T>(
-    batch: &BatchOver<'_, A, Graph, R, T>,
+    batch: &BatchOver<'_, A, R, T>,
     plan: &Plan,
     ended: EndedDiffusion<'g, A>,
 ) -> Result<GatheredDiffusion<A::Value>, AllocError>
@@ -131,7 +131,7 @@ fn gathered_from<'g, A: PathAlgebra, R, T>(
 /// Runs diffusions from each source to their end, together, and gathers each; the one from the
 /// first source comes last.
 pub(crate) fn run_together<A: PathAlgebra, R: Threads + Wait, T: Gate>(
-    batch: &BatchOver<'_, A, Graph, R, T>,
+    batch: &BatchOver<'_, A, R, T>,
     plan: &Plan,
     sources: &[Vertex],
 ) -> Result<Vec<GatheredDiffusion<A::Value>>, GroupFault>

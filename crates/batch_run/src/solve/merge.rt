@@ -8,7 +8,6 @@ use crate::batch::BatchOver;
 use crate::solve::queue::{DiffusionQueue, next_labels};
 use crate::watcher::Watcher;
 use path_algebra::{Labels, PathAlgebra, laws_hold};
-use road_graph::Graph;
 use std::sync::Wait;
 use std::thread::Threads;
 use worker_fleet::{Gate, GroupFault};
@@ -16,7 +15,7 @@ use worker_fleet::{Gate, GroupFault};
 /// The best values over all walks from some source of the question at a place: of each source a
 /// diffusion of its own, reported for the question, and then these merged.
 pub(crate) fn merge_all<A: PathAlgebra, R: Threads + Wait, T: Gate, O: Watcher>(
-    batch: &BatchOver<'_, A, Graph, R, T>,
+    batch: &BatchOver<'_, A, R, T>,
     queue: &mut DiffusionQueue<A::Value>,
     i: usize,
     watcher: &mut O,

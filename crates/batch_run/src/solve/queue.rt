@@ -13,7 +13,6 @@ use crate::solve::group::run_together;
 use crate::solve::upcoming::upcoming;
 use crate::watcher::{Progress, Watcher};
 use path_algebra::{Labels, PathAlgebra};
-use road_graph::Graph;
 use shard_part::Plan;
 use std::sync::Wait;
 use std::thread::Threads;
@@ -28,7 +27,7 @@ pub(crate) struct DiffusionQueue<V: Copy> {
 
 /// Runs the diffusions from source j of question i on, at most the width, unless some wait.
 fn refill<A: PathAlgebra, R: Threads + Wait, T: Gate>(
-    batch: &BatchOver<'_, A, Graph, R, T>,
+    batch: &BatchOver<'_, A, R, T>,
     queue: &mut DiffusionQueue<A::Value>,
     i: usize,
     j: usize,
@@ -51,7 +50,7 @@ fn refill<A: PathAlgebra, R: Threads + Wait, T: Gate>(
 
 /// The next diffusion, which is the one from source j of question i, taken from those that wait.
 fn take_next<A: PathAlgebra, R: Threads + Wait, T: Gate>(
-    batch: &BatchOver<'_, A, Graph, R, T>,
+    batch: &BatchOver<'_, A, R, T>,
     queue: &mut DiffusionQueue<A::Value>,
     i: usize,
     j: usize,
@@ -75,7 +74,7 @@ fn take_next<A: PathAlgebra, R: Threads + Wait, T: Gate>(
 /// The labels of the next diffusion, which is the one from source j of question i. It is reported
 /// with its counts.
 pub(crate) fn next_labels<A: PathAlgebra, R: Threads + Wait, T: Gate, O: Watcher>(
-    batch: &BatchOver<'_, A, Graph, R, T>,
+    batch: &BatchOver<'_, A, R, T>,
     queue: &mut DiffusionQueue<A::Value>,
     i: usize,
     j: usize,

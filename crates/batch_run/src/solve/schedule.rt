@@ -5,13 +5,13 @@ ghost use Rattle.batch_run.specs.Reports.{count_diffusions};
 
 use road_files::Questions;
 
-/// How many diffusions a batch has, one from each source of each question: none if the plain solver
-/// answers.
-pub(crate) fn count_diffusions(questions: &Questions, plain: bool) -> u64
+/// How many diffusions a batch has, one from each source of each question: none if it is answered
+/// without them.
+pub(crate) fn count_diffusions(questions: &Questions, undiffused: bool) -> u64
     requires { (vertices : ℕ) × AreQuestionsOf vertices questions.now }
-    ensures { result ≡ count_diffusions plain (asked_of questions.now).questions }
+    ensures { result ≡ count_diffusions undiffused (asked_of questions.now).questions }
 {
-    if plain {
+    if undiffused {
         return 0;
     }
     let mut count = 0;

@@ -37,7 +37,7 @@ pub struct WorkerSolver<V: Copy> {
 
 /// Solves the question at a place by best labels from its sources.
 fn solve_by_labels<A: PathAlgebra, R, T>(
-    batch: &BatchOver<'_, A, Graph, R, T>,
+    batch: &BatchOver<'_, A, R, T>,
     i: usize,
     labels: Labels<A::Value>,
 ) -> Result<Solved<A::Value>, Memory>
@@ -69,7 +69,7 @@ fn solve_by_labels<A: PathAlgebra, R, T>(
 
 /// Solves the question at a place by workers. The diffusions are reported.
 fn solve_by_workers<A: PathAlgebra, R: Threads + Wait, T: Gate, O: Watcher>(
-    batch: &BatchOver<'_, A, Graph, R, T>,
+    batch: &BatchOver<'_, A, R, T>,
     queue: &mut DiffusionQueue<A::Value>,
     i: usize,
     watcher: &mut O,

@@ -1,4 +1,4 @@
-use Rattle.std.proofs.Common.{rules, refl, ap, subst, get_or, None, Ok, Err, ◌∙◌}
+use Rattle.std.proofs.Common.{rules, refl, ap, subst, get_or, true, false, None, Ok, Err, ◌∙◌}
 use Rattle.std.proofs.lemmas.Result.{err_from_is_err_and}
 use Rattle.road_graph.specs.GraphData.{GraphData}
 use Rattle.road_files.specs.Asked.{asked_of, FromSource}
@@ -6,12 +6,12 @@ use Rattle.answer_text.specs.AnswerText.{answer_text}
 use Rattle.batch_run.specs.Answered.{WroteNext}
 use Rattle.batch_run.specs.Batches.{MayStopBatch}
 use Rattle.batch_run.specs.Reports.{count_diffusions}
-use Rattle.batch_run.specs.Factored.{MayTell}
-use Rattle.batch_run.specs.Solvers.{graph_of, is_without_diffusions}
+use Rattle.batch_run.specs.Factored.{IsPreparedBy, MayTell}
+use Rattle.batch_run.specs.Solvers.{IsSameSolver, graph_of, is_without_diffusions}
 use Rattle.batch_run.proofs.AnsweredFirst.{start, answered, stopped_first, stopped_at, stopped_for_memory, all_answered}
 use Rattle.batch_run.proofs.Reporting.{begun as reports_begun}
-use Rattle.batch_run.proofs.Telling.{none_sought, some_told}
-use Rattle.batch_run.proofs.WrittenReports.{at_least, only_begun, only_ordered, unreported, until_all, until_ended, until_first, until_next, until_stopped}
+use Rattle.batch_run.proofs.Telling.{may_tell, none_sought, some_told}
+use Rattle.batch_run.proofs.WrittenReports.{at_least, only_begun, only_ordered, unreported, until_all, until_first, until_next, until_stopped}
 use Rattle.batch_run.proofs.answering.answer_all.Goals as goal
 
 pub begin-requires-after_bounds : goal.begin-requires-after_bounds
@@ -26,7 +26,7 @@ returns-in_err-begin-clause-answered g c =
 pub returns-in_err-begin-clause-reported : goal.returns-in_err-begin-clause-reported
 returns-in_err-begin-clause-reported g c =
     let told = some_told c.args.solver.now None (none_sought c.args.solver.now) in
-    unreported (g.A.PathAlgebra.meaning c.args.batch.now.algebra) c.args.batch.now.run.now.settings.now (graph_of c.args.solver.now) (asked_of c.args.batch.now.questions.now) (is_without_diffusions c.args.solver.now) (MayTell c.args.solver.now) g.O.Watcher.may_become _ _ _ told.1 _ _ c.in_err-begin.ensures.unreported
+    unreported (g.A.PathAlgebra.meaning c.args.batch.now.algebra) c.args.batch.now.run.now.settings.now (graph_of c.args.solver.now) (asked_of c.args.batch.now.questions.now) (is_without_diffusions c.args.solver.now) (IsPreparedBy c.args.solver.now) (MayTell g.A.PathAlgebra.meaning g.A.PathAlgebra.arc_cost c.args.batch.now.algebra c.args.batch.now.run.now.settings.now (asked_of c.args.batch.now.questions.now) c.args.solver.now) g.O.Watcher.may_become _ _ _ told.1 _ _ c.in_err-begin.ensures.unreported
 
 pub returns-in_err-found-clause-answered : goal.returns-in_err-found-clause-answered
 returns-in_err-found-clause-answered g c =
@@ -38,10 +38,10 @@ returns-in_err-found-clause-answered g c =
 pub returns-in_err-found-clause-reported : goal.returns-in_err-found-clause-reported
 returns-in_err-found-clause-reported g c =
     let told = some_told c.args.solver.now None (none_sought c.args.solver.now) in
-    only_begun (g.A.PathAlgebra.meaning c.args.batch.now.algebra) c.args.batch.now.run.now.settings.now (graph_of c.args.solver.now) (asked_of c.args.batch.now.questions.now) (is_without_diffusions c.args.solver.now) (MayTell c.args.solver.now) g.O.Watcher.may_become _ _ _ told.1 _
+    only_begun (g.A.PathAlgebra.meaning c.args.batch.now.algebra) c.args.batch.now.run.now.settings.now (graph_of c.args.solver.now) (asked_of c.args.batch.now.questions.now) (is_without_diffusions c.args.solver.now) (IsPreparedBy c.args.solver.now) (MayTell g.A.PathAlgebra.meaning g.A.PathAlgebra.arc_cost c.args.batch.now.algebra c.args.batch.now.run.now.settings.now (asked_of c.args.batch.now.questions.now) c.args.solver.now) g.O.Watcher.may_become _ _ _ told.1 _
     (at_least (g.A.PathAlgebra.meaning c.args.batch.now.algebra) (graph_of c.args.solver.now) (asked_of c.args.batch.now.questions.now) 0 _ _ (start (g.A.PathAlgebra.meaning c.args.batch.now.algebra) (graph_of c.args.solver.now) (asked_of c.args.batch.now.questions.now) _ _ c.in_ok-begin.ensures.wrote)) _
     (reports_begun (g.A.PathAlgebra.meaning c.args.batch.now.algebra) c.args.batch.now.run.now.settings.now (graph_of c.args.solver.now) g.O.Watcher.may_become (is_without_diffusions c.args.solver.now) (asked_of c.args.batch.now.questions.now).questions _ _ _ _ refl
-    (ap (λ b. count_diffusions b (asked_of c.args.batch.now.questions.now).questions) c.is_without_diffusions-plain.ensures) c.in_ok-begin.ensures.reported)
+    (ap (λ b. count_diffusions b (asked_of c.args.batch.now.questions.now).questions) c.is_without_diffusions-undiffused.ensures) c.in_ok-begin.ensures.reported)
 
 pub returns-in_err-start-clause-answered : goal.returns-in_err-start-clause-answered
 returns-in_err-start-clause-answered g c =
@@ -53,10 +53,10 @@ returns-in_err-start-clause-answered g c =
 pub returns-in_err-start-clause-reported : goal.returns-in_err-start-clause-reported
 returns-in_err-start-clause-reported g c =
     let told = some_told c.args.solver.now c.in_ok-found.found c.in_ok-found.ensures.found in
-    only_ordered (g.A.PathAlgebra.meaning c.args.batch.now.algebra) c.args.batch.now.run.now.settings.now (graph_of c.args.solver.now) (asked_of c.args.batch.now.questions.now) (is_without_diffusions c.args.solver.now) (MayTell c.args.solver.now) g.O.Watcher.may_become _ _ _ told.1 _
+    only_ordered (g.A.PathAlgebra.meaning c.args.batch.now.algebra) c.args.batch.now.run.now.settings.now (graph_of c.args.solver.now) (asked_of c.args.batch.now.questions.now) (is_without_diffusions c.args.solver.now) (IsPreparedBy c.args.solver.now) (MayTell g.A.PathAlgebra.meaning g.A.PathAlgebra.arc_cost c.args.batch.now.algebra c.args.batch.now.run.now.settings.now (asked_of c.args.batch.now.questions.now) c.args.solver.now) g.O.Watcher.may_become _ _ _ told.1 _
     (at_least (g.A.PathAlgebra.meaning c.args.batch.now.algebra) (graph_of c.args.solver.now) (asked_of c.args.batch.now.questions.now) 0 _ _ (start (g.A.PathAlgebra.meaning c.args.batch.now.algebra) (graph_of c.args.solver.now) (asked_of c.args.batch.now.questions.now) _ _ c.in_ok-begin.ensures.wrote)) _
     (reports_begun (g.A.PathAlgebra.meaning c.args.batch.now.algebra) c.args.batch.now.run.now.settings.now (graph_of c.args.solver.now) g.O.Watcher.may_become (is_without_diffusions c.args.solver.now) (asked_of c.args.batch.now.questions.now).questions _ _ _ _ refl
-    (ap (λ b. count_diffusions b (asked_of c.args.batch.now.questions.now).questions) c.is_without_diffusions-plain.ensures) c.in_ok-begin.ensures.reported) _
+    (ap (λ b. count_diffusions b (asked_of c.args.batch.now.questions.now).questions) c.is_without_diffusions-undiffused.ensures) c.in_ok-begin.ensures.reported) _
     c.report_order.ensures.some c.report_order.ensures.none
 
 pub answer_next-requires-clause-within : goal.answer_next-requires-clause-within
@@ -67,18 +67,21 @@ loop-i-init g c =
     let header = start (g.A.PathAlgebra.meaning c.args.batch.now.algebra) (graph_of c.args.solver.now) (asked_of c.args.batch.now.questions.now) _ _ c.in_ok-begin.ensures.wrote in
     let sought = c.in_ok-found.ensures in
     let started = c.in_ok-start.ensures in
-    let graph = started.same.graph ∙ sought.same.graph in
+    let kind = started.kind ∙ sought.kind in
+    let same : IsSameSolver c.args.solver.now c.start.new.solver = record { graph = started.same.graph ∙ sought.same.graph; kind = started.same.kind ∙ sought.same.kind } in
     record {
       answered = header;
       ready = started.ready;
-      same = record { graph = graph; kind = started.same.kind ∙ sought.same.kind };
-      first = until_first (g.A.PathAlgebra.meaning c.args.batch.now.algebra) c.args.batch.now.run.now.settings.now (graph_of c.args.solver.now) (asked_of c.args.batch.now.questions.now) (is_without_diffusions c.args.solver.now) (MayTell c.args.solver.now) g.O.Watcher.may_become _ _
+      same = same;
+      first = until_first (g.A.PathAlgebra.meaning c.args.batch.now.algebra) c.args.batch.now.run.now.settings.now (graph_of c.args.solver.now) (asked_of c.args.batch.now.questions.now) (is_without_diffusions c.args.solver.now) (IsPreparedBy c.args.solver.now) (MayTell g.A.PathAlgebra.meaning g.A.PathAlgebra.arc_cost c.args.batch.now.algebra c.args.batch.now.run.now.settings.now (asked_of c.args.batch.now.questions.now) c.args.solver.now) g.O.Watcher.may_become _ _
           (record { found = c.in_ok-found.found; became = c.factoring.result })
-          (record { sought = sought.found; moment = c.start.new.solver; graph = graph; kind = started.kind ∙ sought.kind; is_true = c.factoring.ensures }) _
+          (record { sought = sought.found; became = c.factoring.ensures.some ∙ kind }) _
           (at_least (g.A.PathAlgebra.meaning c.args.batch.now.algebra) (graph_of c.args.solver.now) (asked_of c.args.batch.now.questions.now) 0 _ _ header) _
           (reports_begun (g.A.PathAlgebra.meaning c.args.batch.now.algebra) c.args.batch.now.run.now.settings.now (graph_of c.args.solver.now) g.O.Watcher.may_become (is_without_diffusions c.args.solver.now) (asked_of c.args.batch.now.questions.now).questions _ _ _ _ refl
-          (ap (λ b. count_diffusions b (asked_of c.args.batch.now.questions.now).questions) c.is_without_diffusions-plain.ensures) c.in_ok-begin.ensures.reported) _
-          c.report_order.ensures.some c.report_order.ensures.none _ c.report_factoring.ensures.some c.report_factoring.ensures.none;
+          (ap (λ b. count_diffusions b (asked_of c.args.batch.now.questions.now).questions) c.is_without_diffusions-undiffused.ensures) c.in_ok-begin.ensures.reported) _
+          c.report_order.ensures.some c.report_order.ensures.none
+          (may_tell g.A.PathAlgebra.meaning g.A.PathAlgebra.arc_cost c.args.batch.now.algebra c.args.batch.now.run.now.settings.now (asked_of c.args.batch.now.questions.now) c.args.solver.now c.start.new.solver same kind started.tried started.ready c.factoring.result c.factoring.ensures.is_true) _
+          c.report_factoring.ensures.some c.report_factoring.ensures.none;
     }
 
 pub loop-i-preserved : goal.loop-i-preserved
@@ -92,15 +95,13 @@ loop-i-preserved g c =
       answered = first;
       ready = next.after.ready;
       same = record { graph = next.after.same.graph ∙ was.same.graph; kind = next.after.same.kind ∙ was.same.kind };
-      first = until_next (g.A.PathAlgebra.meaning c.args.batch.now.algebra) c.args.batch.now.run.now.settings.now (graph_of c.args.solver.now) (asked_of c.args.batch.now.questions.now) (is_without_diffusions c.args.solver.now) (MayTell c.args.solver.now) g.O.Watcher.may_become _ _ c.loop-i.i _ _ was.first (FromSource 0) _ _ (answer_text wrote.0) (search rules)
+      first = until_next (g.A.PathAlgebra.meaning c.args.batch.now.algebra) c.args.batch.now.run.now.settings.now (graph_of c.args.solver.now) (asked_of c.args.batch.now.questions.now) (is_without_diffusions c.args.solver.now) (IsPreparedBy c.args.solver.now) (MayTell g.A.PathAlgebra.meaning g.A.PathAlgebra.arc_cost c.args.batch.now.algebra c.args.batch.now.run.now.settings.now (asked_of c.args.batch.now.questions.now) c.args.solver.now) g.O.Watcher.may_become _ _ c.loop-i.i _ _ was.first (FromSource 0) _ _ (answer_text wrote.0) (search rules)
           (rw (was.same.graph, was.same.kind) at (next.reported (FromSource 0))) wrote.2 first;
     }
 
 pub returns-in_err-answer_next-clause-same : goal.returns-in_err-answer_next-clause-same
 returns-in_err-answer_next-clause-same g c =
-    let was = c.loop-i.invariant in
-    let next = c.in_err-answer_next.ensures in
-    record { graph = next.after.same.graph ∙ was.same.graph; kind = next.after.same.kind ∙ was.same.kind }
+    let next = c.in_err-answer_next.ensures.after.same in record { graph = next.graph ∙ c.loop-i.invariant.same.graph; kind = next.kind ∙ c.loop-i.invariant.same.kind }
 
 pub returns-in_err-answer_next-clause-answered : goal.returns-in_err-answer_next-clause-answered
 returns-in_err-answer_next-clause-answered g c =
@@ -116,7 +117,7 @@ pub returns-in_err-answer_next-clause-reported : goal.returns-in_err-answer_next
 returns-in_err-answer_next-clause-reported g c =
     let was = c.loop-i.invariant in
     let next = c.in_err-answer_next.ensures in
-    until_stopped (g.A.PathAlgebra.meaning c.args.batch.now.algebra) c.args.batch.now.run.now.settings.now (graph_of c.args.solver.now) (asked_of c.args.batch.now.questions.now) (is_without_diffusions c.args.solver.now) (MayTell c.args.solver.now) g.O.Watcher.may_become _ _ c.loop-i.i _ _ was.first (FromSource 0) _ _ c.in_err-answer_next.field-0.0 (search rules)
+    until_stopped (g.A.PathAlgebra.meaning c.args.batch.now.algebra) c.args.batch.now.run.now.settings.now (graph_of c.args.solver.now) (asked_of c.args.batch.now.questions.now) (is_without_diffusions c.args.solver.now) (IsPreparedBy c.args.solver.now) (MayTell g.A.PathAlgebra.meaning g.A.PathAlgebra.arc_cost c.args.batch.now.algebra c.args.batch.now.run.now.settings.now (asked_of c.args.batch.now.questions.now) c.args.solver.now) g.O.Watcher.may_become _ _ c.loop-i.i _ _ was.first (FromSource 0) _ _ c.in_err-answer_next.field-0.0 (search rules)
     (rw (was.same.graph, was.same.kind) at (next.unreported (FromSource 0)))
     (subst (λ (r : GraphData). WroteNext (g.A.PathAlgebra.meaning c.args.batch.now.algebra) r (get_or (asked_of c.args.batch.now.questions.now).questions c.loop-i.i (FromSource 0))
     (g.W.RoadWrite.seen c.loop-i.out) (g.W.RoadWrite.seen c.answer_next.new.out) (Err c.in_err-answer_next.field-0.0)) was.same.graph (next.wrote (FromSource 0)))
@@ -126,8 +127,8 @@ returns-clause-answered g c = all_answered (g.A.PathAlgebra.meaning c.args.batch
 
 pub returns-clause-all : goal.returns-clause-all
 returns-clause-all g c =
-    until_all (g.A.PathAlgebra.meaning c.args.batch.now.algebra) c.args.batch.now.run.now.settings.now (graph_of c.args.solver.now) (asked_of c.args.batch.now.questions.now) (is_without_diffusions c.args.solver.now) (MayTell c.args.solver.now) g.O.Watcher.may_become _ _ c.loop-i.i _ _ c.loop-i.invariant.first (search rules)
+    until_all (g.A.PathAlgebra.meaning c.args.batch.now.algebra) c.args.batch.now.run.now.settings.now (graph_of c.args.solver.now) (asked_of c.args.batch.now.questions.now) (is_without_diffusions c.args.solver.now) (IsPreparedBy c.args.solver.now) (MayTell g.A.PathAlgebra.meaning g.A.PathAlgebra.arc_cost c.args.batch.now.algebra c.args.batch.now.run.now.settings.now (asked_of c.args.batch.now.questions.now) c.args.solver.now) g.O.Watcher.may_become _ _ c.loop-i.i _ _ c.loop-i.invariant.first true (search rules)
 
 pub returns-clause-reported : goal.returns-clause-reported
 returns-clause-reported g c =
-    until_ended (g.A.PathAlgebra.meaning c.args.batch.now.algebra) c.args.batch.now.run.now.settings.now (graph_of c.args.solver.now) (asked_of c.args.batch.now.questions.now) (is_without_diffusions c.args.solver.now) (MayTell c.args.solver.now) g.O.Watcher.may_become _ _ c.loop-i.i _ _ c.loop-i.invariant.first
+    until_all (g.A.PathAlgebra.meaning c.args.batch.now.algebra) c.args.batch.now.run.now.settings.now (graph_of c.args.solver.now) (asked_of c.args.batch.now.questions.now) (is_without_diffusions c.args.solver.now) (IsPreparedBy c.args.solver.now) (MayTell g.A.PathAlgebra.meaning g.A.PathAlgebra.arc_cost c.args.batch.now.algebra c.args.batch.now.run.now.settings.now (asked_of c.args.batch.now.questions.now) c.args.solver.now) g.O.Watcher.may_become _ _ c.loop-i.i _ _ c.loop-i.invariant.first false (search rules)

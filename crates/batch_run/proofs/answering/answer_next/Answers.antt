@@ -16,7 +16,7 @@ pub returns-in_err-solved-clause-kind : goal.returns-in_err-solved-clause-kind
 returns-in_err-solved-clause-kind g c =
     let fault = err_from_is_err_and c.from_residual.result c.from_residual.ensures.1 in
     rw (fault.1, fault.2) (group_may_stop (Stops g.A.PathAlgebra.meaning c.args.batch.now.algebra (graph_of c.args.solver.now) c.args.batch.now.run.now.settings.now (g.T.Gate.may_answer c.args.batch.now.run.now.gate.now)) (is_without_diffusions c.args.solver.now) c.in_err-solved.field-0.0
-    c.in_err-solved.ensures.plain c.in_err-solved.ensures.stops)
+    c.in_err-solved.ensures.undiffused c.in_err-solved.ensures.stops)
 
 pub answer_at-requires-clause-solved : goal.answer_at-requires-clause-solved
 answer_at-requires-clause-solved g c κs within = (graph_of c.args.solver.now, sym c.vertices-n.ensures.count, c.in_ok-solved.ensures.solved)

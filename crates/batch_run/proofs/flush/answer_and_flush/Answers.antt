@@ -1,7 +1,8 @@
+use Rattle.std.proofs.Common.{true, false}
 use Rattle.std.proofs.lemmas.Result.{on_ok_weaker}
 use Rattle.road_files.specs.Asked.{asked_of}
 use Rattle.batch_run.specs.Batches.{MayStopBatch}
-use Rattle.batch_run.specs.Factored.{MayTell}
+use Rattle.batch_run.specs.Factored.{IsPreparedBy, MayTell}
 use Rattle.batch_run.specs.Solvers.{graph_of, is_without_diffusions}
 use Rattle.batch_run.proofs.AnsweredFirst.{no_fewer_failures}
 use Rattle.batch_run.proofs.Flushing.{text_flushed, sound_flushed, kind_flushed, failed_flushed, whole_flushed, some_flushed, once_flushed, after_all, reported_flushed}
@@ -33,7 +34,19 @@ returns-clause-passed_on g c =
     }
 
 pub returns-clause-all : goal.returns-clause-all
-returns-clause-all g c = after_all _ _ c.answer_all-answered.result c.flush_all.result c.answer_all-answered.ensures.all c.flush_all.ensures.passed_on
+returns-clause-all g c =
+    let asked = asked_of c.args.batch.now.questions.now in
+    let may_tell = MayTell g.A.PathAlgebra.meaning g.A.PathAlgebra.arc_cost c.args.batch.now.algebra c.args.batch.now.run.now.settings.now asked c.args.solver.now in
+    on_ok_weaker c.flush_all.result
+    (reported_flushed (g.A.PathAlgebra.meaning c.args.batch.now.algebra) c.args.batch.now.run.now.settings.now (graph_of c.args.solver.now) asked (is_without_diffusions c.args.solver.now) (IsPreparedBy c.args.solver.now)
+    may_tell g.O.Watcher.may_become c.args.watcher.now c.answer_all-answered.new.watcher (g.W.RoadWrite.seen c.args.out.now) (g.W.RoadWrite.seen c.answer_all-answered.new.out)
+    (g.W.RoadWrite.seen c.flush_all.new.out) c.flush_all.ensures.bytes true)
+    (after_all _ _ c.answer_all-answered.result c.flush_all.result c.answer_all-answered.ensures.all c.flush_all.ensures.passed_on)
 
 pub returns-clause-reported : goal.returns-clause-reported
-returns-clause-reported g c = reported_flushed (g.A.PathAlgebra.meaning c.args.batch.now.algebra) c.args.batch.now.run.now.settings.now (graph_of c.args.solver.now) (asked_of c.args.batch.now.questions.now) (is_without_diffusions c.args.solver.now) (MayTell c.args.solver.now) g.O.Watcher.may_become _ _ _ _ _ c.flush_all.ensures.bytes c.answer_all-answered.ensures.reported
+returns-clause-reported g c =
+    let asked = asked_of c.args.batch.now.questions.now in
+    let may_tell = MayTell g.A.PathAlgebra.meaning g.A.PathAlgebra.arc_cost c.args.batch.now.algebra c.args.batch.now.run.now.settings.now asked c.args.solver.now in
+    reported_flushed (g.A.PathAlgebra.meaning c.args.batch.now.algebra) c.args.batch.now.run.now.settings.now (graph_of c.args.solver.now) asked (is_without_diffusions c.args.solver.now) (IsPreparedBy c.args.solver.now)
+    may_tell g.O.Watcher.may_become c.args.watcher.now c.answer_all-answered.new.watcher (g.W.RoadWrite.seen c.args.out.now) (g.W.RoadWrite.seen c.answer_all-answered.new.out)
+    (g.W.RoadWrite.seen c.flush_all.new.out) c.flush_all.ensures.bytes false c.answer_all-answered.ensures.reported

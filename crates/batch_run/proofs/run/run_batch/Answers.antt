@@ -1,21 +1,17 @@
-use Rattle.std.proofs.Common.{inl, inr, refl, ap, subst, Bool, Err}
+use Rattle.std.proofs.Common.{inl, inr, refl, ap, subst, Bool, true, false, Err}
 use Rattle.std.proofs.lemmas.Result.{err_from_is_err_and}
 use Rattle.road_files.specs.Asked.{asked_of}
 use Rattle.batch_inputs.specs.declared.faults.RunFault.{RunFault}
 use Rattle.batch_run.specs.Causes.{MayStop, fault_of}
-use Rattle.batch_settings.specs.Choice.{without_diffusions}
-use Rattle.batch_run.specs.Reports.{IsTold, ReportedWhole, ReportedWritten}
 use Rattle.batch_run.specs.Stopping.{Stops}
-use Rattle.batch_run.specs.Factored.{MayTell}
 use Rattle.batch_run.specs.Solvers.{graph_of}
 use Rattle.batch_run.proofs.CauseCases.{no_setting}
 use Rattle.batch_run.proofs.OneShard.{not_stalled}
 use Rattle.batch_run.proofs.OfInputs.{ran_stopped, ran_whole}
 use Rattle.batch_run.proofs.Stopped.{says_of_cause, stopped_for}
-use Rattle.batch_run.proofs.Suiting.{suited_by, suited_whole}
-use Rattle.batch_run.proofs.Telling.{told_by_kind}
+use Rattle.batch_run.proofs.Suiting.{has_cost, suited_by, suited_whole}
+use Rattle.batch_run.proofs.Telling.{told_as}
 use Rattle.batch_run.proofs.Watching.{watched_all, watched_first, watched_none}
-use Rattle.batch_run.proofs.WrittenReports.{whole_wider, written_wider}
 use Rattle.batch_run.proofs.run.run_batch.Goals as goal
 
 pub returns-then-not-suit-clause-watched : goal.returns-then-not-suit-clause-watched
@@ -52,9 +48,7 @@ returns-in_err-answer_and_flush g c =
       read = g.met.I.BatchInput.later c.args.input.now c.read_batch.new.input (fault_of cause) refl (no_setting cause) c.in-Ok.ensures.done;
       stopped = stopped;
       watched = watched_first A how is_read g.O.Watcher.may_become _ _ _ _ roads asked c.in-Ok.ensures.read cause
-          (written_wider A how roads asked (without_diffusions how) (MayTell c.in-Ok.read.0) (IsTold roads how.factors) (told_by_kind c.in-Ok.read.0 how.factors c.in-Ok.ensures.chosen.factors) g.O.Watcher.may_become _ _ _ _
-          (subst (λ (b : Bool). ReportedWritten A how roads asked b (MayTell c.in-Ok.read.0) g.O.Watcher.may_become c.args.watcher.now c.answer_and_flush.new.watcher (g.W.RoadWrite.seen c.args.out.now)
-          (g.W.RoadWrite.seen c.answer_and_flush.new.out)) c.in-Ok.ensures.chosen.kind was.reported));
+          (told_as g.A.PathAlgebra.meaning g.A.PathAlgebra.arc_cost c.args.algebra how asked c.in-Ok.read.0 c.in-Ok.ensures.chosen (has_cost (g.A.PathAlgebra.arc_cost c.args.algebra) how c.suit.result c.if-not-suit.false c.suit.ensures.exactly) g.O.Watcher.may_become _ _ _ _ false was.reported);
     })
 
 pub returns : goal.returns
@@ -74,6 +68,5 @@ returns g c =
       read = c.in-Ok.ensures.done;
       stopped = record { stalled = tt; gated = tt };
       watched = watched_all A how is_read g.O.Watcher.may_become _ _ _ _ roads asked c.in-Ok.ensures.read
-          (whole_wider A how roads asked (without_diffusions how) (MayTell c.in-Ok.read.0) (IsTold roads how.factors) (told_by_kind c.in-Ok.read.0 how.factors c.in-Ok.ensures.chosen.factors) g.O.Watcher.may_become _ _ (g.W.RoadWrite.seen c.args.out.now) (g.W.RoadWrite.seen c.args.out.now)
-          (subst (λ (b : Bool). ReportedWhole A how roads b (MayTell c.in-Ok.read.0) asked.questions g.O.Watcher.may_become c.args.watcher.now c.answer_and_flush.new.watcher) c.in-Ok.ensures.chosen.kind was.all));
+          (told_as g.A.PathAlgebra.meaning g.A.PathAlgebra.arc_cost c.args.algebra how asked c.in-Ok.read.0 c.in-Ok.ensures.chosen (has_cost (g.A.PathAlgebra.arc_cost c.args.algebra) how c.suit.result c.if-not-suit.false c.suit.ensures.exactly) g.O.Watcher.may_become _ _ _ _ true was.all);
     }

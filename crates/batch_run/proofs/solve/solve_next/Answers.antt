@@ -18,19 +18,12 @@ returns-in-Ok g c =
     let batch = c.args.batch.now in
     let kind : is_without_diffusions c.args.solver.now ≡ true = ap is_without_diffusions c.in-Plain.is in
     let ended = c.solve_next_plainly.follows.holds-at-none in (
-      (
-        refl,
-        (λ _. tt),
-        record {
-          same = record { graph = search rules; kind = search rules };
-          ready = search rules;
-        },
-      ),
+      (refl, (λ _. tt), record { same = record { graph = search rules; kind = search rules }; ready = search rules }),
       record {
         after = tt;
         solved = over (λ r. IsSolvedFor (g.A.PathAlgebra.meaning batch.algebra) r (asked_of batch.questions.now) c.args.i c.in-Ok.solved.now) _ (graph_of c.args.solver.now)
             (rw (c.task.ensures.algebra, c.task.ensures.questions) at c.in-Ok.ensures.solved) (search rules);
-        plain = λ _. tt;
+        undiffused = λ _. tt;
         stops = tt;
         reported = λ d. none_due (g.A.PathAlgebra.meaning batch.algebra) batch.run.now.settings.now (graph_of c.args.solver.now) g.O.Watcher.may_become (is_without_diffusions c.args.solver.now) kind (c.args.i + 1)
             (get_or (asked_of batch.questions.now).questions c.args.i d) _;
@@ -44,7 +37,7 @@ returns-in-Err g c =
       record {
         after = tt;
         solved = tt;
-        plain = λ _. refl;
+        undiffused = λ _. refl;
         stops = inl refl;
         reported = λ _. prefix_none _ _ _ _ _ _;
       },
@@ -55,19 +48,12 @@ returns-in-Ok-solve_next_by_factors g c =
     let batch = c.args.batch.now in
     let kind : is_without_diffusions c.args.solver.now ≡ true = ap is_without_diffusions c.in-Factors.is in
     let ended = c.solve_next_by_factors.follows.holds-at-none in (
-      (
-        refl,
-        (λ _. tt),
-        record {
-          same = record { graph = search rules; kind = search rules };
-          ready = search rules;
-        },
-      ),
+      (refl, (λ _. tt), record { same = record { graph = search rules; kind = search rules }; ready = search rules }),
       record {
         after = tt;
         solved = over (λ r. IsSolvedFor (g.A.PathAlgebra.meaning batch.algebra) r (asked_of batch.questions.now) c.args.i c.in-Ok-solve_next_by_factors.solved.now) _ (graph_of c.args.solver.now)
             (rw (c.task-in-Factors.ensures.algebra, c.task-in-Factors.ensures.questions) at c.in-Ok-solve_next_by_factors.ensures.solved) (search rules);
-        plain = λ _. tt;
+        undiffused = λ _. tt;
         stops = tt;
         reported = λ d. none_due (g.A.PathAlgebra.meaning batch.algebra) batch.run.now.settings.now (graph_of c.args.solver.now) g.O.Watcher.may_become (is_without_diffusions c.args.solver.now) kind (c.args.i + 1)
             (get_or (asked_of batch.questions.now).questions c.args.i d) _;
@@ -81,7 +67,7 @@ returns-in-Err-solve_next_by_factors g c =
       record {
         after = tt;
         solved = tt;
-        plain = λ _. refl;
+        undiffused = λ _. refl;
         stops = inl refl;
         reported = λ _. prefix_none _ _ _ _ _ _;
       },
@@ -97,18 +83,11 @@ returns-in-Workers g c =
     let kind : is_without_diffusions c.args.solver.now ≡ false = ap is_without_diffusions c.in-Workers.is in
     let ended = c.solve_next_by_workers.follows.holds-at-none in
     let by_workers = c.solve_next_by_workers.ensures in (
-      (
-        refl,
-        (λ _. tt),
-        record {
-          same = record { graph = search rules; kind = search rules };
-          ready = search rules;
-        },
-      ),
+      (refl, (λ _. tt), record { same = record { graph = search rules; kind = search rules }; ready = search rules }),
       record {
         after = tt;
         solved = over (λ r. IfOk result (λ s. IsSolvedFor A r asked c.args.i s.now)) _ roads by_workers.solved (search rules);
-        plain = λ e. absurd (false≢true (sym kind ∙ e));
+        undiffused = λ e. absurd (false≢true (sym kind ∙ e));
         stops = search rules;
         reported = λ d. subst (λ (b : Bool). ReportedAllOrPrefix A batch.run.now.settings.now roads g.O.Watcher.may_become (accounts_due b (c.args.i + 1) (get_or asked.questions c.args.i d)) c.args.watcher.now c.solve_next_by_workers.new.watcher result) (sym kind)
             (over (λ r. ReportedAllOrPrefix A batch.run.now.settings.now r g.O.Watcher.may_become (accounts_due false (c.args.i + 1) (get_or asked.questions c.args.i d)) c.args.watcher.now c.solve_next_by_workers.new.watcher result) _ roads

@@ -18,7 +18,7 @@ pub returns-in-Ok : goal.returns-in-Ok
 returns-in-Ok g c =
     let A = g.A.PathAlgebra.meaning c.args.answers.now.algebra in
     let gate = g.T.Gate.may_answer c.args.answers.now.run.now.gate.now in
-    let input = g.Q.RoadRead.seen c.args.requests_in.now in
+    let input = g.Q.RoadRead.seen c.args.requests.now in
     let out = g.W.RoadWrite.seen c.args.out.now in
     record {
       ran = subst (λ (x : GraphData). RanOver A c.args.answers.now.run.now.settings.now gate x input (g.Q.RoadRead.seen c.serve.new.input) out (g.W.RoadWrite.seen c.serve.new.out) (Ok tt)) c.factor_graph.ensures.same.graph
@@ -32,7 +32,7 @@ pub returns-in-Err : goal.returns-in-Err
 returns-in-Err g c =
     let A = g.A.PathAlgebra.meaning c.args.answers.now.algebra in
     let gate = g.T.Gate.may_answer c.args.answers.now.run.now.gate.now in
-    let input = g.Q.RoadRead.seen c.args.requests_in.now in
+    let input = g.Q.RoadRead.seen c.args.requests.now in
     let out = g.W.RoadWrite.seen c.args.out.now in
     record {
       ran = rw c.fault_of_stop.ensures (subst (λ (x : GraphData). RanOver A c.args.answers.now.run.now.settings.now gate x input (g.Q.RoadRead.seen c.serve.new.input) out (g.W.RoadWrite.seen c.serve.new.out) (Err (fault_of_stop c.in-Err.stop))) c.factor_graph.ensures.same.graph
@@ -46,7 +46,7 @@ pub returns-in_err-factor_graph : goal.returns-in_err-factor_graph
 returns-in_err-factor_graph g c =
     let fault = err_from_is_err_and c.from_residual.result c.from_residual.ensures.1 in record {
       ran = rw (fault.1, fault.2, c.in_err-factor_graph.ensures.memory) (unfactored (g.A.PathAlgebra.meaning c.args.answers.now.algebra) c.args.answers.now.run.now.settings.now (g.T.Gate.may_answer c.args.answers.now.run.now.gate.now)
-          (graph_of c.args.solver.now) (g.Q.RoadRead.seen c.args.requests_in.now) (g.Q.RoadRead.seen c.args.requests_in.now) (g.W.RoadWrite.seen c.args.out.now) (g.W.RoadWrite.seen c.args.out.now)
+          (graph_of c.args.solver.now) (g.Q.RoadRead.seen c.args.requests.now) (g.Q.RoadRead.seen c.args.requests.now) (g.W.RoadWrite.seen c.args.out.now) (g.W.RoadWrite.seen c.args.out.now)
           (sym c.requires.factors ∙ c.in_err-factor_graph.ensures.chosen) refl refl);
       told = told_none _ _ _ _ _ _;
     }

@@ -4,8 +4,8 @@ use Rattle.batch_run.proofs.Reporting.{none_counted}
 use Rattle.batch_run.proofs.SourcesToCome.{counted_more, counted_all, few_sources}
 use Rattle.batch_run.proofs.solve.schedule.count_diffusions.Goals as goal
 
-pub returns-then-plain : goal.returns-then-plain
-returns-then-plain c = rw c.if-plain.true (none_counted (asked_of c.args.questions.now).questions)
+pub returns-then-undiffused : goal.returns-then-undiffused
+returns-then-undiffused c = rw c.if-undiffused.true (none_counted (asked_of c.args.questions.now).questions)
 
 pub loop-i-preserved : goal.loop-i-preserved
 loop-i-preserved c =
@@ -19,4 +19,4 @@ loop-i-preserved c =
     }
 
 pub returns : goal.returns
-returns c = rw c.if-plain.false (counted_all (asked_of c.args.questions.now).questions c.loop-i.i c.loop-i.count (search rules) c.loop-i.invariant.counted)
+returns c = rw c.if-undiffused.false (counted_all (asked_of c.args.questions.now).questions c.loop-i.i c.loop-i.count (search rules) c.loop-i.invariant.counted)

@@ -5,22 +5,13 @@ use Rattle.batch_run.proofs.SourcesToCome.{first_collected, kept_few, more_colle
 use Rattle.batch_run.proofs.solve.upcoming.upcoming.Goals as goal
 
 pub offset_bounds-sources-j : goal.offset_bounds-sources-j
-offset_bounds-sources-j c =
-    let low = c.requires.source (FromSource 0) in
-    let own = ap (λ (l : _). length l) (c.sources.ensures (FromSource 0)) in
-    omega (arith, low, own)
+offset_bounds-sources-j c = omega (arith, c.requires.source (FromSource 0), ap (λ (l : _). length l) (c.sources.ensures (FromSource 0)))
 
 pub slice_bounds-fill_up-count : goal.slice_bounds-fill_up-count
-slice_bounds-fill_up-count c =
-    let low = c.requires.source (FromSource 0) in
-    let own = ap (λ (l : _). length l) (c.sources.ensures (FromSource 0)) in
-    omega (arith, low, own)
+slice_bounds-fill_up-count c = omega (arith, c.requires.source (FromSource 0), ap (λ (l : _). length l) (c.sources.ensures (FromSource 0)))
 
 pub slice_bounds-fill_up-start : goal.slice_bounds-fill_up-start
-slice_bounds-fill_up-start c =
-    let low = c.requires.source (FromSource 0) in
-    let own = ap (λ (l : _). length l) (c.sources.ensures (FromSource 0)) in
-    omega (arith, low, own)
+slice_bounds-fill_up-start c = omega (arith, c.requires.source (FromSource 0), ap (λ (l : _). length l) (c.sources.ensures (FromSource 0)))
 
 pub loop-later-init : goal.loop-later-init
 loop-later-init c =

@@ -8,9 +8,10 @@ use crate::arguments::{
     algebra, deal, fault_numbers, file, flag, limit, number, option, usual_number,
 };
 use crate::help::{
-    ACCOUNTS, AHEAD, ANSWERS, BEST_FIRST, BUDGET, BUNDLE, EXPLAINED, FACTORS, GRAPH, JUDGED, LIMIT,
-    LIMIT_OF_ANSWERS, NAMES, ORDER, PLACES, PLAIN, PROGRESS, PURPOSE, QUESTIONS, REPLIES, SERVE,
-    SERVED_GRAPH, SHARDS, STATUSES, TIMES, TURNS, VERDICT, VERDICTS, VERSION, WIDTH, WORKERS,
+    ACCOUNTS, ADVICE, AHEAD, ANSWERS, BEST_FIRST, BUDGET, BUNDLE, EXPLAINED, FACTORS, GRAPH,
+    JUDGED, LIMIT, LIMIT_OF_ANSWERS, NAMES, ORDER, PLACES, PLAIN, PROGRESS, PURPOSE, QUESTIONS,
+    REPLIES, SERVE, SERVED_GRAPH, SHARDS, STATUSES, TIMES, TURNS, VERDICT, VERDICTS, VERSION,
+    WIDTH, WORKERS,
 };
 use clap::Command;
 use std::alloc::{AllocError, Global};
@@ -68,6 +69,7 @@ fn solve<'a>(
     }) }
 {
     let command = Command::new(alloc, "solve")
+        .before_long_help(ADVICE)
         .about("Answers the questions of a file over the graph of another")
         .after_help(NAMES)
         .after_long_help(ANSWERS)
@@ -92,6 +94,7 @@ fn bundle<'a>(
     }) }
 {
     let command = Command::new(alloc, "bundle")
+        .before_long_help(ADVICE)
         .about("Answers a graph and its questions from standard input")
         .long_about(BUNDLE)
         .after_help(NAMES)
@@ -110,7 +113,8 @@ fn serve<'a>(
     }) }
 {
     let command = Command::new(alloc, "serve")
-        .about("Replies to requests over a graph, each as soon as it is whole")
+        .before_long_help(ADVICE)
+        .about("Replies to requests over a graph, each as soon as it is complete")
         .long_about(SERVE)
         .after_help(NAMES)
         .after_long_help(REPLIES)
@@ -122,7 +126,7 @@ fn check<'a>(alloc: Global) -> Result<Command<'a>, AllocError>
     ensures { IfOk result (λ r. app_of r ≡ record { top = check; subs = [] }) }
 {
     Command::new(alloc, "check")
-        .about("Judges answers, whoever made them, and reports the first wrong place")
+        .about("Judges answers, whichever program wrote them")
         .after_help(VERDICT)
         .after_long_help(VERDICTS)
         .arg(file(

@@ -19,18 +19,32 @@ macro_rules! with_statuses {
     };
 }
 
+// With which options to answer, between these lines.
+macro_rules! with_advice {
+    ($($before:literal)*; $($after:literal)*) => {
+        concat!(
+            $($before,)*
+            "For answers give `--plain` (few questions) or `--factors` (many pairs over\n",
+            "one network). Without either the diffusing computation runs, which takes\n",
+            "many times as long for the same bytes.",
+            $($after,)*
+        )
+    };
+}
+
 /// The version of the program, and the line of the toolchain that proves it.
 pub const VERSION: &str = "1.2.0 (rattle-kit-13)";
 
 /// What the program is for.
-pub const PURPOSE: &str = concat!(
-    "Answers path questions over road graphs: best values, hops and routes.\n",
-    "For answers give `--plain` (few questions) or `--factors` (many pairs over\n",
-    "one network). Without either the diffusing computation runs, which takes\n",
-    "many times as long for the same bytes. If a command ends with status 0,\n",
-    "what it wrote is right; this is proved of inputs and outputs that reveal\n",
-    "their bytes to the contracts, and files and pipes run the same code",
+pub const PURPOSE: &str = with_advice!(
+    "Answers path questions over road graphs: best values, hops and routes.\n";
+    " If a command ends with status 0,\n"
+    "what it wrote is right; this is proved of inputs and outputs that reveal\n"
+    "their bytes to the contracts, and files and pipes run the same code"
 );
+
+/// With which options to answer.
+pub const ADVICE: &str = with_advice!(;);
 
 /// The algebras, and what each calls best.
 pub const ALGEBRA: &str = concat!(

@@ -15,8 +15,6 @@ use Rattle.command_args.specs.declared.parsed.BundleArgs.{BundleArgs}
 use Rattle.command_args.specs.declared.parsed.CheckArgs.{CheckArgs}
 use Rattle.command_args.specs.declared.parsed.OrderArgs.{OrderArgs}
 use Rattle.command_args.specs.declared.parsed.RunOptions.{RunOptions}
-use Rattle.command_args.specs.declared.parsed.ServeArgs.{ServeArgs}
-use Rattle.command_args.specs.declared.parsed.SolveArgs.{SolveArgs}
 use Rattle.command_args.specs.declared.parsed.WatchOptions.{WatchOptions}
 use Rattle.fault_reports.specs.Reports.{run_fault}
 use Rattle.command_files.specs.Inputs.{NamesStdinOnce, IsNamed, stdin_name}
@@ -82,17 +80,13 @@ abbrev pub one_if : {X : Type 0} → Option X → List X
 one_if None = []
 one_if (Some x) = x ∷ []
 
--- those of `solve`, in order
-abbrev pub inputs_solved : SolveArgs → Named
-inputs_solved args = (args.graph.now, Graph) ∷ (args.questions.now, Questions) ∷ order_input (name_of_order args.options.order)
+-- those of `solve` or `serve`, in order: a graph, questions or requests, and an order
+abbrev pub inputs_paired : (graph questions : List ℕ) → RunOptions → Named
+inputs_paired graph questions options = (graph, Graph) ∷ (questions, Questions) ∷ order_input (name_of_order options.order)
 
 -- those of `bundle`, of which the first is standard input
 abbrev pub inputs_bundled : BundleArgs → Named
 inputs_bundled args = (stdin_name, Bundle) ∷ order_input (name_of_order args.options.order)
-
--- those of `serve`; standard input has the requests
-abbrev pub inputs_served : ServeArgs → Named
-inputs_served args = (args.graph.now, Graph) ∷ (stdin_name, Questions) ∷ order_input (name_of_order args.options.order)
 
 -- that of `order`
 abbrev pub inputs_ordered : OrderArgs → Named

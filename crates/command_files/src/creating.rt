@@ -5,7 +5,6 @@ ghost use Rattle.command_files.specs.Opening.{CannotCreate, CreatesIf, IsAmong, 
 use crate::files::FileSystem;
 use crate::opening::STDIN_NAME;
 use crate::refusal::Refusal;
-use crate::watching::Watching;
 use batch_inputs::{WRITE, fault_of_run};
 use command_args::WatchOptions;
 
@@ -33,20 +32,15 @@ pub fn create_accounts<P: FileSystem>(
     files: &mut P,
     options: &WatchOptions<'_>,
     others: &[&str],
-) -> Result<Watching<P::NewFile>, Refusal>
-    ensures creates { IfOk result (λ w. CreatesIf P.creates P.tells_same
+) -> Result<Option<P::NewFile>, Refusal>
+    ensures creates { IfOk result (λ accounts. CreatesIf P.creates P.tells_same
         (map (λ name. name.now) others.now) (accounts_name options.now) files.old files.new) }
-    ensures wanted { IfOk result (λ w. IsSome w.accounts ↔ IsSome options.now.accounts) }
-    ensures progress { IfOk result (λ w. w.progress ≡ options.now.progress) }
+    ensures wanted { IfOk result (λ accounts. IsSome accounts ↔ IsSome options.now.accounts) }
     ensures refused { IfErr result (CannotCreate P.creates P.tells_same
         (map (λ name. name.now) others.now) (accounts_name options.now) files.old files.new) }
 {
-    let progress = options.progress;
     let Some(name) = options.accounts else {
-        return Ok(Watching {
-            accounts: None,
-            progress,
-        });
+        return Ok(None);
     };
     if name == STDIN_NAME {
         return Err(Refusal::NoFile);
@@ -55,10 +49,7 @@ pub fn create_accounts<P: FileSystem>(
         return Err(Refusal::FileTaken);
     }
     match files.create(name) {
-        Ok(file) => Ok(Watching {
-            accounts: Some(file),
-            progress,
-        }),
+        Ok(file) => Ok(Some(file)),
         Err(_) => Err(Refusal::Fault(fault_of_run(WRITE))),
     }
 }

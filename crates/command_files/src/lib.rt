@@ -8,15 +8,11 @@ mod opened_input;
 mod opening;
 mod refusal;
 mod times;
-mod watching;
 
 pub use creating::{ERRORS_NAME, OUTPUT_NAME, create_accounts};
 pub use files::{FileSystem, HostFiles};
 pub use host::Host;
 pub use opened_input::OpenedInput;
-pub use opening::{
-    STDIN_NAME, choose, open_to_bundle, open_to_check, open_to_order, open_to_serve, open_to_solve,
-};
+pub use opening::{STDIN_NAME, choose, open_pair, open_to_bundle, open_to_check, open_to_order};
 pub use refusal::{Refusal, refuse};
 pub use times::{Phase, Stopwatch, TimedWriter, Times, show_times};
-pub use watching::Watching;

@@ -3,13 +3,13 @@ ghost use Rattle.std.specs.Prelude.{◌≡◌, ◌≢◌, ◌↔◌, [], ◌∷�
 ghost use Rattle.std.specs.Option.{option_map};
 ghost use Rattle.batch_inputs.specs.declared.faults.RunFault.{RunFault};
 ghost use Rattle.command_files.specs.Inputs.{NamesStdinOnce, IsNamed, opened_input, stdin_name};
-ghost use Rattle.command_files.specs.Opening.{AreOpened, CannotChoose, CannotOpen, HasOpened, IsChosen, IsMissing, OpensInput, inputs_bundled, inputs_judged, inputs_ordered, inputs_served, inputs_solved, missing, name_of_order, one_if, order_input};
+ghost use Rattle.command_files.specs.Opening.{AreOpened, CannotChoose, CannotOpen, HasOpened, IsChosen, IsMissing, OpensInput, inputs_bundled, inputs_judged, inputs_ordered, inputs_paired, missing, name_of_order, one_if, order_input};
 
 use crate::files::FileSystem;
 use crate::opened_input::OpenedInput;
 use crate::refusal::Refusal;
 use batch_inputs::{File, RunFault, SETTINGS, fault_of_run};
-use command_args::{BundleArgs, CheckArgs, OrderArgs, RunOptions, ServeArgs, SolveArgs};
+use command_args::{BundleArgs, CheckArgs, OrderArgs, RunOptions};
 use path_algebra::{AlgebraChoice, AlgebraName};
 use text_lines::READ_FAILED;
 
@@ -118,10 +118,13 @@ fn are_once_with(first: &str, second: &str, order: Option<&str>) -> bool
     }
 }
 
-/// Opens the inputs of `solve` in order: a graph, questions, and an order, if one is named.
-pub fn open_to_solve<P: FileSystem>(
+/// Opens the inputs of `solve` or `serve` in order: a graph, questions or requests, and an order, if
+/// one is named.
+pub fn open_pair<P: FileSystem>(
     files: &mut P,
-    args: &SolveArgs<'_>,
+    graph: &str,
+    questions: &str,
+    options: &RunOptions<'_>,
 ) -> Result<
     (
         OpenedInput<P::File, P::Stdin>,
@@ -131,17 +134,17 @@ pub fn open_to_solve<P: FileSystem>(
     Refusal,
 >
     ensures opened { let seen = opened_input P.File.seen P.Stdin.seen in
-        IfOk result (λ i. HasOpened P.opens (inputs_solved args.now)
+        IfOk result (λ i. HasOpened P.opens (inputs_paired graph.now questions.now options.now)
         (seen i.0 ∷ seen i.1 ∷ one_if (option_map seen i.2)) files.old files.new) }
-    ensures refused { IfErr result (CannotOpen P.opens (inputs_solved args.now) files.old
-        files.new) }
+    ensures refused { IfErr result (CannotOpen P.opens
+        (inputs_paired graph.now questions.now options.now) files.old files.new) }
 {
-    if !are_once_with(args.graph, args.questions, args.options.order) {
+    if !are_once_with(graph, questions, options.order) {
         return Err(Refusal::StdinTwice);
     }
-    let graph = open(files, args.graph, File::Graph)?;
-    let questions = open(files, args.questions, File::Questions)?;
-    let order = open_order(files, args.options.order)?;
+    let graph = open(files, graph, File::Graph)?;
+    let questions = open(files, questions, File::Questions)?;
+    let order = open_order(files, options.order)?;
     Ok((graph, questions, order))
 }
 
@@ -168,34 +171,6 @@ pub fn open_to_bundle<P: FileSystem>(
     let bundle = open(files, STDIN_NAME, File::Bundle)?;
     let order = open_order(files, args.options.order)?;
     Ok((bundle, order))
-}
-
-/// Opens the inputs of `serve` in order: a graph, standard input with the requests, and an order, if
-/// one is named.
-pub fn open_to_serve<P: FileSystem>(
-    files: &mut P,
-    args: &ServeArgs<'_>,
-) -> Result<
-    (
-        OpenedInput<P::File, P::Stdin>,
-        OpenedInput<P::File, P::Stdin>,
-        Option<OpenedInput<P::File, P::Stdin>>,
-    ),
-    Refusal,
->
-    ensures opened { let seen = opened_input P.File.seen P.Stdin.seen in
-        IfOk result (λ i. HasOpened P.opens (inputs_served args.now)
-        (seen i.0 ∷ seen i.1 ∷ one_if (option_map seen i.2)) files.old files.new) }
-    ensures refused { IfErr result (CannotOpen P.opens (inputs_served args.now) files.old
-        files.new) }
-{
-    if !are_once_with(args.graph, STDIN_NAME, args.options.order) {
-        return Err(Refusal::StdinTwice);
-    }
-    let graph = open(files, args.graph, File::Graph)?;
-    let requests = open(files, STDIN_NAME, File::Questions)?;
-    let order = open_order(files, args.options.order)?;
-    Ok((graph, requests, order))
 }
 
 /// Opens the input of `order`: a graph.

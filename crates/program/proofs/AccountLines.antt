@@ -1,6 +1,6 @@
 -- The line of a diffusion, written in two parts.
 use Rattle.std.specs.Prelude.{if◌then◌else◌}
-use Rattle.std.proofs.Common.{◌≡◌, ℕ, List, [], ◌∷◌, ◌++◌, true, false, Option, Result, ap, subst, ◌∙◌, decimal, codes, arith}
+use Rattle.std.proofs.Common.{◌≡◌, ℕ, List, [], ◌∷◌, ◌++◌, true, false, Result, ap, subst, ◌∙◌, decimal, codes, arith}
 use Rattle.std.proofs.lemmas.Grind.{common_steps}
 use Rattle.text_lines.specs.Texts.{spelled}
 use Rattle.text_lines.specs.Streams.{Output}

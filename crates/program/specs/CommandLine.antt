@@ -9,7 +9,9 @@ use Rattle.command_args.specs.Asked.{AskFor, AskForNone}
 use Rattle.fault_reports.specs.declared.rows.FaultRow.{FaultRow}
 use Rattle.fault_reports.specs.Reports.{EndsAs, IsUsage, Reaches, ReportsFault, run_fault}
 use Rattle.fault_reports.specs.Explained.{Explains, IsFaultTable}
-use Rattle.program.specs.Commands.{DoesBundle, DoesCheck, DoesServe, DoesSolve}
+use Rattle.program.specs.Commands.{DoesBundle, DoesCheck, DoesServe, DoesSolve, IsRefused}
+use Rattle.command_files.specs.declared.refusal.Refusal.{Refusal}
+use Rattle.command_files.specs.declared.refusal.Refusal.TheVariants.{Fault, NoText}
 use Rattle.command_files.specs.Moments.{Moment}
 use Rattle.program.specs.Ordering.{DoesOrder}
 use Rattle.command_files.specs.Opening.{Tells, Tries}
@@ -51,3 +53,13 @@ abbrev pub DoesCommandLine : (F I S : Type 0) → {P W E : Type 0} → Tries P �
 DoesCommandLine F I S opens creates tells words old new result =
     ((subcommand : Subcommand) × AskFor words subcommand × DoesSubcommand F I S opens creates tells subcommand old new result)
     ⊎ ((kind : ErrorKind) × AskForNone words kind × IsSaid kind old new result)
+
+-- the system gives no words: one of them is no text, or memory was refused
+abbrev pub AreNoWords : Refusal → Type 0
+AreNoWords refusal = (refusal ≡ NoText) ⊎ (refusal ≡ Fault (run_fault 3))
+
+-- what some words ask for was done, those that the system gave; or it gave none, and that was said
+abbrev pub RunsWords : (F I S : Type 0) → {P W E : Type 0} → Tries P → Tries P → Tells P → Moment P W E → Moment P W E → ℕ → Type 0
+RunsWords F I S opens creates tells old new result =
+    ((words : List (List ℕ)) × DoesCommandLine F I S opens creates tells words old new result)
+    ⊎ IsRefused (λ files refusal. (files ≡ old.files) × AreNoWords refusal) old new result

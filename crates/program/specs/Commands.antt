@@ -22,9 +22,9 @@ use Rattle.command_files.specs.declared.refusal.Refusal.{Refusal}
 use Rattle.command_files.specs.Inputs.{stdin_name}
 use Rattle.program.specs.Judgements.{EndsCheck, RanJudge}
 use Rattle.command_files.specs.Moments.{Moment}
-use Rattle.command_files.specs.Opening.{CannotChoose, CannotCreate, CannotOpen, CreatesIf, HasOpened, IsChosen, Tells, Tries, accounts_name, inputs_bundled, inputs_judged, inputs_served, inputs_solved, one_if, written_names}
+use Rattle.command_files.specs.Opening.{CannotChoose, CannotCreate, CannotOpen, CreatesIf, HasOpened, IsChosen, Tells, Tries, accounts_name, inputs_bundled, inputs_judged, inputs_paired, one_if, written_names}
 use Rattle.command_files.specs.Refusals.{Says}
-use Rattle.program.specs.Runs.{gate_is_open}
+use Rattle.program.specs.Runs.{Given, gate_is_open, given_of}
 use Rattle.command_files.specs.Times.{ShowsTimes}
 use Rattle.program.specs.Watching.{EndsWatched}
 
@@ -50,31 +50,36 @@ taken_solved args = args.graph.now ∷ args.questions.now ∷ written_names
 abbrev pub taken_bundled : List (List ℕ)
 taken_bundled = stdin_name ∷ written_names
 
--- the inputs were opened, and the file of accounts was created; then the questions were answered,
--- and at last times were shown, if they are wanted
-pub record SolvesOpened (F I S : Type 0) {P W E : Type 0} (creates : Tries P) (tells : Tells P) (chosen : AlgebraChoice) (args : SolveArgs) (first second : Input (OpenedInput F I)) (third : Option (Input (OpenedInput F I))) (opened : P) (old new : Moment P W E) (result : ℕ) : Type 0 where
+-- the file of accounts was created; then the questions of an input were answered, and at last times
+-- were shown, if they are wanted
+pub record AnswersWatched (S : Type 0) {P W E : Type 0} (creates : Tries P) (tells : Tells P) (others : List (List ℕ)) (watching : WatchOptions) (given : Given) (old new : Moment P W E) (result : ℕ) : Type 0 where
   pub accounts : Option (Output S)
   pub accounts_after : Option (Output S)
   pub answered : Moment P W E
-  pub created : Creates creates tells (taken_solved args) args.watching accounts opened answered.files
-  pub first_after : Input (OpenedInput F I)
-  pub second_after : Input (OpenedInput F I)
-  pub third_after : Option (Input (OpenedInput F I))
-  pub ends : EndsWatched chosen args.options.settings args.watching.progress (IsPairOf first.left second.left) (IsOrderedFile IsPairFile)
-      (HasReadOrdered (IsPairOf first.left second.left) IsPairFile IsRunFile (HasReadPair first first_after second second_after) third third_after)
-      old.out answered.out accounts accounts_after old.errors answered.errors result
-  pub timed : ShowsTimes args.watching.times result answered new
+  pub created : Creates creates tells others watching accounts old.files answered.files
+  pub ends : EndsWatched given watching.progress old.out answered.out accounts accounts_after old.errors answered.errors result
+  pub timed : ShowsTimes watching.times result answered new
 
--- inputs were opened, or the first that can't be is reported; then the file of accounts was
--- created, or that is reported; then the questions were answered
+-- the file of accounts was created and the questions were answered; or it can't be, which is said
+abbrev pub Answers : (S : Type 0) → {P W E : Type 0} → Tries P → Tells P → List (List ℕ) → WatchOptions → Given → Moment P W E → Moment P W E → ℕ → Type 0
+Answers S creates tells others watching given old new result =
+    IsRefused (CannotCreate creates tells others (accounts_name watching) old.files) old new result
+    ⊎ AnswersWatched S creates tells others watching given old new result
+
+-- the inputs were opened; then their questions were answered
 pub record SolvesChosen (F I S : Type 0) {P W E : Type 0} (opens creates : Tries P) (tells : Tells P) (chosen : AlgebraChoice) (args : SolveArgs) (old new : Moment P W E) (result : ℕ) : Type 0 where
   pub opened : P
   pub first : Input (OpenedInput F I)
   pub second : Input (OpenedInput F I)
   pub third : Option (Input (OpenedInput F I))
-  pub order : HasOpened opens (inputs_solved args) (first ∷ second ∷ one_if third) old.files opened
-  pub ends : IsRefused (CannotCreate creates tells (taken_solved args) (accounts_name args.watching) opened) old new result
-      ⊎ SolvesOpened F I S creates tells chosen args first second third opened old new result
+  pub order : HasOpened opens (inputs_paired args.graph.now args.questions.now args.options) (first ∷ second ∷ one_if third) old.files opened
+  pub first_after : Input (OpenedInput F I)
+  pub second_after : Input (OpenedInput F I)
+  pub third_after : Option (Input (OpenedInput F I))
+  pub answers : Answers S creates tells (taken_solved args) args.watching
+      (given_of chosen args.options.settings (IsPairOf first.left second.left) (IsOrderedFile IsPairFile)
+      (HasReadOrdered (IsPairOf first.left second.left) IsPairFile IsRunFile (HasReadPair first first_after second second_after) third third_after))
+      (record old { files = opened }) new result
 
 -- `solve` with these arguments, over files of this type, a standard input of that, and new files of
 -- a third
@@ -82,32 +87,21 @@ abbrev pub DoesSolve : (F I S : Type 0) → {P W E : Type 0} → Tries P → Tri
 DoesSolve F I S opens creates tells args old new result =
     IsRefused (λ files refusal. (files ≡ old.files) × CannotChoose args.options (is_some args.watching.accounts) refusal) old new result
     ⊎ ((chosen : AlgebraChoice) × IsChosen args.options (is_some args.watching.accounts) chosen
-    × (IsRefused (CannotOpen opens (inputs_solved args) old.files) old new result
+    × (IsRefused (CannotOpen opens (inputs_paired args.graph.now args.questions.now args.options) old.files) old new result
     ⊎ SolvesChosen F I S opens creates tells chosen args old new result))
 
--- the file of accounts was created; then the questions of standard input were answered, and at last
--- times were shown, if they are wanted
-pub record BundlesOpened (F I S : Type 0) {P W E : Type 0} (creates : Tries P) (tells : Tells P) (chosen : AlgebraChoice) (args : BundleArgs) (text : Input (OpenedInput F I)) (order : Option (Input (OpenedInput F I))) (opened : P) (old new : Moment P W E) (result : ℕ) : Type 0 where
-  pub text_after : Input (OpenedInput F I)
-  pub order_after : Option (Input (OpenedInput F I))
-  pub accounts : Option (Output S)
-  pub accounts_after : Option (Output S)
-  pub answered : Moment P W E
-  pub created : Creates creates tells taken_bundled args.watching accounts opened answered.files
-  pub ends : EndsWatched chosen args.options.settings args.watching.progress (IsBundleOf text.left) (IsOrderedFile IsBundleFile)
-      (HasReadOrdered (IsBundleOf text.left) IsBundleFile IsRunFile (HasReadBundle text text_after) order order_after)
-      old.out answered.out accounts accounts_after old.errors answered.errors result
-  pub timed : ShowsTimes args.watching.times result answered new
-
--- standard input and an order, if one is named, were opened; then the file of accounts was created,
--- or that is reported; then the questions were answered
+-- standard input and an order, if one is named, were opened; then the questions were answered
 pub record BundlesChosen (F I S : Type 0) {P W E : Type 0} (opens creates : Tries P) (tells : Tells P) (chosen : AlgebraChoice) (args : BundleArgs) (old new : Moment P W E) (result : ℕ) : Type 0 where
   pub opened : P
   pub text : Input (OpenedInput F I)
   pub order : Option (Input (OpenedInput F I))
   pub inputs : HasOpened opens (inputs_bundled args) (text ∷ one_if order) old.files opened
-  pub ends : IsRefused (CannotCreate creates tells taken_bundled (accounts_name args.watching) opened) old new result
-      ⊎ BundlesOpened F I S creates tells chosen args text order opened old new result
+  pub text_after : Input (OpenedInput F I)
+  pub order_after : Option (Input (OpenedInput F I))
+  pub answers : Answers S creates tells taken_bundled args.watching
+      (given_of chosen args.options.settings (IsBundleOf text.left) (IsOrderedFile IsBundleFile)
+      (HasReadOrdered (IsBundleOf text.left) IsBundleFile IsRunFile (HasReadBundle text text_after) order order_after))
+      (record old { files = opened }) new result
 
 -- `bundle` with these arguments
 abbrev pub DoesBundle : (F I S : Type 0) → {P W E : Type 0} → Tries P → Tries P → Tells P → BundleArgs → Moment P W E → Moment P W E → ℕ → Type 0
@@ -126,7 +120,7 @@ pub record ServesOpened (F I : Type 0) {P W E : Type 0} (opens : Tries P) (chose
   pub requests_after : Input (OpenedInput F I)
   pub order : Option (Input (OpenedInput F I))
   pub order_after : Option (Input (OpenedInput F I))
-  pub inputs : HasOpened opens (inputs_served args) (roads ∷ requests ∷ one_if order) old.files new.files
+  pub inputs : HasOpened opens (inputs_paired args.graph.now stdin_name args.options) (roads ∷ requests ∷ one_if order) old.files new.files
   pub outcome : Result (Unit {0}) RunFault
   pub ran : Under chosen (λ V A. RanService A args.options.settings gate_is_open roads roads_after order order_after requests requests_after old.out new.out outcome)
   -- 43 is reported exactly of settings that are out of range, or choose factors for an algebra
@@ -139,7 +133,7 @@ abbrev pub DoesServe : (F I : Type 0) → {P W E : Type 0} → Tries P → Serve
 DoesServe F I opens args old new result =
     IsRefused (λ files refusal. (files ≡ old.files) × CannotChoose args.options false refusal) old new result
     ⊎ ((chosen : AlgebraChoice) × IsChosen args.options false chosen
-    × (IsRefused (CannotOpen opens (inputs_served args) old.files) old new result
+    × (IsRefused (CannotOpen opens (inputs_paired args.graph.now stdin_name args.options) old.files) old new result
     ⊎ ServesOpened F I opens chosen args old new result))
 
 -- all three inputs were opened; then the answers were judged, and the verdict was written

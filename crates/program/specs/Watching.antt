@@ -1,22 +1,17 @@
 -- What the watcher of a command writes, and how a command ends that is watched.
 use Rattle.std.specs.Prelude.{◌≡◌, ◌≢◌, ◌⊎◌, ℕ, ◌<◌, ◌≤◌, List, [], Bool, true, false, Option, Some, None, Result, Ok, Err}
 use Rattle.std.specs.Io.KnownBytes.{Appends, Keeps}
-use Rattle.road_graph.specs.GraphData.{GraphData}
-use Rattle.road_files.specs.Asked.{Asked}
-use Rattle.batch_inputs.specs.declared.faults.File.{File}
 use Rattle.batch_inputs.specs.declared.faults.RunFault.{RunFault}
-use Rattle.batch_settings.specs.declared.settings.Settings.{Settings}
 use Rattle.batch_run.specs.declared.watcher.Progress.{Progress}
 use Rattle.batch_run.specs.Reports.{AreReports}
 use Rattle.text_lines.specs.Streams.{Output}
-use Rattle.path_algebra.specs.declared.choice.AlgebraChoice.{AlgebraChoice}
 use Rattle.path_algebra.specs.Choices.{Under, name_of}
 use Rattle.program.specs.declared.watch.watcher.CommandWatcher.{CommandWatcher}
 use Rattle.program.specs.Accounts.{account_of, accounts_text}
 use Rattle.program.specs.Progress.{all_after, progress_text, shown_at}
 use Rattle.fault_reports.specs.Reports.{EndsAs, Reaches, run_fault}
 use Rattle.command_files.specs.Added.{IsAdded}
-use Rattle.program.specs.Runs.{RanUnder}
+use Rattle.program.specs.Runs.{Given, RanUnder}
 
 -- the text was added, if progress is shown, or a write failed; else nothing was done
 abbrev pub IsAddedIf : {E X : Type 0} → (E → Output X) → Bool → E → E → List ℕ → Type 0
@@ -79,17 +74,16 @@ outcome_of (Err f) kept = Err f
 -- How a command ends that answers what an input spells: what answering leaves, what was reported of
 -- it, that the accounts are those of the reports, what was shown on the error output, and the exit
 -- status; a fault is reported last.
-pub record EndsWatched {W A E : Type 0} (chosen : AlgebraChoice) (settings : Settings) (progress : Bool) (IsRead : GraphData → Asked → Type 0) (inputs : File → Type 0)
-    (HasRead : Result (Unit {0}) RunFault → Type 0) (out out_after : Output W) (accounts accounts_after : Option (Output A)) (errors errors_after : Output E) (result : ℕ) : Type 0 where
+pub record EndsWatched {W A E : Type 0} (given : Given) (progress : Bool) (out out_after : Output W) (accounts accounts_after : Option (Output A)) (errors errors_after : Output E) (result : ℕ) : Type 0 where
   pub outcome : Result (Unit {0}) RunFault
-  pub ran : RanUnder chosen settings IsRead inputs HasRead out out_after outcome
+  pub ran : RanUnder given out out_after outcome
   pub reports : List Progress
-  pub reported : Under chosen (λ V A. AreReports A settings IsRead out out_after outcome reports)
+  pub reported : Under given.chosen (λ V A. AreReports A given.settings given.is_read out out_after outcome reports)
   pub kept : Result (Unit {0}) RunFault
-  pub accounted : Account (accounts_text (name_of chosen) reports) accounts accounts_after kept
+  pub accounted : Account (accounts_text (name_of given.chosen) reports) accounts accounts_after kept
   pub watched : Output E
   pub shown : IsAddedIf (λ e. e) progress errors watched (progress_text 0 reports)
   pub ends : EndsAs (λ _. 0) watched errors_after (outcome_of outcome kept) result
   -- with one shard, best first, and a limit of turns that is enough for every graph, as the usual
   -- one is, the exit status is not that of a limit
-  pub finishes : settings.shards ≡ 1 → settings.best_first ≡ true → 17179869376 ≤ settings.turns → result ≢ 6
+  pub finishes : given.settings.shards ≡ 1 → given.settings.best_first ≡ true → 17179869376 ≤ given.settings.turns → result ≢ 6

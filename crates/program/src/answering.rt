@@ -1,26 +1,26 @@
 //! Answers a batch or a service under the algebra that was chosen, and says how it ends.
-ghost use Rattle.std.specs.Prelude.{◌≡◌};
+ghost use Rattle.std.specs.Prelude.{◌≡◌, Option, map};
 ghost use Rattle.std.specs.Option.{option_map};
 ghost use Rattle.path_algebra.specs.Choices.{OfChosen, Under, arc_cost_of};
-ghost use Rattle.batch_inputs.specs.Inputs.{HasReadPair};
-ghost use Rattle.batch_inputs.specs.Spelled.{IsPairOf};
-ghost use Rattle.batch_inputs.specs.InputFaults.{IsPairFile};
 ghost use Rattle.batch_inputs.specs.Orders.{HasReadOrdered, IsOrderedFile, IsRunFile};
 ghost use Rattle.batch_run.specs.Reports.{Watched};
 ghost use Rattle.batch_run.specs.Runs.{Ran};
 ghost use Rattle.batch_run.specs.Stopping.{Stopped};
 ghost use Rattle.batch_run.specs.Unsuited.{IsRefusedUnsuited};
 ghost use Rattle.service.specs.Served.{RanService};
-ghost use Rattle.program.specs.Runs.{gate_is_open};
+ghost use Rattle.command_files.specs.Moments.{moment};
+ghost use Rattle.program.specs.Commands.{Answers};
+ghost use Rattle.program.specs.Runs.{gate_is_open, given_of};
 ghost use Rattle.program.specs.Watching.{EndsAccounts, EndsWatched, outcome_of};
 
 use crate::method::Method;
 use crate::watch::CommandWatcher;
 use batch_run::{
-    BatchInput, OpenGate, OrderedInput, PairInput, Run, RunFault, WRITE, Watcher, fault_of_run,
-    run_batch, usual_turns_are_enough,
+    BatchInput, OpenGate, OrderedInput, Run, RunFault, WRITE, Watcher, fault_of_run, run_batch,
+    usual_turns_are_enough,
 };
-use command_files::{FileSystem, Host, Watching};
+use command_args::WatchOptions;
+use command_files::{FileSystem, Host, create_accounts, refuse, show_times};
 use fault_reports::end_with;
 use path_algebra::with_algebra;
 use service::run_service;
@@ -59,49 +59,18 @@ fn run_chosen<R: Threads + Wait + Sync, I: BatchInput, W: RoadWrite, O: Watcher>
     )
 }
 
-/// The same for an input whose graph is factored by the order of a further input, if there is one.
-fn run_ordered<R: Threads + Wait + Sync, I: BatchInput, O: RoadRead, W: RoadWrite, V: Watcher>(
-    method: &Method<'_, R>,
-    input: &mut I,
-    order: &mut Option<O>,
-    out: &mut W,
-    watcher: &mut V,
-) -> Result<(), RunFault>
-    ensures run { Under method.now.chosen (λ V A. Ran A method.now.settings.now gate_is_open
-        (I.is_read input.old) (IsOrderedFile I.is_own) (W.seen out.old) (W.seen out.new) result) }
-    ensures suited { IsRefusedUnsuited (arc_cost_of method.now.chosen) method.now.settings.now
-        result }
-    ensures stopped { OfChosen method.now.chosen (λ S V meaning algebra. Stopped meaning algebra
-        method.now.settings.now gate_is_open (I.is_read input.old) result) }
-    ensures read { HasReadOrdered (I.is_read input.old) I.is_own IsRunFile
-        (I.has_read input.old input.new) (option_map O.seen order.old)
-        (option_map O.seen order.new) result }
-    ensures watched { Under method.now.chosen (λ X A. Watched A method.now.settings.now
-        (I.is_read input.old) V.may_become watcher.old watcher.new (W.seen out.old) (W.seen out.new)
-        result) }
-{
-    let mut ordered = OrderedInput { input, order };
-    run_chosen(method, &mut ordered, out, watcher)
-}
-
 /// Replies to the requests of one input over the graph of another, to each as soon as it is whole,
 /// under the chosen algebra. The graph is factored by the order of a third, if there is one.
-pub(crate) fn serve_chosen<
-    R: Threads + Wait + Sync,
-    G: RoadRead,
-    O: RoadRead,
-    Q: RoadRead,
-    W: RoadWrite,
->(
+pub(crate) fn serve_chosen<R: Threads + Wait + Sync, I: RoadRead, W: RoadWrite>(
     method: &Method<'_, R>,
-    graph: &mut G,
-    order: &mut Option<O>,
-    requests: &mut Q,
+    graph: &mut I,
+    order: &mut Option<I>,
+    requests: &mut I,
     out: &mut W,
 ) -> Result<(), RunFault>
     ensures run { Under method.now.chosen (λ V A. RanService A method.now.settings.now gate_is_open
-        (G.seen graph.old) (G.seen graph.new) (option_map O.seen order.old)
-        (option_map O.seen order.new) (Q.seen requests.old) (Q.seen requests.new) (W.seen out.old)
+        (I.seen graph.old) (I.seen graph.new) (option_map I.seen order.old)
+        (option_map I.seen order.new) (I.seen requests.old) (I.seen requests.new) (W.seen out.old)
         (W.seen out.new) result) }
     ensures suited { IsRefusedUnsuited (arc_cost_of method.now.chosen) method.now.settings.now
         result }
@@ -142,113 +111,86 @@ fn outcome_of(batch: Result<(), RunFault>, kept: Result<(), RunFault>) -> Result
     }
 }
 
-/// Answers the questions of an input over its graph, which is factored by the order of a further
-/// input if there is one. It writes accounts and shows progress, each if it is wanted, lets the
-/// files take note of its phases, and gives the exit status. A fault is reported last, in one line
-/// on the error output.
-fn answer_to<
-    R: Threads + Wait + Sync,
-    P: FileSystem,
-    I: BatchInput,
-    O: RoadRead,
-    W: RoadWrite,
-    A: RoadWrite,
-    E: RoadWrite,
->(
+/// Answers the questions of an input over its graph. It writes accounts and shows progress, each if
+/// it is wanted, lets the files take note of its phases, and gives the exit status. A fault is
+/// reported last, in one line on the error output.
+fn run_watched<R: Threads + Wait + Sync, I: BatchInput, P: FileSystem, W: RoadWrite, E: RoadWrite>(
     method: &Method<'_, R>,
-    files: &P,
     input: &mut I,
-    order: &mut Option<O>,
-    out: &mut W,
-    watching: &mut Watching<A>,
-    errors: &mut E,
+    host: &mut Host<P, W, E>,
+    accounts: &mut Option<P::NewFile>,
+    progress: bool,
 ) -> u8
-    ensures { EndsWatched method.now.chosen method.now.settings.now watching.old.progress
-        (I.is_read input.old) (IsOrderedFile I.is_own) (HasReadOrdered (I.is_read input.old)
-        I.is_own IsRunFile (I.has_read input.old input.new) (option_map O.seen order.old)
-        (option_map O.seen order.new)) (W.seen out.old) (W.seen out.new)
-        (option_map A.seen watching.old.accounts) (option_map A.seen watching.new.accounts)
-        (E.seen errors.old) (E.seen errors.new) result }
+    ensures files { host.new.files ≡ host.old.files }
+    ensures ends { EndsWatched (given_of method.now.chosen method.now.settings.now
+        (I.is_read input.old) I.is_own (I.has_read input.old input.new)) progress
+        (W.seen host.old.out) (W.seen host.new.out) (option_map P.NewFile.seen accounts.old)
+        (option_map P.NewFile.seen accounts.new) (E.seen host.old.errors) (E.seen host.new.errors)
+        result }
 {
     let mut watch = CommandWatcher {
         name: method.chosen.name(),
-        accounts: &mut watching.accounts,
+        accounts: &mut *accounts,
         lost: false,
-        progress: watching.progress,
+        progress,
         all: 0,
-        errors: &mut *errors,
-        files,
+        errors: &mut host.errors,
+        files: &host.files,
     };
-    let batch = run_ordered(method, input, order, out, &mut watch);
+    let batch = run_chosen(method, input, &mut host.out, &mut watch);
     usual_turns_are_enough();
     let lost = watch.lost;
-    let kept = end_accounts(&mut watching.accounts, lost);
-    end_with(errors, outcome_of(batch, kept))
+    let kept = end_accounts(accounts, lost);
+    end_with(&mut host.errors, outcome_of(batch, kept))
 }
 
-/// Answers the questions of an input over its graph, as `answer_to` does.
+/// Answers the questions of an input, as `run_watched` does, after the file of accounts, which may
+/// be none of these others, was created. At last it shows times, if they are wanted.
+fn answer_input<R: Threads + Wait + Sync, I: BatchInput, P: FileSystem, W: RoadWrite, E: RoadWrite>(
+    method: &Method<'_, R>,
+    input: &mut I,
+    host: &mut Host<P, W, E>,
+    options: &WatchOptions<'_>,
+    others: &[&str],
+) -> u8
+    ensures { Answers P.NewFile P.creates P.tells_same (map (λ name. name.now) others.now)
+        options.now (given_of method.now.chosen method.now.settings.now (I.is_read input.old)
+        I.is_own (I.has_read input.old input.new)) (moment W.seen E.seen host.old)
+        (moment W.seen E.seen host.new) result }
+{
+    let mut accounts = match create_accounts(&mut host.files, options, others) {
+        Ok(accounts) => accounts,
+        Err(refusal) => return refuse(&mut host.errors, refusal),
+    };
+    let status = run_watched(method, input, host, &mut accounts, options.progress);
+    show_times(host, options.times, status);
+    status
+}
+
+/// Answers the questions of an input, as `answer_input` does. The graph is factored by the order of
+/// a further input, if there is one.
 pub(crate) fn answer<
     R: Threads + Wait + Sync,
     I: BatchInput,
     O: RoadRead,
     P: FileSystem,
     W: RoadWrite,
-    A: RoadWrite,
     E: RoadWrite,
 >(
     method: &Method<'_, R>,
     input: &mut I,
     order: &mut Option<O>,
     host: &mut Host<P, W, E>,
-    watching: &mut Watching<A>,
+    options: &WatchOptions<'_>,
+    others: &[&str],
 ) -> u8
-    ensures files { host.new.files ≡ host.old.files }
-    ensures ends { EndsWatched method.now.chosen method.now.settings.now watching.old.progress
-        (I.is_read input.old) (IsOrderedFile I.is_own) (HasReadOrdered (I.is_read input.old)
-        I.is_own IsRunFile (I.has_read input.old input.new) (option_map O.seen order.old)
-        (option_map O.seen order.new)) (W.seen host.old.out) (W.seen host.new.out)
-        (option_map A.seen watching.old.accounts) (option_map A.seen watching.new.accounts)
-        (E.seen host.old.errors) (E.seen host.new.errors) result }
+    ensures { (after : I) × (order_after : Option O) × Answers P.NewFile P.creates P.tells_same
+        (map (λ name. name.now) others.now) options.now (given_of method.now.chosen
+        method.now.settings.now (I.is_read input.old) (IsOrderedFile I.is_own) (HasReadOrdered
+        (I.is_read input.old) I.is_own IsRunFile (I.has_read input.old after) (option_map O.seen
+        order.old) (option_map O.seen order_after))) (moment W.seen E.seen host.old) (moment W.seen
+        E.seen host.new) result }
 {
-    answer_to(
-        method,
-        &host.files,
-        input,
-        order,
-        &mut host.out,
-        watching,
-        &mut host.errors,
-    )
-}
-
-/// Answers the questions of one input over the graph of another, as `answer` does.
-pub(crate) fn answer_pair<
-    R: Threads + Wait + Sync,
-    G: RoadRead,
-    Q: RoadRead,
-    O: RoadRead,
-    P: FileSystem,
-    W: RoadWrite,
-    A: RoadWrite,
-    E: RoadWrite,
->(
-    method: &Method<'_, R>,
-    graph: &mut G,
-    questions: &mut Q,
-    order: &mut Option<O>,
-    host: &mut Host<P, W, E>,
-    watching: &mut Watching<A>,
-) -> u8
-    ensures files { host.new.files ≡ host.old.files }
-    ensures ends { EndsWatched method.now.chosen method.now.settings.now watching.old.progress
-        (IsPairOf (G.seen graph.old).left (Q.seen questions.old).left) (IsOrderedFile IsPairFile)
-        (HasReadOrdered (IsPairOf (G.seen graph.old).left (Q.seen questions.old).left) IsPairFile
-        IsRunFile (HasReadPair (G.seen graph.old) (G.seen graph.new) (Q.seen questions.old)
-        (Q.seen questions.new)) (option_map O.seen order.old) (option_map O.seen order.new))
-        (W.seen host.old.out) (W.seen host.new.out) (option_map A.seen watching.old.accounts)
-        (option_map A.seen watching.new.accounts) (E.seen host.old.errors) (E.seen host.new.errors)
-        result }
-{
-    let mut input = PairInput { graph, questions };
-    answer(method, &mut input, order, host, watching)
+    let mut ordered = OrderedInput { input, order };
+    answer_input(method, &mut ordered, host, options, others)
 }

@@ -1,7 +1,7 @@
 //! The command line: does what its words ask for.
-ghost use Rattle.std.specs.Prelude.{map, string_bytes};
+ghost use Rattle.std.specs.Prelude.{IfErr, map, string_bytes};
 ghost use Rattle.clap.specs.Values.{kind_of};
-ghost use Rattle.program.specs.CommandLine.{DoesCommandLine, IsSaid};
+ghost use Rattle.program.specs.CommandLine.{AreNoWords, DoesCommandLine, IsSaid, RunsWords};
 ghost use Rattle.command_files.specs.Moments.{moment};
 
 use crate::commands::{bundle, check, order, serve, solve};
@@ -74,7 +74,9 @@ pub fn run_command_line<
 }
 
 /// The words of the command line, unless one of them is no text.
-fn words_of<R: Env + AllocGlobal>(rt: &R) -> Result<Vec<String>, Refusal> {
+fn words_of<R: Env + AllocGlobal>(rt: &R) -> Result<Vec<String>, Refusal>
+    ensures { IfErr result AreNoWords }
+{
     let collected = match env::args(rt) {
         Ok(words) => words.collect(rt.alloc()),
         Err(error) if error.kind() == io::ErrorKind::OutOfMemory => {
@@ -88,20 +90,18 @@ fn words_of<R: Env + AllocGlobal>(rt: &R) -> Result<Vec<String>, Refusal> {
     }
 }
 
-/// Runs the program over the system's files and streams, with this stopwatch.
-fn run_measured<'a, R, E: Write + Drop>(rt: &'a R, stopwatch: &Stopwatch<'a, R>, errors: E) -> u8
-where
-    R: Env + Files + Input + Print + Clock + AllocGlobal + Threads + Wait + Sync,
+/// Does what the words that the system gives ask for, and gives the exit status.
+fn run_words<
+    R: Env + AllocGlobal + Threads + Wait + Sync,
+    P: FileSystem,
+    W: RoadWrite,
+    E: RoadWrite,
+>(rt: &R, host: &mut Host<P, W, E>) -> u8
+    ensures { RunsWords P.File P.Stdin P.NewFile P.opens P.creates P.tells_same (moment W.seen
+        E.seen host.old) (moment W.seen E.seen host.new) result }
 {
-    let mut errors = Plain::new(errors);
-    let Ok(out) = Buffered::new(rt.alloc(), Plain::new(io::writer(rt))) else {
-        return report_fault(&mut errors, fault_of_run(MEMORY));
-    };
-    let files = HostFiles { rt, stopwatch };
-    let out = TimedWriter::new(out, stopwatch);
-    let mut host = Host { files, out, errors };
     match words_of(rt) {
-        Ok(words) => run_command_line(rt, &mut host, words.as_slice()),
+        Ok(words) => run_command_line(rt, host, words.as_slice()),
         Err(refusal) => refuse(&mut host.errors, refusal),
     }
 }
@@ -114,5 +114,15 @@ where
 {
     let _taken = take_closed_streams(rt);
     let stopwatch = Stopwatch::new(rt);
-    run_measured(rt, &stopwatch, errors)
+    let mut errors = Plain::new(errors);
+    let Ok(out) = Buffered::new(rt.alloc(), Plain::new(io::writer(rt))) else {
+        return report_fault(&mut errors, fault_of_run(MEMORY));
+    };
+    let files = HostFiles {
+        rt,
+        stopwatch: &stopwatch,
+    };
+    let out = TimedWriter::new(out, &stopwatch);
+    let mut host = Host { files, out, errors };
+    run_words(rt, &mut host)
 }

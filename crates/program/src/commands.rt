@@ -1,23 +1,53 @@
 //! The commands, each as its arguments ask: it gives the exit status, and reports a fault in one
 //! line on the error output.
-ghost use Rattle.program.specs.Commands.{DoesBundle, DoesCheck, DoesServe, DoesSolve};
+ghost use Rattle.std.specs.Prelude.{Option};
+ghost use Rattle.std.specs.Option.{option_map};
+ghost use Rattle.batch_inputs.specs.InputFaults.{IsPairFile};
+ghost use Rattle.batch_inputs.specs.Inputs.{HasReadPair};
+ghost use Rattle.batch_inputs.specs.Orders.{HasReadOrdered, IsOrderedFile, IsRunFile};
+ghost use Rattle.batch_inputs.specs.Spelled.{IsPairOf};
+ghost use Rattle.program.specs.Commands.{Answers, DoesBundle, DoesCheck, DoesServe, DoesSolve, taken_solved};
+ghost use Rattle.program.specs.Runs.{given_of};
 ghost use Rattle.command_files.specs.Moments.{moment};
 ghost use Rattle.program.specs.Ordering.{DoesOrder};
 
-use crate::answering::{answer, answer_pair, serve_chosen};
+use crate::answering::{answer, serve_chosen};
 use crate::judging::{end_check, judge};
 use crate::method::Method;
 use crate::ordering::order_input;
-use batch_run::BundleInput;
+use batch_run::{BundleInput, PairInput};
 use command_args::{BundleArgs, CheckArgs, OrderArgs, ServeArgs, SolveArgs};
 use command_files::{
-    ERRORS_NAME, FileSystem, Host, OUTPUT_NAME, STDIN_NAME, choose, create_accounts,
-    open_to_bundle, open_to_check, open_to_order, open_to_serve, open_to_solve, refuse, show_times,
+    ERRORS_NAME, FileSystem, Host, OUTPUT_NAME, STDIN_NAME, choose, open_pair, open_to_bundle,
+    open_to_check, open_to_order, refuse,
 };
 use fault_reports::end_with;
 use std::sync::Wait;
 use std::thread::Threads;
-use text_lines::RoadWrite;
+use text_lines::{RoadRead, RoadWrite};
+
+/// Answers the questions of one opened input over the graph of another, as `solve` does.
+fn solve_opened<R: Threads + Wait + Sync, F: RoadRead, P: FileSystem, W: RoadWrite, E: RoadWrite>(
+    method: &Method<'_, R>,
+    graph: &mut F,
+    questions: &mut F,
+    order: &mut Option<F>,
+    host: &mut Host<P, W, E>,
+    args: &SolveArgs<'_>,
+) -> u8
+    ensures { (graph_after : F) × (questions_after : F) × (order_after : Option F) ×
+        (let is_read = IsPairOf (F.seen graph.old).left (F.seen questions.old).left in
+        Answers P.NewFile P.creates P.tells_same (taken_solved args.now) args.now.watching (given_of
+        method.now.chosen method.now.settings.now is_read (IsOrderedFile IsPairFile)
+        (HasReadOrdered is_read IsPairFile IsRunFile (HasReadPair (F.seen graph.old)
+        (F.seen graph_after) (F.seen questions.old) (F.seen questions_after)) (option_map F.seen
+        order.old) (option_map F.seen order_after))) (moment W.seen E.seen host.old) (moment W.seen
+        E.seen host.new) result) }
+{
+    let mut pair = PairInput { graph, questions };
+    let taken = [args.graph, args.questions, OUTPUT_NAME, ERRORS_NAME];
+    answer(method, &mut pair, order, host, &args.watching, &taken)
+}
 
 /// Answers the questions of one input over the graph of another. The inputs are opened in the order
 /// of their names, and the file of accounts, which may be none of them, is created, before one is
@@ -35,13 +65,13 @@ pub fn solve<'t, R: AllocGlobal + Threads + Wait + Sync, P: FileSystem, W: RoadW
         Err(refusal) => return refuse(&mut host.errors, refusal),
     };
     host.files.measure(args.watching.times);
-    let (mut graph, mut questions, mut order) = match open_to_solve(&mut host.files, args) {
+    let (mut graph, mut questions, mut order) = match open_pair(
+        &mut host.files,
+        args.graph,
+        args.questions,
+        &args.options,
+    ) {
         Ok(opened) => opened,
-        Err(refusal) => return refuse(&mut host.errors, refusal),
-    };
-    let taken = [args.graph, args.questions, OUTPUT_NAME, ERRORS_NAME];
-    let mut watching = match create_accounts(&mut host.files, &args.watching, &taken) {
-        Ok(watching) => watching,
         Err(refusal) => return refuse(&mut host.errors, refusal),
     };
     let method = Method {
@@ -50,16 +80,7 @@ pub fn solve<'t, R: AllocGlobal + Threads + Wait + Sync, P: FileSystem, W: RoadW
         settings: &args.options.settings,
         chosen,
     };
-    let status = answer_pair(
-        &method,
-        &mut graph,
-        &mut questions,
-        &mut order,
-        host,
-        &mut watching,
-    );
-    show_times(host, args.watching.times, status);
-    status
+    solve_opened(&method, &mut graph, &mut questions, &mut order, host, args)
 }
 
 /// Answers the bundle on standard input. An order, if one is named, is opened, and the file of
@@ -83,21 +104,22 @@ pub fn bundle<
         Ok(opened) => opened,
         Err(refusal) => return refuse(&mut host.errors, refusal),
     };
-    let taken = [STDIN_NAME, OUTPUT_NAME, ERRORS_NAME];
-    let mut watching = match create_accounts(&mut host.files, &args.watching, &taken) {
-        Ok(watching) => watching,
-        Err(refusal) => return refuse(&mut host.errors, refusal),
-    };
     let method = Method {
         rt,
         alloc: rt.alloc(),
         settings: &args.options.settings,
         chosen,
     };
-    let mut input = BundleInput { bundle: &mut text };
-    let status = answer(&method, &mut input, &mut order, host, &mut watching);
-    show_times(host, args.watching.times, status);
-    status
+    let mut bundle = BundleInput { bundle: &mut text };
+    let taken = [STDIN_NAME, OUTPUT_NAME, ERRORS_NAME];
+    answer(
+        &method,
+        &mut bundle,
+        &mut order,
+        host,
+        &args.watching,
+        &taken,
+    )
 }
 
 /// Replies to the requests of standard input over the graph of a file, which is opened first, and
@@ -114,7 +136,12 @@ pub fn serve<'t, R: AllocGlobal + Threads + Wait + Sync, P: FileSystem, W: RoadW
         Ok(chosen) => chosen,
         Err(refusal) => return refuse(&mut host.errors, refusal),
     };
-    let (mut graph, mut requests, mut order) = match open_to_serve(&mut host.files, args) {
+    let (mut graph, mut requests, mut order) = match open_pair(
+        &mut host.files,
+        args.graph,
+        STDIN_NAME,
+        &args.options,
+    ) {
         Ok(opened) => opened,
         Err(refusal) => return refuse(&mut host.errors, refusal),
     };

@@ -6,6 +6,6 @@ use Rattle.command_args.proofs.clap_command.serve.Goals as goal
 
 pub returns : goal.returns
 returns c =
-    let named = ap app_of_fields c.after_long_help.ensures ∙ ap app_of_fields c.after_help.ensures ∙ ap app_of_fields c.long_about.ensures ∙ ap app_of_fields c.about.ensures ∙ c.new.ensures.app in
+    let named = ap app_of_fields c.after_long_help.ensures ∙ ap app_of_fields c.after_help.ensures ∙ ap app_of_fields c.long_about.ensures ∙ ap app_of_fields c.about.ensures ∙ ap app_of_fields c.before_long_help.ensures ∙ c.new.ensures.app in
     let with_1 = c.in_ok-command.ensures.shape c.file.ensures.global ∙ ap₂ with_rule named c.file.ensures.rule in
     IfOk-weaker c.with_settings.result _ _ (λ r h. h ∙ ap (λ a. with_rules a (settings c.args.algebras c.args.dealings)) with_1) c.with_settings.ensures

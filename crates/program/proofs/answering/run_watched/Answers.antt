@@ -1,0 +1,66 @@
+use Rattle.std.proofs.Common.{◌≡◌, ◌≤◌, false, true, rules, subst, sym}
+use Rattle.std.proofs.Math.Path.{subst⁻¹}
+use Rattle.path_algebra.specs.Choices.{name_of}
+use Rattle.program.specs.Accounts.{accounts_text}
+use Rattle.fault_reports.specs.Reports.{EndsAs}
+use Rattle.program.specs.Runs.{gate_is_open}
+use Rattle.program.specs.Watching.{EndsAccounts, HasAccounts, Notes}
+use Rattle.program.proofs.Adding.{account}
+use Rattle.program.proofs.Ended.{shown_as}
+use Rattle.program.proofs.GivesUp.{finishes}
+use Rattle.program.proofs.Noted.{noted_all, under_told}
+use Rattle.program.proofs.Ungated.{never_gated_under}
+use Rattle.program.proofs.Unstalled.{never_stalled_under}
+use Rattle.program.proofs.answering.run_watched.Goals as goal
+
+pub shape_of-host : goal.shape_of-host
+shape_of-host g c =
+    let told = under_told c.args.method.now.chosen c.args.method.now.settings.now (g.I.BatchInput.is_read c.args.input.now)
+    (Notes g.P.NewFile.RoadWrite.seen g.E.RoadWrite.seen) _ _ _ _ c.run_chosen-batch.result
+    c.run_chosen-batch.ensures.watched in
+    let noted = noted_all g.P.NewFile.RoadWrite.seen g.E.RoadWrite.seen told.0.0 _ _ told.0.1 in
+    sym noted.same.1
+
+pub returns-clause-ends : goal.returns-clause-ends
+returns-clause-ends g c =
+    let chosen = c.args.method.now.chosen in
+    let how = c.args.method.now.settings.now in
+    let is_read = g.I.BatchInput.is_read c.args.input.now in
+    let ran = c.run_chosen-batch.ensures in
+    let outcome = c.run_chosen-batch.result in
+    let seen = g.P.NewFile.RoadWrite.seen in
+    let shown = g.E.RoadWrite.seen in
+    let errors = c.run_chosen-batch.new.watcher.errors.now in
+    let told = under_told chosen how is_read (Notes seen shown) _ _ _ _ outcome ran.watched in
+    let noted = noted_all seen shown told.0.0 _ _ told.0.1 in
+    let accounts_are : c.run_chosen-batch.new.watcher.accounts.now ≡ c.accounts-1.given.0 = search rules in
+    let ungated = never_gated_under chosen how is_read g.I.BatchInput.is_own _ _ outcome ran.run in
+    let unstalled = λ (one : how.shards ≡ 1) (best : how.best_first ≡ true) (turns : 17179869376 ≤ how.turns).
+    never_stalled_under how gate_is_open is_read g.I.BatchInput.is_own _ _ outcome
+    (λ roads graph few enough. c.usual_turns_are_enough.ensures how roads graph few enough) one best turns _ ran.suited chosen ran.run in
+    let accounted = account seen c.args.accounts.now c.run_chosen-batch.new.watcher.accounts.now
+    c.end_accounts-kept.new.accounts c.run_chosen-batch.new.watcher.lost (accounts_text (name_of chosen) told.0.0) c.end_accounts-kept.result
+    (subst (λ name. HasAccounts seen c.args.accounts.now c.run_chosen-batch.new.watcher.accounts.now false
+    c.run_chosen-batch.new.watcher.lost (accounts_text name told.0.0)) c.name.ensures noted.accounts)
+    (subst⁻¹ (λ accounts. EndsAccounts seen accounts c.end_accounts-kept.new.accounts c.run_chosen-batch.new.watcher.lost c.end_accounts-kept.result) accounts_are
+    c.end_accounts-kept.ensures) in
+    let ends = subst (λ outcome. EndsAs (λ _. 0) (shown errors) (shown c.end_with.new.errors) outcome c.end_with.result) c.outcome_of.ensures c.end_with.ensures in
+    record {
+      outcome = outcome;
+      ran = record {
+        run = ran.run;
+        suited = ran.suited;
+        stopped = ran.stopped;
+        read = ran.read;
+        ungated = ungated;
+        unstalled = unstalled;
+      };
+      reports = told.0.0;
+      reported = told.1;
+      kept = c.end_accounts-kept.result;
+      accounted = accounted;
+      watched = shown errors;
+      shown = shown_as shown _ _ _ _ noted.errors;
+      ends = ends;
+      finishes = λ one best turns. finishes (accounts_text (name_of chosen) told.0.0) _ _ _ _ _ outcome c.end_accounts-kept.result (unstalled one best turns) ungated accounted ends;
+    }

@@ -1,8 +1,10 @@
+mod Costs
 mod Filling
 mod Judged
 mod NearLines
 mod NearListed
 mod Spelled
 mod Tabling
-mod Telling
 mod RouteArcs
+mod SameFactors
+mod Telling

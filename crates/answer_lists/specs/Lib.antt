@@ -5,5 +5,6 @@ pub mod KeptTree
 pub mod Near
 pub mod Reweighing
 pub mod Route
+pub mod Sharing
 pub mod Table
 pub mod Tree

@@ -74,16 +74,16 @@ pub fn check_tree(
 ) -> i32
     ensures graph { shared.new ≡ shared.old }
     ensures right { result ≡ pos 0 → OfAlgebra by.algebra by.limit (λ V A. AreTreeLists A
-        shared.old sources.now tree.now.codes.now tree.now.hops.now tree.now.parents.now) }
+        shared.old.roads sources.now tree.now.codes.now tree.now.hops.now tree.now.parents.now) }
     ensures wrong { result ≡ pos 6 → OfAlgebra by.algebra by.limit (λ V A. IsFirstRefuted A
-        shared.old sources.now tree.now.codes.now tree.now.hops.now tree.now.parents.now first.new.vertex.now
-        first.new.reason.now) }
+        shared.old.roads sources.now tree.now.codes.now tree.now.hops.now tree.now.parents.now
+        first.new.vertex.now first.new.reason.now) }
     ensures same { IsSameReport first.old first.new }
     ensures kept { (result ≡ pos 6 → ⊥) → (first.new.vertex.now ≡ first.old.vertex.now) ×
         (first.new.reason.now ≡ first.old.reason.now) }
-    ensures refusals { ReportsListRefusals (All (HasVertex shared.old) sources.now)
-        (HavePlaces shared.old.vertices tree.now.codes.now tree.now.hops.now tree.now.parents.now)
-        by.algebra by.limit result }
+    ensures refusals { ReportsListRefusals (All (HasVertex shared.old.roads) sources.now)
+        (HavePlaces shared.old.roads.vertices tree.now.codes.now tree.now.hops.now
+        tree.now.parents.now) by.algebra by.limit result }
     ensures status { IsOneOf (0 ∷ 2 ∷ 3 ∷ 6 ∷ 17 ∷ 43 ∷ []) result }
 {
     if !are_vertices(shared.graph(), sources) {

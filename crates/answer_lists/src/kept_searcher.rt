@@ -3,7 +3,6 @@
 ghost use Rattle.std.specs.Prelude.{◌≡◌, IfOk, IsTrue};
 ghost use Rattle.path_algebra.specs.Choices.{Under};
 ghost use Rattle.path_plain.specs.Halting.{CanHalt};
-ghost use Rattle.path_plain.specs.Searcher.{IsOfSameGraph};
 ghost use Rattle.route_tree.specs.Found.{IsFoundIfNear};
 ghost use Rattle.route_tree.specs.declared.found.Nearby.TheVariants.{Undecided};
 ghost use Rattle.answer_lists.specs.Answers.{HasBoth};
@@ -45,24 +44,14 @@ impl KeptSearcher {
     ) -> Result<KeptSearcher, Memory>
         ensures { IfOk result (IsKeptFor chosen graph.now) }
     {
-        match chosen {
-            AlgebraChoice::Shortest => Ok(KeptSearcher::Shortest(PairSearcher::new(
-                alloc, Shortest, graph,
-            )?)),
-            AlgebraChoice::Widest => Ok(KeptSearcher::Widest(PairSearcher::new(
-                alloc, Widest, graph,
-            )?)),
-            AlgebraChoice::Reach => Ok(KeptSearcher::Reach(PairSearcher::new(
-                alloc, Reach, graph,
-            )?)),
-            AlgebraChoice::Hops => Ok(KeptSearcher::Hops(PairSearcher::new(alloc, Hops, graph)?)),
-            AlgebraChoice::Reliable => Ok(KeptSearcher::Reliable(PairSearcher::new(
-                alloc, Reliable, graph,
-            )?)),
-            AlgebraChoice::Within(within) => Ok(KeptSearcher::Within(PairSearcher::new(
-                alloc, within, graph,
-            )?)),
-        }
+        Ok(match chosen {
+            AlgebraChoice::Shortest => Self::Shortest(PairSearcher::new(alloc, Shortest, graph)?),
+            AlgebraChoice::Widest => Self::Widest(PairSearcher::new(alloc, Widest, graph)?),
+            AlgebraChoice::Reach => Self::Reach(PairSearcher::new(alloc, Reach, graph)?),
+            AlgebraChoice::Hops => Self::Hops(PairSearcher::new(alloc, Hops, graph)?),
+            AlgebraChoice::Reliable => Self::Reliable(PairSearcher::new(alloc, Reliable, graph)?),
+            AlgebraChoice::Within(within) => Self::Within(PairSearcher::new(alloc, within, graph)?),
+        })
     }
 
     /// Whether it can search by this algebra from now on. If it has searched within another limit,

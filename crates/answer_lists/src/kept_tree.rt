@@ -66,23 +66,16 @@ impl KeptTree {
     ) -> Result<KeptTree, Memory>
         ensures { IfOk result (IsTreeKeptFor chosen graph.now) }
     {
-        match chosen {
-            AlgebraChoice::Shortest => Ok(KeptTree::Shortest(TreeSearcher::new(
-                alloc, Shortest, graph,
-            )?)),
-            AlgebraChoice::Widest => {
-                Ok(KeptTree::Widest(TreeSearcher::new(alloc, Widest, graph)?))
+        Ok(match chosen {
+            AlgebraChoice::Shortest => Self::Shortest(TreeSearcher::new(alloc, Shortest, graph)?),
+            AlgebraChoice::Widest => Self::Widest(TreeSearcher::new(alloc, Widest, graph)?),
+            AlgebraChoice::Reach => Self::Reach(TreeSearcher::new(alloc, Reach, graph)?),
+            AlgebraChoice::Hops => Self::Hops(TreeSearcher::new(alloc, Hops, graph)?),
+            AlgebraChoice::Reliable => Self::Reliable(TreeSearcher::new(alloc, Reliable, graph)?),
+            AlgebraChoice::Within(within) => {
+                Self::Within(TreeSearcher::new(alloc, within, graph)?, within)
             }
-            AlgebraChoice::Reach => Ok(KeptTree::Reach(TreeSearcher::new(alloc, Reach, graph)?)),
-            AlgebraChoice::Hops => Ok(KeptTree::Hops(TreeSearcher::new(alloc, Hops, graph)?)),
-            AlgebraChoice::Reliable => Ok(KeptTree::Reliable(TreeSearcher::new(
-                alloc, Reliable, graph,
-            )?)),
-            AlgebraChoice::Within(within) => Ok(KeptTree::Within(
-                TreeSearcher::new(alloc, within, graph)?,
-                within,
-            )),
-        }
+        })
     }
 
     /// Whether it can search by this algebra from now on.

@@ -28,15 +28,16 @@ pub(crate) fn search(
     sources: &[Vertex],
     halt: &mut Halt<'_>,
 ) -> Result<(KeptTree, bool), Memory>
-    requires { All (HasVertex shared.old) sources.now }
+    requires { All (HasVertex shared.old.roads) sources.now }
     ensures graph { shared.new ≡ shared.old }
-    ensures roads { IfOk result (λ k. graph_in k.0 ≡ shared.old) }
-    ensures vertices { IfOk result (λ k. IsTrue k.1 → All (HasVertex shared.old) (vertices_in k.0)) }
-    ensures near { Under chosen (λ V A. IfOk result (λ k. IsTrue k.1 → AreNearLines A shared.old
-        sources.now (vertices_in k.0) (map (code_in k.0) (vertices_in k.0))
+    ensures roads { IfOk result (λ k. graph_in k.0 ≡ shared.old.roads) }
+    ensures vertices { IfOk result (λ k. IsTrue k.1 →
+        All (HasVertex shared.old.roads) (vertices_in k.0)) }
+    ensures near { Under chosen (λ V A. IfOk result (λ k. IsTrue k.1 → AreNearLines A
+        shared.old.roads sources.now (vertices_in k.0) (map (code_in k.0) (vertices_in k.0))
         (map (hops_at (tree_in k.0)) (vertices_in k.0))
         (map (parent_at (tree_in k.0)) (vertices_in k.0)))) }
-    ensures all { Under chosen (λ V A. IfOk result (λ k. IsTrue k.1 → HaveLines A shared.old
+    ensures all { Under chosen (λ V A. IfOk result (λ k. IsTrue k.1 → HaveLines A shared.old.roads
         sources.now (code_in k.0) (tree_in k.0))) }
     ensures halts { IfOk result (λ k. k.1 ≡ false → CanHalt halt.old) }
 {
@@ -52,11 +53,11 @@ fn answer(
     sources: &[u32],
     lists: &mut NearLists<'_>,
 ) -> i32
-    requires { All (HasVertex shared.old) sources.now }
+    requires { All (HasVertex shared.old.roads) sources.now }
     ensures graph { shared.new ≡ shared.old }
-    ensures count { IsFound result → Under chosen (λ V A. IsReachedCount A shared.old sources.now
-        lists.new.count.now) }
-    ensures lists { result ≡ pos 0 → Under chosen (λ V A. HaveNear A shared.old sources.now
+    ensures count { IsFound result → Under chosen (λ V A. IsReachedCount A shared.old.roads
+        sources.now lists.new.count.now) }
+    ensures lists { result ≡ pos 0 → Under chosen (λ V A. HaveNear A shared.old.roads sources.now
         lists.new) }
     ensures written { IsWrittenNear lists.old lists.new result }
     ensures stopped { result ≡ pos 45 → IsSome stop.now }
@@ -93,11 +94,11 @@ pub fn answer_near(
 ) -> i32
     ensures graph { shared.new ≡ shared.old }
     ensures count { IsFound result → OfAlgebra by.algebra by.limit (λ V A. IsReachedCount A
-        shared.old sources.now lists.new.count.now) }
+        shared.old.roads sources.now lists.new.count.now) }
     ensures lists { result ≡ pos 0 → OfAlgebra by.algebra by.limit (λ V A. HaveNear A
-        shared.old sources.now lists.new) }
+        shared.old.roads sources.now lists.new) }
     ensures written { IsWrittenNear lists.old lists.new result }
-    ensures refusals { ReportsRefusals (All (HasVertex shared.old) sources.now) by.algebra
+    ensures refusals { ReportsRefusals (All (HasVertex shared.old.roads) sources.now) by.algebra
         by.limit result }
     ensures stopped { result ≡ pos 45 → IsSome stop.now }
     ensures status { IsOneOf (0 ∷ 2 ∷ 3 ∷ 17 ∷ 43 ∷ 45 ∷ []) result }

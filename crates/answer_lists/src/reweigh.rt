@@ -1,7 +1,8 @@
 //! A graph that is factored over the links of another one.
 
-ghost use Rattle.std.specs.Prelude.{◌≡◌, IfOk, IfErr};
+ghost use Rattle.std.specs.Prelude.{◌≡◌, IfOk, IfErr, OnOk};
 ghost use Rattle.answer_lists.specs.Reweighing.{IsRefusal};
+ghost use Rattle.answer_lists.specs.Sharing.{factored_as, reweighed};
 
 use crate::shared_graph::SharedGraph;
 use crate::status::{HEAVY, MEMORY, NO_LINK};
@@ -12,8 +13,8 @@ use road_graph::OutGraph;
 /// Factors a second graph for arcs that cost this, over the links of the first, if that is factored
 /// for them.
 fn reweigh_for(cost: Cost, first: &SharedGraph, second: &mut SharedGraph) -> Result<(), i32>
-    ensures kept { second.new ≡ second.old }
-    ensures refusal { IfErr result (IsRefusal second.old first.now) }
+    ensures done { OnOk result (second.new ≡ factored_as first.now second.old cost) }
+    ensures refusal { IfErr result (IsRefusal second.old.roads first.now) }
 {
     let Some(factored) = first.factored(cost) else {
         return Ok(());
@@ -37,8 +38,9 @@ fn reweigh_for(cost: Cost, first: &SharedGraph, second: &mut SharedGraph) -> Res
 ///
 /// What is asked of it has the same answers, whether there are factors or not. Else the status says
 /// why: it is `MEMORY`, `HEAVY`, or `NO_LINK` for an arc between vertices with no link.
+#[tactic(auto, using(crate::proofs::SameFactors::as_first))]
 pub fn reweigh_graph(first: &SharedGraph, graph: OutGraph) -> Result<SharedGraph, i32>
-    ensures graph { IfOk result (λ s. s ≡ graph) }
+    ensures graph { IfOk result (λ s. s ≡ reweighed first.now graph) }
     ensures refusal { IfErr result (IsRefusal graph first.now) }
 {
     let Ok(mut second) = SharedGraph::of(first.alloc(), graph) else {

@@ -25,10 +25,10 @@ fn ask<A: PathAlgebra>(
     by_head: &InGraph,
     ends: (Vertex, Vertex),
 ) -> Result<Nearby, Memory>
-    requires by_head { by_head.now ≡ shared.old }
-    requires ends { HasBoth shared.old ends.0 ends.1 }
+    requires by_head { by_head.now ≡ shared.old.roads }
+    requires ends { HasBoth shared.old.roads ends.0 ends.1 }
     ensures graph { shared.new ≡ shared.old }
-    ensures found { IfOk result (IsFoundIfNear (A.meaning algebra) shared.old ends.0 ends.1) }
+    ensures found { IfOk result (IsFoundIfNear (A.meaning algebra) shared.old.roads ends.0 ends.1) }
 {
     let Some(mut factored) = shared.take_factored(algebra) else {
         return Ok(Nearby::Undecided);
@@ -36,21 +36,6 @@ fn ask<A: PathAlgebra>(
     let found = factored.route(algebra, by_head, ends);
     shared.put_factored(factored);
     Ok(Nearby::Decided(found?))
-}
-
-/// The same, by the chosen algebra.
-fn ask_chosen(
-    chosen: AlgebraChoice,
-    shared: &mut SharedGraph,
-    by_head: &InGraph,
-    ends: (Vertex, Vertex),
-) -> Result<Nearby, Memory>
-    requires by_head { by_head.now ≡ shared.old }
-    requires ends { HasBoth shared.old ends.0 ends.1 }
-    ensures graph { shared.new ≡ shared.old }
-    ensures found { Under chosen (λ V A. IfOk result (IsFoundIfNear A shared.old ends.0 ends.1)) }
-{
-    with_algebra!(chosen, |algebra| ask(algebra, shared, by_head, ends))
 }
 
 /// The best code and the route on a factored graph, none if no walk to the target has a value: by a
@@ -61,17 +46,18 @@ fn find_soon(
     by_head: &InGraph,
     ends: (Vertex, Vertex),
 ) -> Result<Nearby, Memory>
-    requires by_head { by_head.now ≡ shared.old }
-    requires ends { HasBoth shared.old ends.0 ends.1 }
+    requires by_head { by_head.now ≡ shared.old.roads }
+    requires ends { HasBoth shared.old.roads ends.0 ends.1 }
     ensures graph { shared.new ≡ shared.old }
-    ensures found { Under chosen (λ V A. IfOk result (IsFoundIfNear A shared.old ends.0 ends.1)) }
+    ensures found { Under chosen (λ V A. IfOk result (IsFoundIfNear A shared.old.roads
+        ends.0 ends.1)) }
 {
     let (source, target) = ends;
     let mut halt = near_halt(shared.graph().vertices());
     match shared.search(chosen, by_head, (source, target), &mut halt) {
         Ok(Nearby::Decided(found)) => Ok(Nearby::Decided(found)),
         Ok(Nearby::Undecided) | Err(Memory) => {
-            ask_chosen(chosen, shared, by_head, (source, target))
+            with_algebra!(chosen, |algebra| ask(algebra, shared, by_head, ends))
         }
     }
 }
@@ -84,9 +70,10 @@ fn find_near(
     stop: &Option<Stop>,
     ends: (Vertex, Vertex),
 ) -> Result<Nearby, Memory>
-    requires { HasBoth shared.old ends.0 ends.1 }
+    requires { HasBoth shared.old.roads ends.0 ends.1 }
     ensures graph { shared.new ≡ shared.old }
-    ensures found { Under chosen (λ V A. IfOk result (IsFoundIfNear A shared.old ends.0 ends.1)) }
+    ensures found { Under chosen (λ V A. IfOk result (IsFoundIfNear A shared.old.roads
+        ends.0 ends.1)) }
     ensures stopped { IfOk result (λ near. near ≡ Undecided → IsSome stop.now) }
 {
     let (source, target) = ends;
@@ -107,13 +94,13 @@ pub(crate) fn find(
     stop: &Option<Stop>,
     ends: (Vertex, Vertex),
 ) -> Result<Found, i32>
-    requires { HasBoth shared.old ends.0 ends.1 }
+    requires { HasBoth shared.old.roads ends.0 ends.1 }
     ensures graph { shared.new ≡ shared.old }
-    ensures found { Under chosen (λ V A. IfOk result (λ found. IsFoundBetween A shared.old ends.0
-        ends.1 (found_of found))) }
+    ensures found { Under chosen (λ V A. IfOk result (λ found. IsFoundBetween A
+        shared.old.roads ends.0 ends.1 (found_of found))) }
     ensures count { IfOk result (λ found. length found.route.items ≡ found.hops + 1) }
     ensures none { Under chosen (λ V A. IfErr result (λ status. status ≡ pos 1 → IsUnreached A
-        shared.old (ends.0 ∷ []) ends.1)) }
+        shared.old.roads (ends.0 ∷ []) ends.1)) }
     ensures stopped { IfErr result (λ status. status ≡ pos 45 → IsSome stop.now) }
     ensures status { IfErr result (IsOneOf (1 ∷ 3 ∷ 45 ∷ [])) }
 {
@@ -175,9 +162,9 @@ fn answer(
     ends: (Vertex, Vertex),
     room: &mut RouteRoom<'_>,
 ) -> i32
-    requires { HasBoth shared.old ends.0 ends.1 }
+    requires { HasBoth shared.old.roads ends.0 ends.1 }
     ensures graph { shared.new ≡ shared.old }
-    ensures tells { Under chosen (λ V A. ReportsRoute A shared.old ends.0 ends.1 result
+    ensures tells { Under chosen (λ V A. ReportsRoute A shared.old.roads ends.0 ends.1 result
         room.new.code.now room.new.hops.now room.new.vertices.now) }
     ensures written { IsWrittenRoute room.old room.new result }
     ensures stopped { result ≡ pos 45 → IsSome stop.now }
@@ -205,9 +192,10 @@ pub fn answer_route(
 ) -> i32
     ensures graph { shared.new ≡ shared.old }
     ensures tells { IsAnswered result → OfAlgebra by.algebra by.limit (λ V A. ReportsRoute A
-        shared.old ends.0 ends.1 result room.new.code.now room.new.hops.now room.new.vertices.now) }
+        shared.old.roads ends.0 ends.1 result room.new.code.now room.new.hops.now
+        room.new.vertices.now) }
     ensures written { IsWrittenRoute room.old room.new result }
-    ensures refusals { ReportsRefusals (HasBoth shared.old ends.0 ends.1) by.algebra
+    ensures refusals { ReportsRefusals (HasBoth shared.old.roads ends.0 ends.1) by.algebra
         by.limit result }
     ensures stopped { result ≡ pos 45 → IsSome stop.now }
     ensures status { IsOneOf (0 ∷ 1 ∷ 2 ∷ 3 ∷ 17 ∷ 43 ∷ 45 ∷ []) result }

@@ -86,10 +86,10 @@ fn answer_arcs(
     ends: (Vertex, Vertex),
     room: &mut RouteArcsRoom<'_>,
 ) -> i32
-    requires both { HasBoth shared.old ends.0 ends.1 }
-    requires numbers { room.old.numbers.now.roads ≡ shared.old }
+    requires both { HasBoth shared.old.roads ends.0 ends.1 }
+    requires numbers { room.old.numbers.now.roads ≡ shared.old.roads }
     ensures graph { shared.new ≡ shared.old }
-    ensures tells { Under chosen (λ V A. ReportsRoute A shared.old ends.0 ends.1 result
+    ensures tells { Under chosen (λ V A. ReportsRoute A shared.old.roads ends.0 ends.1 result
         room.new.code.now room.new.hops.now room.new.vertices.now) }
     ensures arcs { result ≡ pos 0 → Under chosen (λ V A. HasRouteArcs A room.old.numbers.now.numbered
         room.new) }
@@ -129,14 +129,15 @@ pub fn answer_route_arcs(
     ends: (Vertex, Vertex),
     room: &mut RouteArcsRoom<'_>,
 ) -> i32
-    requires { room.old.numbers.now.roads ≡ shared.old }
+    requires { room.old.numbers.now.roads ≡ shared.old.roads }
     ensures graph { shared.new ≡ shared.old }
     ensures tells { IsAnswered result → OfAlgebra by.algebra by.limit (λ V A. ReportsRoute A
-        shared.old ends.0 ends.1 result room.new.code.now room.new.hops.now room.new.vertices.now) }
+        shared.old.roads ends.0 ends.1 result room.new.code.now room.new.hops.now
+        room.new.vertices.now) }
     ensures arcs { result ≡ pos 0 → OfAlgebra by.algebra by.limit (λ V A. HasRouteArcs A
         room.old.numbers.now.numbered room.new) }
     ensures written { IsWrittenArcs room.old room.new result }
-    ensures refusals { ReportsRefusals (HasBoth shared.old ends.0 ends.1) by.algebra
+    ensures refusals { ReportsRefusals (HasBoth shared.old.roads ends.0 ends.1) by.algebra
         by.limit result }
     ensures stopped { result ≡ pos 45 → IsSome stop.now }
     ensures status { IsOneOf (0 ∷ 1 ∷ 2 ∷ 3 ∷ 17 ∷ 43 ∷ 45 ∷ []) result }

@@ -1,11 +1,13 @@
 //! A graph that handles share, with what was made of it for its answers.
 
-ghost use Rattle.std.specs.Prelude.{◌≡◌, ℕ, IfOk, IfErr, IfSome};
+ghost use Rattle.std.specs.Prelude.{◌≡◌, ℕ, length, IfOk, IfErr, IfNone, IfSome, OnErr, OnOk, is_some};
 ghost use Rattle.std.specs.Arc.{arc_value};
 ghost use Rattle.path_algebra.specs.Carried.{IsCarried};
 ghost use Rattle.path_algebra.specs.Counted.{cost_of, CountsFit};
+ghost use Rattle.elimination_order.specs.Bounds.{IsTooDense};
 ghost use Rattle.elimination_order.specs.declared.counts.Counts.{Counts};
 ghost use Rattle.factor_routes.specs.declared.road_factors.Unfactored.TheVariants.{Dense, Heavy};
+ghost use Rattle.answer_lists.specs.Sharing.{factored_for, is_factored, unfactored};
 
 mod searching;
 
@@ -34,17 +36,21 @@ pub struct SharedGraph {
 }
 
 impl Model for SharedGraph {
-    ghost use Rattle.std.specs.Prelude.{◌≡◌, IfSome};
+    ghost use Rattle.std.specs.Prelude.{◌≡◌, IfSome, is_some};
     ghost use Rattle.std.specs.Arc.{arc_value};
-    ghost use Rattle.road_graph.specs.GraphData.{GraphData};
     ghost use Rattle.path_algebra.specs.declared.counted_sums.Cost.TheVariants.{Weight, One};
     ghost use Rattle.answer_lists.specs.Factoring.{IsFactorOf};
     ghost use Rattle.answer_lists.specs.Kept.{graph_of};
     ghost use Rattle.answer_lists.specs.KeptTree.{graph_in};
+    ghost use Rattle.answer_lists.specs.Sharing.{Shared};
 
-    ghost Value = { GraphData };
+    ghost Value = { Shared };
 
-    ghost view = { λ s. arc_value s.graph };
+    ghost view = { λ s. record {
+      roads = arc_value s.graph;
+      by_weights = is_some s.by_weights;
+      by_arcs = is_some s.by_arcs;
+    } };
 
     ghost invariant = { λ s. IfSome s.by_head (λ r. arc_value r ≡ arc_value s.graph)
         × IfSome s.by_weights (IsFactorOf (arc_value s.graph) Weight)
@@ -66,7 +72,7 @@ fn again(factored: &Option<FactoredGraph>) -> Result<Option<FactoredGraph>, Allo
 impl SharedGraph {
     /// The first owner of a graph.
     pub fn of(alloc: Global, graph: OutGraph) -> Result<SharedGraph, AllocError>
-        ensures { IfOk result (λ s. s ≡ graph) }
+        ensures { IfOk result (λ s. s ≡ unfactored graph) }
     {
         let graph = Arc::new(alloc, graph).map_err(AllocError::from)?;
         Ok(SharedGraph {
@@ -109,7 +115,7 @@ impl SharedGraph {
 
     /// The graph.
     pub fn graph(&self) -> &OutGraph
-        ensures { result.now ≡ self.now }
+        ensures { result.now ≡ self.now.roads }
     {
         &self.graph
     }
@@ -117,7 +123,7 @@ impl SharedGraph {
     /// The graph by heads, which is made at the first call and kept.
     pub fn by_head(&mut self) -> Result<Arc<InGraph>, Memory>
         ensures kept { self.new ≡ self.old }
-        ensures by_head { IfOk result (λ r. arc_value r ≡ self.old) }
+        ensures by_head { IfOk result (λ r. arc_value r ≡ self.old.roads) }
     {
         if let Some(by_head) = &self.by_head {
             return Ok(Arc::try_clone(by_head)?);
@@ -131,7 +137,8 @@ impl SharedGraph {
 
     /// The factors for arcs that cost this, if there are any.
     pub(crate) fn factored(&self, cost: Cost) -> Option<&FactoredGraph>
-        ensures roads { IfSome result (λ f. f.now.roads ≡ self.now) }
+        ensures some { is_some result ≡ is_factored self.now cost }
+        ensures roads { IfSome result (λ f. f.now.roads ≡ self.now.roads) }
         ensures cost { IfSome result (λ f. f.now.algebra.cost ≡ cost) }
     {
         match cost {
@@ -150,8 +157,10 @@ impl SharedGraph {
 
     /// Takes the factors out for arcs that cost this, if there are any.
     fn take(&mut self, cost: Cost) -> Option<FactoredGraph>
-        ensures kept { self.new ≡ self.old }
-        ensures roads { IfSome result (λ f. f.roads ≡ self.old) }
+        ensures graph { self.new.roads ≡ self.old.roads }
+        ensures none { IfNone result (self.new ≡ self.old) }
+        ensures back { IfSome result (λ f. factored_for self.new cost ≡ self.old) }
+        ensures roads { IfSome result (λ f. f.roads ≡ self.old.roads) }
         ensures cost { IfSome result (λ f. f.algebra.cost ≡ cost) }
     {
         match cost {
@@ -162,8 +171,10 @@ impl SharedGraph {
 
     /// Takes the factors out for an algebra, if there are any.
     pub(crate) fn take_factored<A: PathAlgebra>(&mut self, algebra: A) -> Option<FactoredGraph>
-        ensures kept { self.new ≡ self.old }
-        ensures roads { IfSome result (λ f. f.roads ≡ self.old) }
+        ensures graph { self.new.roads ≡ self.old.roads }
+        ensures none { IfNone result (self.new ≡ self.old) }
+        ensures back { IfSome result (λ f. factored_for self.new f.algebra.cost ≡ self.old) }
+        ensures roads { IfSome result (λ f. f.roads ≡ self.old.roads) }
         ensures carried { IfSome result (λ f. IsCarried (A.meaning algebra) (cost_of f.algebra.cost)) }
     {
         match algebra.cost() {
@@ -174,8 +185,8 @@ impl SharedGraph {
 
     /// Puts factors in.
     pub(crate) fn put_factored(&mut self, factored: FactoredGraph)
-        requires { factored.roads ≡ self.old }
-        ensures { self.new ≡ self.old }
+        requires { factored.roads ≡ self.old.roads }
+        ensures { self.new ≡ factored_for self.old factored.algebra.cost }
     {
         match factored.cost() {
             Cost::Weight => self.by_weights = Some(factored),
@@ -186,13 +197,18 @@ impl SharedGraph {
     /// Factors the graph for arcs that cost this, unless that is done.
     ///
     /// # Errors
-    /// `Heavy` only if no number of low bits leaves room for both the hops and the sums.
+    /// `Heavy` only if no number of low bits leaves room for both the hops and the sums; `Dense`
+    /// only if some do, with counts of which one is above its bound.
+    #[tactic(auto, using(crate::proofs::SameFactors::factored_again))]
     pub(crate) fn factor(&mut self, cost: Cost) -> Result<(), Unfactored>
-        ensures kept { self.new ≡ self.old }
-        ensures heavy { IfErr result (λ e. e ≡ Heavy → (k : ℕ) → CountsFit self.old (cost_of cost) k →
-            ⊥) }
+        ensures done { OnOk result (self.new ≡ factored_for self.old cost) }
+        ensures kept { OnErr result (self.new ≡ self.old) }
+        ensures heavy { IfErr result (λ e. e ≡ Heavy → (k : ℕ) →
+            CountsFit self.old.roads (cost_of cost) k → ⊥) }
         ensures dense { IfErr result (λ e. (c : Counts) → e ≡ Dense c →
-            (k : ℕ) × CountsFit self.old (cost_of cost) k) }
+            (k : ℕ) × CountsFit self.old.roads (cost_of cost) k) }
+        ensures bounds { IfErr result (λ e. (c : Counts) → e ≡ Dense c →
+            IsTooDense self.old.roads.vertices (length self.old.roads.arcs) c) }
     {
         if self.factored(cost).is_some() {
             return Ok(());

@@ -30,10 +30,10 @@ fn table<A: PathAlgebra>(
     ends: &TableEnds<'_>,
 ) -> Result<Option<Vec<u64>>, Memory>
     requires low { HasLowCodes (A.meaning algebra) }
-    requires ends { AreEndsIn shared.old ends.now.sources.now ends.now.targets.now }
+    requires ends { AreEndsIn shared.old.roads ends.now.sources.now ends.now.targets.now }
     ensures graph { shared.new ≡ shared.old }
     ensures table { IfOk result (λ codes. IfSome codes (λ codes. AreTableCodes (A.meaning algebra)
-        shared.old ends.now.sources.now ends.now.targets.now codes.items)) }
+        shared.old.roads ends.now.sources.now ends.now.targets.now codes.items)) }
     ensures stopped { IfOk result (λ codes. codes ≡ None → IsSome stop.now) }
 {
     let mut codes = Vec::new(shared.alloc());
@@ -60,11 +60,11 @@ fn answer<A: PathAlgebra>(
     codes: &mut [u64],
 ) -> i32
     requires low { HasLowCodes (A.meaning algebra) }
-    requires ends { AreEndsIn shared.old ends.now.sources.now ends.now.targets.now }
+    requires ends { AreEndsIn shared.old.roads ends.now.sources.now ends.now.targets.now }
     requires places { HasPlaces ends.now.sources.now ends.now.targets.now codes.old }
     ensures graph { shared.new ≡ shared.old }
-    ensures table { result ≡ pos 0 → AreTableCodes (A.meaning algebra) shared.old ends.now.sources.now
-        ends.now.targets.now codes.new }
+    ensures table { result ≡ pos 0 → AreTableCodes (A.meaning algebra) shared.old.roads
+        ends.now.sources.now ends.now.targets.now codes.new }
     ensures kept { (result ≡ pos 0 → ⊥) → codes.new ≡ codes.old }
     ensures stopped { result ≡ pos 45 → IsSome stop.now }
     ensures status { IsOneOf (0 ∷ 3 ∷ 45 ∷ []) result }
@@ -87,11 +87,11 @@ fn answer_chosen(
     ends: &TableEnds<'_>,
     codes: &mut [u64],
 ) -> i32
-    requires ends { AreEndsIn shared.old ends.now.sources.now ends.now.targets.now }
+    requires ends { AreEndsIn shared.old.roads ends.now.sources.now ends.now.targets.now }
     requires places { HasPlaces ends.now.sources.now ends.now.targets.now codes.old }
     ensures graph { shared.new ≡ shared.old }
-    ensures table { result ≡ pos 0 → Under chosen (λ V A. AreTableCodes A shared.old ends.now.sources.now
-        ends.now.targets.now codes.new) }
+    ensures table { result ≡ pos 0 → Under chosen (λ V A. AreTableCodes A shared.old.roads
+        ends.now.sources.now ends.now.targets.now codes.new) }
     ensures kept { (result ≡ pos 0 → ⊥) → codes.new ≡ codes.old }
     ensures stopped { result ≡ pos 45 → IsSome stop.now }
     ensures status { IsOneOf (0 ∷ 3 ∷ 45 ∷ []) result }
@@ -122,9 +122,10 @@ pub fn answer_table(
 ) -> i32
     ensures graph { shared.new ≡ shared.old }
     ensures table { result ≡ pos 0 → OfAlgebra by.algebra by.limit (λ V A. AreTableCodes A
-        shared.old ends.now.sources.now ends.now.targets.now codes.new) }
+        shared.old.roads ends.now.sources.now ends.now.targets.now codes.new) }
     ensures kept { (result ≡ pos 0 → ⊥) → codes.new ≡ codes.old }
-    ensures refusals { ReportsListRefusals (AreEndsIn shared.old ends.now.sources.now ends.now.targets.now)
+    ensures refusals { ReportsListRefusals (AreEndsIn shared.old.roads
+        ends.now.sources.now ends.now.targets.now)
         (HasPlaces ends.now.sources.now ends.now.targets.now codes.old) by.algebra by.limit result }
     ensures stopped { result ≡ pos 45 → IsSome stop.now }
     ensures status { IsOneOf (0 ∷ 2 ∷ 3 ∷ 17 ∷ 43 ∷ 45 ∷ []) result }

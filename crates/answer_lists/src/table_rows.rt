@@ -28,8 +28,8 @@ fn take_searcher<A: PathAlgebra>(
     shared: &SharedGraph,
     kept: &mut Option<Searcher<A>>,
 ) -> Result<Searcher<A>, Memory>
-    requires { IfSome kept.old (IsSearcherOf algebra shared.now) }
-    ensures searcher { IfOk result (IsSearcherOf algebra shared.now) }
+    requires { IfSome kept.old (IsSearcherOf algebra shared.now.roads) }
+    ensures searcher { IfOk result (IsSearcherOf algebra shared.now.roads) }
     ensures taken { kept.new ≡ None }
 {
     match kept.take() {
@@ -79,12 +79,12 @@ fn searched_row<A: PathAlgebra>(
     ends: &RowEnds<'_>,
 ) -> Result<Option<Vec<u64>>, Memory>
     requires low { HasLowCodes (A.meaning algebra) }
-    requires kept { IfSome kept.old (IsSearcherOf algebra shared.now) }
-    requires source { HasVertex shared.now ends.now.source }
-    requires targets { All (HasVertex shared.now) ends.now.targets.now }
-    ensures kept { OnOk result (IfSome kept.new (IsSearcherOf algebra shared.now)) }
+    requires kept { IfSome kept.old (IsSearcherOf algebra shared.now.roads) }
+    requires source { HasVertex shared.now.roads ends.now.source }
+    requires targets { All (HasVertex shared.now.roads) ends.now.targets.now }
+    ensures kept { OnOk result (IfSome kept.new (IsSearcherOf algebra shared.now.roads)) }
     ensures row { IfOk result (λ row. IfSome row (λ row. AreRowCodes (A.meaning algebra)
-        shared.now ends.now.targets.now ends.now.source row.items)) }
+        shared.now.roads ends.now.targets.now ends.now.source row.items)) }
     ensures stopped { IfOk result (λ row. row ≡ None → IsSome stop.now) }
 {
     let (graph, source) = (shared.graph(), ends.source);
@@ -110,13 +110,13 @@ pub(crate) fn row<A: PathAlgebra>(
     ends: &RowEnds<'_>,
 ) -> Result<Option<Vec<u64>>, Memory>
     requires low { HasLowCodes (A.meaning algebra) }
-    requires kept { IfSome kept.old (IsSearcherOf algebra shared.old) }
-    requires source { HasVertex shared.old ends.now.source }
-    requires targets { All (HasVertex shared.old) ends.now.targets.now }
+    requires kept { IfSome kept.old (IsSearcherOf algebra shared.old.roads) }
+    requires source { HasVertex shared.old.roads ends.now.source }
+    requires targets { All (HasVertex shared.old.roads) ends.now.targets.now }
     ensures graph { shared.new ≡ shared.old }
-    ensures kept { OnOk result (IfSome kept.new (IsSearcherOf algebra shared.old)) }
+    ensures kept { OnOk result (IfSome kept.new (IsSearcherOf algebra shared.old.roads)) }
     ensures row { IfOk result (λ row. IfSome row (λ row. AreRowCodes (A.meaning algebra)
-        shared.old ends.now.targets.now ends.now.source row.items)) }
+        shared.old.roads ends.now.targets.now ends.now.source row.items)) }
     ensures stopped { IfOk result (λ row. row ≡ None → IsSome stop.now) }
 {
     let Some(mut factored) = shared.take_factored(algebra) else {

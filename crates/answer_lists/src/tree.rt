@@ -8,8 +8,6 @@ ghost use Rattle.path_algebra.specs.Walks.{AreBest};
 ghost use Rattle.route_tree.specs.Tree.{IsTree};
 ghost use Rattle.path_plain.specs.Halting.{CanHalt};
 ghost use Rattle.answer_lists.specs.Answers.{IsOneOf, ReportsListRefusals};
-ghost use Rattle.answer_lists.specs.KeptTree.{code_in, graph_in, tree_in};
-ghost use Rattle.answer_lists.specs.Near.{HaveLines};
 ghost use Rattle.answer_lists.specs.Tree.{AreSameLists, AreUnwritten, HasLowCodes, HavePlacesOrNone, HaveTree, IsAllOrNone};
 
 use crate::algebra_number::AlgebraNumber;
@@ -31,10 +29,11 @@ fn solve<A: PathAlgebra>(
     shared: &mut SharedGraph,
     sources: &[Vertex],
 ) -> Result<(Labels<A::Value>, Tree), Memory>
-    requires { All (HasVertex shared.old) sources.now }
+    requires { All (HasVertex shared.old.roads) sources.now }
     ensures graph { shared.new ≡ shared.old }
-    ensures labels { IfOk result (λ s. AreBest (A.meaning algebra) shared.old sources.now s.0) }
-    ensures tree { IfOk result (λ s. IsTree (A.meaning algebra) shared.old sources.now s.1) }
+    ensures labels { IfOk result (λ s. AreBest (A.meaning algebra) shared.old.roads
+        sources.now s.0) }
+    ensures tree { IfOk result (λ s. IsTree (A.meaning algebra) shared.old.roads sources.now s.1) }
 {
     let Some(factored) = shared.take_factored(algebra) else {
         return solve_with_tree(shared.alloc(), algebra, shared.graph(), sources);
@@ -56,11 +55,12 @@ fn answer<A: PathAlgebra>(
     lists: &mut TreeLists<'_>,
 ) -> i32
     requires low { HasLowCodes (A.meaning algebra) }
-    requires sources { All (HasVertex shared.old) sources.now }
-    requires places { HavePlacesOrNone shared.old.vertices lists.old }
+    requires sources { All (HasVertex shared.old.roads) sources.now }
+    requires places { HavePlacesOrNone shared.old.roads.vertices lists.old }
     ensures graph { shared.new ≡ shared.old }
     ensures same { AreSameLists lists.old lists.new }
-    ensures tree { result ≡ pos 0 → HaveTree (A.meaning algebra) shared.old sources.now lists.new }
+    ensures tree { result ≡ pos 0 → HaveTree (A.meaning algebra) shared.old.roads
+        sources.now lists.new }
     ensures kept { (result ≡ pos 0 → ⊥) → AreUnwritten lists.old lists.new }
     ensures status { IsOneOf (0 ∷ 3 ∷ []) result }
 {
@@ -83,11 +83,11 @@ fn answer_searched(
     halt: &mut Halt<'_>,
     lists: &mut TreeLists<'_>,
 ) -> Result<bool, Memory>
-    requires sources { All (HasVertex shared.old) sources.now }
-    requires places { HavePlacesOrNone shared.old.vertices lists.old }
+    requires sources { All (HasVertex shared.old.roads) sources.now }
+    requires places { HavePlacesOrNone shared.old.roads.vertices lists.old }
     ensures graph { shared.new ≡ shared.old }
     ensures same { AreSameLists lists.old lists.new }
-    ensures tree { result ≡ Ok true → Under chosen (λ V A. HaveTree A shared.old sources.now
+    ensures tree { result ≡ Ok true → Under chosen (λ V A. HaveTree A shared.old.roads sources.now
         lists.new) }
     ensures kept { (result ≡ Ok true → ⊥) → AreUnwritten lists.old lists.new }
     ensures halts { result ≡ Ok false → CanHalt halt.old }
@@ -120,11 +120,11 @@ fn answer_chosen(
     sources: &[u32],
     lists: &mut TreeLists<'_>,
 ) -> i32
-    requires sources { All (HasVertex shared.old) sources.now }
-    requires places { HavePlacesOrNone shared.old.vertices lists.old }
+    requires sources { All (HasVertex shared.old.roads) sources.now }
+    requires places { HavePlacesOrNone shared.old.roads.vertices lists.old }
     ensures graph { shared.new ≡ shared.old }
     ensures same { AreSameLists lists.old lists.new }
-    ensures tree { result ≡ pos 0 → Under chosen (λ V A. HaveTree A shared.old sources.now
+    ensures tree { result ≡ pos 0 → Under chosen (λ V A. HaveTree A shared.old.roads sources.now
         lists.new) }
     ensures kept { (result ≡ pos 0 → ⊥) → AreUnwritten lists.old lists.new }
     ensures stopped { result ≡ pos 45 → IsSome stop.now }
@@ -183,10 +183,10 @@ pub fn answer_tree(
     ensures graph { shared.new ≡ shared.old }
     ensures same { AreSameLists lists.old lists.new }
     ensures tree { result ≡ pos 0 → OfAlgebra by.algebra by.limit (λ V A. HaveTree A
-        shared.old sources.now lists.new) }
+        shared.old.roads sources.now lists.new) }
     ensures kept { (result ≡ pos 0 → ⊥) → AreUnwritten lists.old lists.new }
-    ensures refusals { ReportsListRefusals (All (HasVertex shared.old) sources.now)
-        (HavePlacesOrNone shared.old.vertices lists.old) by.algebra by.limit result }
+    ensures refusals { ReportsListRefusals (All (HasVertex shared.old.roads) sources.now)
+        (HavePlacesOrNone shared.old.roads.vertices lists.old) by.algebra by.limit result }
     ensures stopped { result ≡ pos 45 → IsSome stop.now }
     ensures status { IsOneOf (0 ∷ 2 ∷ 3 ∷ 17 ∷ 43 ∷ 45 ∷ []) result }
 {

@@ -3,6 +3,7 @@ use Rattle.std.proofs.Common.{◌≡◌, ℕ, inl, inr, List, [], ◌∷◌, Opt
 use Rattle.std.specs.Prelude.{ℤ, pos}
 use Rattle.road_graph.specs.GraphData.{GraphData}
 use Rattle.answer_lists.specs.Answers.{IsOneOf}
+use Rattle.answer_lists.specs.Sharing.{Shared}
 use Rattle.diffuse_c.specs.Holding.{OfGraph}
 
 -- these statuses are read as they were written
@@ -16,8 +17,8 @@ read_as_written (n ∷ ns) status all (inl e) = subst (λ (m : ℤ). to_z w32 (o
 read_as_written (n ∷ ns) status all (inr rest) = read_as_written ns status all.1 rest
 
 -- what the status means of the graph is so of the one that the handle has
-pub passed_on : (roads : Option GraphData) (g : GraphData) (ns : List ℕ) (P : GraphData → ℤ → Type 0) (status : ℤ) → roads ≡ Some g →
-    AreReadAsWritten ns → IsOneOf ns status → P g status → OfGraph roads (λ h. P h (to_z w32 (of_z w32 status)))
-passed_on roads g ns P status is all one h =
-    subst (λ (r : Option GraphData). OfGraph r (λ h. P h (to_z w32 (of_z w32 status)))) (sym is)
-    (subst (P g) (sym (read_as_written ns status all one)) h)
+pub passed_on : (shared : Option Shared) (g : Shared) (ns : List ℕ) (P : GraphData → ℤ → Type 0) (status : ℤ) → shared ≡ Some g →
+    AreReadAsWritten ns → IsOneOf ns status → P g.roads status → OfGraph shared (λ h. P h (to_z w32 (of_z w32 status)))
+passed_on shared g ns P status is all one h =
+    subst (λ (r : Option Shared). OfGraph r (λ h. P h (to_z w32 (of_z w32 status)))) (sym is)
+    (subst (P g.roads) (sym (read_as_written ns status all one)) h)

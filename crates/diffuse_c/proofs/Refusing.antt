@@ -2,11 +2,11 @@
 -- over the links.
 use Rattle.std.proofs.Common.{◌≡◌, ℕ, inl, inr, List, [], ◌∷◌, Option, Some, arith, subst, sym}
 use Rattle.std.specs.Prelude.{ℤ, pos}
-use Rattle.road_graph.specs.GraphData.{GraphData}
 use Rattle.answer_lists.specs.Answers.{IsOneOf}
 use Rattle.answer_lists.specs.Reweighing.{IsHeavy, IsRefusal}
+use Rattle.answer_lists.specs.Sharing.{Shared}
 use Rattle.diffuse_c.specs.declared.arcs.DiffuseArc.{DiffuseArc}
-use Rattle.diffuse_c.specs.Holding.{OfGraph}
+use Rattle.diffuse_c.specs.Holding.{OfShared}
 use Rattle.diffuse_c.specs.Lent.{Fits, lent}
 use Rattle.diffuse_c.specs.Reweighing.{IsReweighFault}
 
@@ -26,7 +26,7 @@ listed n (inr (inl x)) = inr (inl x)
 listed n (inr (inr (inl x))) = inr (inr (inr (inr (inl x))))
 listed n (inr (inr (inr none))) = absurd none
 
-pub not_factored : (g : GraphData) (arcs : List DiffuseArc) (n : ℤ) → Fits g.vertices arcs → IsRefusal (lent g.vertices arcs) g n → IsReweighFault g arcs n
+pub not_factored : (g : Shared) (arcs : List DiffuseArc) (n : ℤ) → Fits g.roads.vertices arcs → IsRefusal (lent g.roads.vertices arcs) g n → IsReweighFault g arcs n
 not_factored g arcs n fits r =
     let no_limit : n ≡ pos 16 → ⊥ = is_no_other 3 8 44 16 n r.one_of (λ e. omega (arith, e)) (λ e. omega (arith, e)) (λ e. omega (arith, e)) in
     let no_vertex : n ≡ pos 17 → ⊥ = is_no_other 3 8 44 17 n r.one_of (λ e. omega (arith, e)) (λ e. omega (arith, e)) (λ e. omega (arith, e)) in
@@ -40,6 +40,6 @@ not_factored g arcs n fits r =
     }
 
 -- so it is said of the graph that a handle has
-pub heavy_of : (roads : Option GraphData) (g : GraphData) (arcs : List DiffuseArc) (n : ℤ) → roads ≡ Some g → IsReweighFault g arcs n →
-    OfGraph roads (λ (h : GraphData). n ≡ pos 8 → IsHeavy (lent h.vertices arcs))
-heavy_of roads g arcs n is fault = subst (λ (r : Option GraphData). OfGraph r (λ (h : GraphData). n ≡ pos 8 → IsHeavy (lent h.vertices arcs))) (sym is) fault.heavy
+pub heavy_of : (shared : Option Shared) (g : Shared) (arcs : List DiffuseArc) (n : ℤ) → shared ≡ Some g → IsReweighFault g arcs n →
+    OfShared shared (λ (h : Shared). n ≡ pos 8 → IsHeavy h (lent h.roads.vertices arcs))
+heavy_of shared g arcs n is fault = subst (λ (r : Option Shared). OfShared r (λ (h : Shared). n ≡ pos 8 → IsHeavy h (lent h.roads.vertices arcs))) (sym is) fault.heavy

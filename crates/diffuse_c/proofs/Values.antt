@@ -25,9 +25,9 @@ use Rattle.std.specs.Box.Ownership.{box_owns}
 use Rattle.std.proofs.ResultValues.{and_tt}
 use Rattle.diffuse_c.specs.contracts.box_pointer.BoxPointer as box_pointer
 use Rattle.diffuse_c.specs.contracts.held.Held as held
-use Rattle.road_graph.specs.GraphData.{GraphData}
 use Rattle.path_plain.specs.declared.halt.Stop.{Stop}
 use Rattle.arc_numbers.specs.Numbering.{Numbering}
+use Rattle.answer_lists.specs.Sharing.{Shared}
 use Rattle.diffuse_c.specs.Holding.{held_at, has_graph}
 use Rattle.std.specs.Prelude.{Option, Some, None}
 use prog.Model.{Model}
@@ -72,7 +72,7 @@ module _ {M : Type 1} {𝓤 : Ura M} (𝓛 : Logic 𝓤) (𝓜 : Model 𝓤 𝓛
   fm f = framed 𝓤 𝓛.H 𝓜 (tables 𝓤 𝓛.H 𝓜 𝓡 𝓡.env) f
 
 -- a graph that is there
-pub the_graph : (o : Option GraphData) → has_graph o ≡ true → (g : GraphData) × (o ≡ Some g)
+pub the_graph : (o : Option Shared) → has_graph o ≡ true → (g : Shared) × (o ≡ Some g)
 the_graph None e = cc
 the_graph (Some g) e = (g, refl)
 
@@ -81,11 +81,11 @@ abbrev pub alone : Ptr → Val
 alone p = vstruct (vcons (ptr_val p) vnil)
 
 module _ {M : Type 1} {𝓤 : Ura M} {𝓛 : Logic 𝓤} {K : Type 0} {Γ : List (Item 𝓤)} {G : Goal 𝓤 𝓛.H} where
-  pub held_out : K → (d : (held.the_row).Denot) (vs : List Val) → (vs ≡ alone d.at ∷ [] → Seq K 𝓛 (‵ (held_at d.at d.roads d.stop d.numbers) ∷ Γ) G) → Seq K 𝓛 (‵ ((held.the_row).own_val d vs) ∷ Γ) G
+  pub held_out : K → (d : (held.the_row).Denot) (vs : List Val) → (vs ≡ alone d.at ∷ [] → Seq K 𝓛 (‵ (held_at d.at d.shared d.stop d.numbers) ∷ Γ) G) → Seq K 𝓛 (‵ ((held.the_row).own_val d vs) ∷ Γ) G
   held_out t d vs k = fsplit t $ fpick t (λ vss. fsplit t $ feq_l t (λ ev. fsplit t $ feq_l t (λ ep. drop t $
       k (subst (λ (ps : List Val). vs ≡ vstruct (of_list (ps ++ [])) ∷ []) ep ev))))
 
-  pub held_in : K → (p : Ptr) (x : Option (GraphData)) (y : Option Stop) (w : Option Numbering) →
-      Step K 𝓛 (‵ ((held.the_row).own_val (record { at = p; roads = x; stop = y; numbers = w }) (alone p ∷ [])) ∷ Γ) G (‵ (held_at p x y w) ∷ Γ) G
+  pub held_in : K → (p : Ptr) (x : Option Shared) (y : Option Stop) (w : Option Numbering) →
+      Step K 𝓛 (‵ ((held.the_row).own_val (record { at = p; shared = x; stop = y; numbers = w }) (alone p ∷ [])) ∷ Γ) G (‵ (held_at p x y w) ∷ Γ) G
   held_in t p x y w = step (λ s. nothing t $ feq_i t (List Val) (ptr_val p ∷ []) (ptr_val p ∷ []) refl $ fjoin t $ feq_i t (List Val) (alone p ∷ []) (alone p ∷ []) refl $ fjoin t $
       fpack t (Valss (RawPtr ∷ [])) (within (shape held.the_type) (p, tt) (alone p ∷ [])) (ptr_val p ∷ [], tt) $ fjoin t $ s)

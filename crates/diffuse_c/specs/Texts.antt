@@ -5,11 +5,12 @@ use Rattle.text_lines.specs.declared.faults.ReadFault.{ReadFault}
 use Rattle.text_lines.specs.Reads.{BreaksNone, RunsOutAfter}
 use Rattle.text_lines.specs.Rules.{text_read, fault_at}
 use Rattle.graph_text.specs.GraphFiles.{gr_rules}
+use Rattle.answer_lists.specs.Sharing.{Shared, unfactored}
 
--- there is a graph, and it is the value of the text
-abbrev pub IsGraphOf : List ℕ → Option GraphData → Type 0
+-- there is a graph, it is the value of the text, and it is not factored
+abbrev pub IsGraphOf : List ℕ → Option Shared → Type 0
 IsGraphOf bytes None = ⊥
-IsGraphOf bytes (Some g) = text_read gr_rules bytes ≡ Ok g
+IsGraphOf bytes (Some g) = (text_read gr_rules bytes ≡ Ok g.roads) × (g ≡ unfactored g.roads)
 
 -- the text is longer than any that is read
 abbrev pub IsTooLongText : List ℕ → Type 0

@@ -3,9 +3,9 @@
 ghost use Rattle.std.specs.Prelude.{◌≡◌, ◌↔◌, ◌∷◌, [], pos, None};
 ghost use Rattle.path_algebra.specs.Choices.{IsAlgebra, OfAlgebra};
 ghost use Rattle.answer_lists.specs.Answers.{IsOneOf};
-ghost use Rattle.answer_lists.specs.Factoring.{IsTooHeavy};
-ghost use Rattle.diffuse_c.specs.Holding.{OfGraph};
-ghost use Rattle.diffuse_c.specs.Keeping.{KeepsHeld};
+ghost use Rattle.answer_lists.specs.Factoring.{IsDense, IsTooHeavy, OfCost, ReportsFactoring};
+ghost use Rattle.diffuse_c.specs.Holding.{OfGraph, OfShared};
+ghost use Rattle.diffuse_c.specs.Keeping.{KeepsUnlessFactored};
 
 use crate::handle::{DiffuseGraph, put, take};
 use crate::status::CLOSED;
@@ -21,12 +21,16 @@ pub extern "C" fn diffuse_graph_factor(
     handle: &mut DiffuseGraph,
     algebra: u32,
 ) -> i32
-    ensures kept { KeepsHeld handle.old.held handle.new.held }
-    ensures heavy { OfGraph handle.old.held.roads (λ g. result ≡ pos 8 → OfAlgebra algebra 0
+    ensures kept { KeepsUnlessFactored handle.old.held handle.new.held result }
+    ensures factored { OfShared handle.old.held.shared (λ old. OfShared handle.new.held.shared
+        (λ new. OfCost algebra (ReportsFactoring old new result))) }
+    ensures heavy { OfGraph handle.old.held.shared (λ g. result ≡ pos 8 → OfAlgebra algebra 0
         (λ V A. IsTooHeavy A g)) }
-    ensures algebra { OfGraph handle.old.held.roads
+    ensures dense { OfGraph handle.old.held.shared (λ g. result ≡ pos 7 → OfAlgebra algebra 0
+        (λ V A. IsDense A g)) }
+    ensures algebra { OfGraph handle.old.held.shared
         (λ g. (result ≡ pos 43) ↔ (IsAlgebra algebra 0 → ⊥)) }
-    ensures closed { (result ≡ pos 4) ↔ (handle.old.held.roads ≡ None) }
+    ensures closed { (result ≡ pos 4) ↔ (handle.old.held.shared ≡ None) }
     ensures status { IsOneOf (0 ∷ 3 ∷ 4 ∷ 7 ∷ 8 ∷ 9 ∷ 43 ∷ []) result }
 {
     let Some(mut owner) = take(alloc, handle) else {

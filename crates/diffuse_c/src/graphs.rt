@@ -2,6 +2,7 @@
 
 ghost use Rattle.std.specs.Prelude.{◌≡◌, ◌↔◌, ◌∷◌, [], length, pos, MatchOption, Some, None, true};
 ghost use Rattle.answer_lists.specs.Answers.{IsOneOf};
+ghost use Rattle.answer_lists.specs.Sharing.{unfactored};
 ghost use Rattle.diffuse_c.specs.Holding.{has_graph};
 ghost use Rattle.diffuse_c.specs.Keeping.{KeepsHeld, KeepsUnlessOpened, OpensSecond};
 ghost use Rattle.diffuse_c.specs.Lent.{lent};
@@ -24,11 +25,12 @@ pub extern "C" fn diffuse_graph_open(
     arcs: &[DiffuseArc],
     handle: &mut DiffuseGraph,
 ) -> i32
-    ensures graph { result ≡ pos 0 → handle.new.held.roads ≡ Some (lent vertices arcs.now) }
+    ensures graph { result ≡ pos 0 → handle.new.held.shared ≡
+        Some (unfactored (lent vertices arcs.now)) }
     ensures kept { KeepsUnlessOpened handle.old.held handle.new.held result }
     ensures status { IsOneOf (0 ∷ 3 ∷ 5 ∷ 16 ∷ 17 ∷ []) result }
-    ensures open { (result ≡ pos 5) ↔ (has_graph handle.old.held.roads ≡ true) }
-    ensures arcs { ReportsArcs handle.old.held.roads vertices arcs.now (0 ∷ 3 ∷ []) result }
+    ensures open { (result ≡ pos 5) ↔ (has_graph handle.old.held.shared ≡ true) }
+    ensures arcs { ReportsArcs handle.old.held.shared vertices arcs.now (0 ∷ 3 ∷ []) result }
 {
     if handle.is_open {
         return OPEN;
@@ -42,8 +44,8 @@ pub extern "C" fn diffuse_graph_open(
     }
 }
 
-/// Opens a closed handle with the graph of an open one. Each may then be used on a thread of its
-/// own.
+/// Opens a closed handle with the graph of an open one, and its factors. Each may then be used on
+/// a thread of its own.
 #[unsafe(no_mangle)]
 pub extern "C" fn diffuse_graph_share(
     alloc: Global,
@@ -51,10 +53,10 @@ pub extern "C" fn diffuse_graph_share(
     second: &mut DiffuseGraph,
 ) -> i32
     ensures kept { KeepsHeld handle.old.held handle.new.held }
-    ensures graph { result ≡ pos 0 → second.new.held.roads ≡ handle.old.held.roads }
+    ensures graph { result ≡ pos 0 → second.new.held.shared ≡ handle.old.held.shared }
     ensures second { OpensSecond second.old.held second.new.held handle.old.held.numbers result }
     ensures status { IsOneOf (0 ∷ 3 ∷ 4 ∷ 5 ∷ []) result }
-    ensures handles { ReportsHandles handle.old.held.roads second.old.held.roads result }
+    ensures handles { ReportsHandles handle.old.held.shared second.old.held.shared result }
 {
     if second.is_open {
         return OPEN;
@@ -82,7 +84,7 @@ pub extern "C" fn diffuse_graph_share(
 /// closed.
 #[unsafe(no_mangle)]
 pub extern "C" fn diffuse_graph_close(alloc: Global, handle: &mut DiffuseGraph)
-    ensures roads { handle.new.held.roads ≡ None }
+    ensures roads { handle.new.held.shared ≡ None }
     ensures stop { handle.new.held.stop ≡ None }
     ensures numbers { handle.new.held.numbers ≡ None }
 {
@@ -93,7 +95,8 @@ pub extern "C" fn diffuse_graph_close(alloc: Global, handle: &mut DiffuseGraph)
 #[unsafe(no_mangle)]
 pub extern "C" fn diffuse_graph_vertices(alloc: Global, handle: &mut DiffuseGraph) -> u32
     ensures kept { KeepsHeld handle.old.held handle.new.held }
-    ensures count { MatchOption handle.old.held.roads (result ≡ 0) (λ g. result ≡ g.vertices) }
+    ensures count { MatchOption handle.old.held.shared (result ≡ 0) (λ g. result ≡
+        g.roads.vertices) }
 {
     let Some(owner) = take(alloc, handle) else {
         return 0;
@@ -107,7 +110,8 @@ pub extern "C" fn diffuse_graph_vertices(alloc: Global, handle: &mut DiffuseGrap
 #[unsafe(no_mangle)]
 pub extern "C" fn diffuse_graph_arcs(alloc: Global, handle: &mut DiffuseGraph) -> usize
     ensures kept { KeepsHeld handle.old.held handle.new.held }
-    ensures count { MatchOption handle.old.held.roads (result ≡ 0) (λ g. result ≡ length g.arcs) }
+    ensures count { MatchOption handle.old.held.shared (result ≡ 0) (λ g. result ≡
+        length g.roads.arcs) }
 {
     let Some(owner) = take(alloc, handle) else {
         return 0;

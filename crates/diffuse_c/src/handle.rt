@@ -15,14 +15,14 @@ use std::mem;
 pub struct DiffuseGraph {
     pub(crate) held: Held,
     pub(crate) is_open: bool,
-    ghost agrees: { has_graph held.roads ≡ is_open },
-    ghost unstopped: { held.roads ≡ None → held.stop ≡ None },
-    ghost numbered: { AreNumbersOf held.roads held.numbers },
+    ghost agrees: { has_graph held.shared ≡ is_open },
+    ghost unstopped: { held.shared ≡ None → held.stop ≡ None },
+    ghost numbered: { AreNumbersOf held.shared held.numbers },
 }
 
 /// A closed handle.
 pub(crate) fn closed() -> DiffuseGraph
-    ensures roads { result.held.roads ≡ None }
+    ensures roads { result.held.shared ≡ None }
     ensures stop { result.held.stop ≡ None }
     ensures numbers { result.held.numbers ≡ None }
 {
@@ -35,7 +35,7 @@ pub(crate) fn closed() -> DiffuseGraph
 /// An open handle with this owner.
 fn opened(owner: Box<Owner>) -> DiffuseGraph
     requires { AreNumbersOf (Some owner.value.shared) owner.value.numbers }
-    ensures roads { result.held.roads ≡ Some owner.value.shared }
+    ensures roads { result.held.shared ≡ Some owner.value.shared }
     ensures stop { result.held.stop ≡ owner.value.stop }
     ensures numbers { result.held.numbers ≡ owner.value.numbers }
 {
@@ -47,14 +47,14 @@ fn opened(owner: Box<Owner>) -> DiffuseGraph
 
 /// Takes the owner out, if there is one. The handle is closed afterwards.
 pub(crate) fn take(alloc: Global, handle: &mut DiffuseGraph) -> Option<Box<Owner>>
-    ensures graph { MatchOption result (handle.old.held.roads ≡ None) (λ b. handle.old.held.roads ≡
-        Some b.value.shared) }
+    ensures graph { MatchOption result (handle.old.held.shared ≡ None)
+        (λ b. handle.old.held.shared ≡ Some b.value.shared) }
     ensures stop { MatchOption result (handle.old.held.stop ≡ None) (λ b. handle.old.held.stop ≡
         b.value.stop) }
     ensures numbers { MatchOption result (handle.old.held.numbers ≡ None)
         (λ b. handle.old.held.numbers ≡ b.value.numbers) }
     ensures numbered { IfSome result (λ b. AreNumbersOf (Some b.value.shared) b.value.numbers) }
-    ensures closed { handle.new.held.roads ≡ None }
+    ensures closed { handle.new.held.shared ≡ None }
     ensures unstopped { handle.new.held.stop ≡ None }
     ensures unnumbered { handle.new.held.numbers ≡ None }
 {
@@ -69,9 +69,9 @@ pub(crate) fn take(alloc: Global, handle: &mut DiffuseGraph) -> Option<Box<Owner
 
 /// Puts an owner into a closed handle.
 pub(crate) fn put(handle: &mut DiffuseGraph, owner: Box<Owner>)
-    requires closed { handle.old.held.roads ≡ None }
+    requires closed { handle.old.held.shared ≡ None }
     requires numbers { AreNumbersOf (Some owner.value.shared) owner.value.numbers }
-    ensures roads { handle.new.held.roads ≡ Some owner.value.shared }
+    ensures roads { handle.new.held.shared ≡ Some owner.value.shared }
     ensures stop { handle.new.held.stop ≡ owner.value.stop }
     ensures numbers { handle.new.held.numbers ≡ owner.value.numbers }
 {

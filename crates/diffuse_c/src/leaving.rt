@@ -60,15 +60,15 @@ pub extern "C" fn diffuse_graph_arcs_from(
     count: &mut usize,
 ) -> i32
     ensures kept { KeepsHeld handle.old.held handle.new.held }
-    ensures count { OfGraph handle.old.held.roads (λ g. IsFound result →
+    ensures count { OfGraph handle.old.held.shared (λ g. IsFound result →
         IsCountFrom g vertex count.new) }
-    ensures arcs { OfGraph handle.old.held.roads (λ g. result ≡ pos 0 →
+    ensures arcs { OfGraph handle.old.held.shared (λ g. result ≡ pos 0 →
         AreArcsFrom g vertex (take count.new arcs.new)) }
     ensures room { FillsRoom count.new arcs.old arcs.new result }
     ensures place { (IsFound result → ⊥) → count.new ≡ count.old }
-    ensures vertex { OfGraph handle.old.held.roads
+    ensures vertex { OfGraph handle.old.held.shared
         (λ g. (result ≡ pos 17) ↔ (HasVertex g vertex → ⊥)) }
-    ensures closed { (result ≡ pos 4) ↔ (handle.old.held.roads ≡ None) }
+    ensures closed { (result ≡ pos 4) ↔ (handle.old.held.shared ≡ None) }
     ensures status { IsOneOf (0 ∷ 2 ∷ 4 ∷ 17 ∷ []) result }
 {
     let Some(owner) = take(alloc, handle) else {

@@ -34,17 +34,17 @@ pub extern "C" fn diffuse_graph_near(
     count: &mut usize,
 ) -> i32
     ensures kept { KeepsHeld handle.old.held handle.new.held }
-    ensures count { OfGraph handle.old.held.roads (λ g. IsFound result → OfAlgebra algebra limit
+    ensures count { OfGraph handle.old.held.shared (λ g. IsFound result → OfAlgebra algebra limit
         (λ V A. IsReachedCount A g sources.now count.new)) }
-    ensures near { OfGraph handle.old.held.roads (λ g. result ≡ pos 0 → OfAlgebra algebra limit
+    ensures near { OfGraph handle.old.held.shared (λ g. result ≡ pos 0 → OfAlgebra algebra limit
         (λ V A. AreNearLists A g sources.now count.new vertices.new codes.new hops.new
         parents.new)) }
     ensures places { FillsNear
         (near_places vertices.old codes.old hops.old parents.old count.old)
         (near_places vertices.new codes.new hops.new parents.new count.new) result }
-    ensures refusals { OfGraph handle.old.held.roads
+    ensures refusals { OfGraph handle.old.held.shared
         (λ g. ReportsRefusals (All (HasVertex g) sources.now) algebra limit result) }
-    ensures closed { (result ≡ pos 4) ↔ (handle.old.held.roads ≡ None) }
+    ensures closed { (result ≡ pos 4) ↔ (handle.old.held.shared ≡ None) }
     ensures stopped { result ≡ pos 45 → IsSome handle.old.held.stop }
     ensures status { IsOneOf (0 ∷ 2 ∷ 3 ∷ 4 ∷ 17 ∷ 43 ∷ 45 ∷ []) result }
 {

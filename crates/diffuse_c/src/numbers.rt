@@ -50,17 +50,17 @@ pub extern "C" fn diffuse_graph_number(
     handle: &mut DiffuseGraph,
     arcs: &[DiffuseArc],
 ) -> i32
-    ensures kept { handle.new.held.roads ≡ handle.old.held.roads }
+    ensures kept { handle.new.held.shared ≡ handle.old.held.shared }
     ensures stop { handle.new.held.stop ≡ handle.old.held.stop }
-    ensures numbers { OfGraph handle.old.held.roads (λ g. result ≡ pos 0 →
+    ensures numbers { OfGraph handle.old.held.shared (λ g. result ≡ pos 0 →
         handle.new.held.numbers ≡
         Some (record { roads = g; numbered = lent g.vertices arcs.now })) }
-    ensures same { OfGraph handle.old.held.roads (λ g. result ≡ pos 0 →
+    ensures same { OfGraph handle.old.held.shared (λ g. result ≡ pos 0 →
         IsReordered g (lent g.vertices arcs.now)) }
-    ensures other { OfGraph handle.old.held.roads (λ g. result ≡ pos 46 →
+    ensures other { OfGraph handle.old.held.shared (λ g. result ≡ pos 46 →
         IsReordered g (lent g.vertices arcs.now) → ⊥) }
     ensures unchanged { result ≢ pos 0 → handle.new.held.numbers ≡ handle.old.held.numbers }
-    ensures closed { (result ≡ pos 4) ↔ (handle.old.held.roads ≡ None) }
+    ensures closed { (result ≡ pos 4) ↔ (handle.old.held.shared ≡ None) }
     ensures status { IsOneOf (0 ∷ 3 ∷ 4 ∷ 46 ∷ []) result }
 {
     let Some(mut owner) = take(alloc, handle) else {
@@ -97,7 +97,7 @@ pub extern "C" fn diffuse_graph_route_arcs(
     arcs: &mut [u32],
 ) -> i32
     ensures kept { KeepsHeld handle.old.held handle.new.held }
-    ensures tells { OfGraph handle.old.held.roads (λ g. IsAnswered result → OfAlgebra algebra limit
+    ensures tells { OfGraph handle.old.held.shared (λ g. IsAnswered result → OfAlgebra algebra limit
         (λ V A. ReportsRoute A g source target result code.new hops.new room.new)) }
     ensures arcs { OfNumbered handle.old.held.numbers (λ g. result ≡ pos 0 →
         OfAlgebra algebra limit (λ V A. AreRouteArcs A g (take (hops.new + 1) room.new)
@@ -105,9 +105,9 @@ pub extern "C" fn diffuse_graph_route_arcs(
     ensures places { FillsRouteArcs
         (route_places code.old hops.old room.old arcs.old)
         (route_places code.new hops.new room.new arcs.new) result }
-    ensures refusals { OfGraph handle.old.held.roads (λ g. ReportsNumberedRefusals
+    ensures refusals { OfGraph handle.old.held.shared (λ g. ReportsNumberedRefusals
         handle.old.held.numbers (HasBoth g source target) algebra limit result) }
-    ensures closed { (result ≡ pos 4) ↔ (handle.old.held.roads ≡ None) }
+    ensures closed { (result ≡ pos 4) ↔ (handle.old.held.shared ≡ None) }
     ensures stopped { result ≡ pos 45 → IsSome handle.old.held.stop }
     ensures status { IsOneOf (0 ∷ 1 ∷ 2 ∷ 3 ∷ 4 ∷ 17 ∷ 43 ∷ 45 ∷ 47 ∷ []) result }
 {

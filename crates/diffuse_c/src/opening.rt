@@ -1,6 +1,7 @@
 //! A graph that is built from lent arcs.
 
 ghost use Rattle.std.specs.Prelude.{◌≡◌, IfOk, IfErr, None};
+ghost use Rattle.answer_lists.specs.Sharing.{unfactored};
 ghost use Rattle.diffuse_c.specs.Lent.{Fits, IsFault, lent};
 
 use crate::arcs::{DiffuseArc, roads_of};
@@ -34,7 +35,7 @@ pub(crate) fn graph_of(alloc: Global, vertices: u32, arcs: &[DiffuseArc]) -> Res
 
 /// An owner of the graph of these arcs, or the status that says why there is none.
 pub(crate) fn owner_of(alloc: Global, vertices: u32, arcs: &[DiffuseArc]) -> Result<Box<Owner>, i32>
-    ensures graph { IfOk result (λ b. b.value.shared ≡ lent vertices arcs.now) }
+    ensures graph { IfOk result (λ b. b.value.shared ≡ unfactored (lent vertices arcs.now)) }
     ensures stop { IfOk result (λ b. b.value.stop ≡ None) }
     ensures numbers { IfOk result (λ b. b.value.numbers ≡ None) }
     ensures fits { IfOk result (λ b. Fits vertices arcs.now) }

@@ -1,6 +1,7 @@
 //! What open handles own: a part of a graph, which is freed with its last owner, and a stop.
 
 ghost use Rattle.std.specs.Prelude.{◌≡◌, ◌↔◌, IfOk, IsSome, None};
+ghost use Rattle.answer_lists.specs.Sharing.{unfactored};
 
 use answer_lists::{SharedGraph, Stop};
 use arc_numbers::ArcNumbers;
@@ -32,7 +33,7 @@ pub(crate) fn boxed(alloc: Global, shared: SharedGraph) -> Result<Box<Owner>, Al
 
 /// The first owner of a graph.
 pub(crate) fn owned(alloc: Global, graph: OutGraph) -> Result<Box<Owner>, AllocError>
-    ensures graph { IfOk result (λ b. b.value.shared ≡ graph) }
+    ensures graph { IfOk result (λ b. b.value.shared ≡ unfactored graph) }
     ensures stop { IfOk result (λ b. b.value.stop ≡ None) }
     ensures numbers { IfOk result (λ b. b.value.numbers ≡ None) }
 {

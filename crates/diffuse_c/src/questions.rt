@@ -36,13 +36,13 @@ pub extern "C" fn diffuse_graph_route(
     room: &mut [u32],
 ) -> i32
     ensures kept { KeepsHeld handle.old.held handle.new.held }
-    ensures tells { OfGraph handle.old.held.roads (λ g. IsAnswered result → OfAlgebra algebra limit
+    ensures tells { OfGraph handle.old.held.shared (λ g. IsAnswered result → OfAlgebra algebra limit
         (λ V A. ReportsRoute A g source target result code.new hops.new room.new)) }
     ensures room { FillsRoom (hops.new + 1) room.old room.new result }
     ensures places { (IsFound result → ⊥) → (code.new ≡ code.old) × (hops.new ≡ hops.old) }
-    ensures refusals { OfGraph handle.old.held.roads
+    ensures refusals { OfGraph handle.old.held.shared
         (λ g. ReportsRefusals (HasBoth g source target) algebra limit result) }
-    ensures closed { (result ≡ pos 4) ↔ (handle.old.held.roads ≡ None) }
+    ensures closed { (result ≡ pos 4) ↔ (handle.old.held.shared ≡ None) }
     ensures stopped { result ≡ pos 45 → IsSome handle.old.held.stop }
     ensures status { IsOneOf (0 ∷ 1 ∷ 2 ∷ 3 ∷ 4 ∷ 17 ∷ 43 ∷ 45 ∷ []) result }
 {
@@ -79,14 +79,14 @@ pub extern "C" fn diffuse_graph_tree(
     parents: &mut [u32],
 ) -> i32
     ensures kept { KeepsHeld handle.old.held handle.new.held }
-    ensures tree { OfGraph handle.old.held.roads (λ g. result ≡ pos 0 → OfAlgebra algebra limit
+    ensures tree { OfGraph handle.old.held.shared (λ g. result ≡ pos 0 → OfAlgebra algebra limit
         (λ V A. AreWantedLists A g sources.now codes.new hops.new parents.new)) }
     ensures lists { (result ≡ pos 0 → ⊥) → (codes.new ≡ codes.old) × (hops.new ≡ hops.old) ×
         (parents.new ≡ parents.old) }
-    ensures refusals { OfGraph handle.old.held.roads (λ g. ReportsListRefusals
+    ensures refusals { OfGraph handle.old.held.shared (λ g. ReportsListRefusals
         (All (HasVertex g) sources.now) (HaveAllOrNone g.vertices codes.old hops.old parents.old)
         algebra limit result) }
-    ensures closed { (result ≡ pos 4) ↔ (handle.old.held.roads ≡ None) }
+    ensures closed { (result ≡ pos 4) ↔ (handle.old.held.shared ≡ None) }
     ensures stopped { result ≡ pos 45 → IsSome handle.old.held.stop }
     ensures status { IsOneOf (0 ∷ 2 ∷ 3 ∷ 4 ∷ 17 ∷ 43 ∷ 45 ∷ []) result }
 {
@@ -123,16 +123,16 @@ pub extern "C" fn diffuse_graph_check(
     reason: &mut u32,
 ) -> i32
     ensures kept { KeepsHeld handle.old.held handle.new.held }
-    ensures right { OfGraph handle.old.held.roads (λ g. result ≡ pos 0 → OfAlgebra algebra limit
+    ensures right { OfGraph handle.old.held.shared (λ g. result ≡ pos 0 → OfAlgebra algebra limit
         (λ V A. AreTreeLists A g sources.now codes.now hops.now parents.now)) }
-    ensures wrong { OfGraph handle.old.held.roads (λ g. result ≡ pos 6 → OfAlgebra algebra limit
+    ensures wrong { OfGraph handle.old.held.shared (λ g. result ≡ pos 6 → OfAlgebra algebra limit
         (λ V A. IsFirstRefuted A g sources.now codes.now hops.now parents.now vertex.new
         reason.new)) }
     ensures place { (result ≡ pos 6 → ⊥) → (vertex.new ≡ vertex.old) × (reason.new ≡ reason.old) }
-    ensures refusals { OfGraph handle.old.held.roads (λ g. ReportsListRefusals
+    ensures refusals { OfGraph handle.old.held.shared (λ g. ReportsListRefusals
         (All (HasVertex g) sources.now) (HavePlaces g.vertices codes.now hops.now parents.now)
         algebra limit result) }
-    ensures closed { (result ≡ pos 4) ↔ (handle.old.held.roads ≡ None) }
+    ensures closed { (result ≡ pos 4) ↔ (handle.old.held.shared ≡ None) }
     ensures status { IsOneOf (0 ∷ 2 ∷ 3 ∷ 4 ∷ 6 ∷ 17 ∷ 43 ∷ []) result }
 {
     let Some(mut owner) = take(alloc, handle) else {

@@ -65,7 +65,7 @@ fn read_graph(alloc: Global, bytes: &[u8]) -> Result<OutGraph, ReadFault>
 /// An owner of the graph of a text, or why there is none.
 fn owner_read(alloc: Global, bytes: &[u8]) -> Result<Box<Owner>, ReadFault>
     requires { length bytes.now ≤ 4294967296 }
-    ensures graph { IfOk result (λ b. text_read gr_rules bytes.now ≡ Ok b.value.shared) }
+    ensures graph { IfOk result (λ b. IsGraphOf bytes.now (Some b.value.shared)) }
     ensures fault { IfErr result (λ f. IsReadFaultOf bytes.now f) }
     ensures stop { IfOk result (λ b. b.value.stop ≡ None) }
     ensures numbers { IfOk result (λ b. b.value.numbers ≡ None) }
@@ -105,15 +105,15 @@ pub extern "C" fn diffuse_graph_read(
     handle: &mut DiffuseGraph,
     line: &mut u64,
 ) -> i32
-    ensures graph { result ≡ pos 0 → IsGraphOf bytes.now handle.new.held.roads }
+    ensures graph { result ≡ pos 0 → IsGraphOf bytes.now handle.new.held.shared }
     ensures kept { KeepsUnlessOpened handle.old.held handle.new.held result }
     ensures status { IsOneOf (0 ∷ 2 ∷ 3 ∷ 5 ∷ []) result ⊎ IsFaultReported bytes.now result
         line.new }
     ensures memory { result ≡ pos 3 → IsShortOfMemory bytes.now }
     ensures line { IsOneOf (0 ∷ 3 ∷ 5 ∷ []) result → line.new ≡ line.old }
     ensures no_line { result ≡ pos 2 → line.new ≡ 0 }
-    ensures open { (result ≡ pos 5) ↔ (has_graph handle.old.held.roads ≡ true) }
-    ensures long { (result ≡ pos 2) ↔ ((handle.old.held.roads ≡ None) × IsTooLongText bytes.now) }
+    ensures open { (result ≡ pos 5) ↔ (has_graph handle.old.held.shared ≡ true) }
+    ensures long { (result ≡ pos 2) ↔ ((handle.old.held.shared ≡ None) × IsTooLongText bytes.now) }
 {
     if handle.is_open {
         return OPEN;

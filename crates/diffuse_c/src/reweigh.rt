@@ -4,11 +4,11 @@ ghost use Rattle.std.specs.Prelude.{◌≡◌, ◌∷◌, [], pos, Some, None, I
 ghost use Rattle.path_factors.specs.Reweighing.{JoinsNoOthers};
 ghost use Rattle.answer_lists.specs.Answers.{IsOneOf};
 ghost use Rattle.answer_lists.specs.Reweighing.{IsHeavy};
-ghost use Rattle.diffuse_c.specs.Holding.{OfGraph};
+ghost use Rattle.diffuse_c.specs.Holding.{OfGraph, OfShared};
 ghost use Rattle.diffuse_c.specs.Keeping.{KeepsHeld, OpensSecond};
 ghost use Rattle.diffuse_c.specs.Lent.{Fits, lent};
 ghost use Rattle.diffuse_c.specs.Refusals.{ReportsArcs, ReportsHandles};
-ghost use Rattle.diffuse_c.specs.Reweighing.{IsReweighFault};
+ghost use Rattle.diffuse_c.specs.Reweighing.{IsReweighFault, reweighed_by};
 
 use crate::arcs::DiffuseArc;
 use crate::handle::{DiffuseGraph, put, take};
@@ -25,10 +25,10 @@ fn owner_reweighed(
     first: &SharedGraph,
     arcs: &[DiffuseArc],
 ) -> Result<Box<Owner>, i32>
-    ensures graph { IfOk result (λ b. b.value.shared ≡ lent first.now.vertices arcs.now) }
+    ensures graph { IfOk result (λ b. b.value.shared ≡ reweighed_by first.now arcs.now) }
     ensures stop { IfOk result (λ b. b.value.stop ≡ None) }
     ensures numbers { IfOk result (λ b. b.value.numbers ≡ None) }
-    ensures fits { IfOk result (λ b. Fits first.now.vertices arcs.now) }
+    ensures fits { IfOk result (λ b. Fits first.now.roads.vertices arcs.now) }
     ensures fault { IfErr result (IsReweighFault first.now arcs.now) }
 {
     let graph = graph_of(alloc, first.graph().vertices(), arcs)?;
@@ -52,16 +52,16 @@ pub extern "C" fn diffuse_graph_reweigh(
     second: &mut DiffuseGraph,
 ) -> i32
     ensures kept { KeepsHeld handle.old.held handle.new.held }
-    ensures graph { OfGraph handle.old.held.roads (λ g. result ≡ pos 0 →
-        second.new.held.roads ≡ Some (lent g.vertices arcs.now)) }
+    ensures graph { OfShared handle.old.held.shared (λ g. result ≡ pos 0 →
+        second.new.held.shared ≡ Some (reweighed_by g arcs.now)) }
     ensures second { OpensSecond second.old.held second.new.held None result }
     ensures status { IsOneOf (0 ∷ 3 ∷ 4 ∷ 5 ∷ 8 ∷ 16 ∷ 17 ∷ 44 ∷ []) result }
-    ensures handles { ReportsHandles handle.old.held.roads second.old.held.roads result }
-    ensures arcs { OfGraph handle.old.held.roads (λ g. ReportsArcs second.old.held.roads g.vertices
-        arcs.now (0 ∷ 3 ∷ 8 ∷ 44 ∷ []) result) }
-    ensures heavy { OfGraph handle.old.held.roads (λ g. result ≡ pos 8 →
-        IsHeavy (lent g.vertices arcs.now)) }
-    ensures link { OfGraph handle.old.held.roads (λ g. result ≡ pos 44 →
+    ensures handles { ReportsHandles handle.old.held.shared second.old.held.shared result }
+    ensures arcs { OfGraph handle.old.held.shared (λ g. ReportsArcs second.old.held.shared
+        g.vertices arcs.now (0 ∷ 3 ∷ 8 ∷ 44 ∷ []) result) }
+    ensures heavy { OfShared handle.old.held.shared (λ g. result ≡ pos 8 →
+        IsHeavy g (lent g.roads.vertices arcs.now)) }
+    ensures link { OfGraph handle.old.held.shared (λ g. result ≡ pos 44 →
         JoinsNoOthers (lent g.vertices arcs.now) g → ⊥) }
 {
     if second.is_open {

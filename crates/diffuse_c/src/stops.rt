@@ -3,6 +3,7 @@
 ghost use Rattle.std.specs.Prelude.{◌≡◌, ◌≢◌, ◌↔◌, ◌∷◌, [], pos, IfOk, IsSome, None, true};
 ghost use Rattle.answer_lists.specs.Answers.{IsOneOf};
 ghost use Rattle.diffuse_c.specs.Holding.{has_graph};
+ghost use Rattle.diffuse_c.specs.Keeping.{KeepsHeld};
 
 use crate::handle::{DiffuseGraph, put, take};
 use crate::opening::owner_of;
@@ -23,7 +24,7 @@ pub struct DiffuseStop {
 pub extern "C" fn diffuse_stop_new(alloc: Global, stop: &mut DiffuseStop) -> i32
     ensures stop { result ≡ pos 0 → IsSome stop.new.handle.held.stop }
     ensures kept { result ≢ pos 0 → stop.new.handle.held.stop ≡ stop.old.handle.held.stop }
-    ensures open { (result ≡ pos 5) ↔ (has_graph stop.old.handle.held.roads ≡ true) }
+    ensures open { (result ≡ pos 5) ↔ (has_graph stop.old.handle.held.shared ≡ true) }
     ensures status { IsOneOf (0 ∷ 3 ∷ 5 ∷ []) result }
 {
     if stop.handle.is_open {
@@ -42,9 +43,8 @@ pub extern "C" fn diffuse_stop_new(alloc: Global, stop: &mut DiffuseStop) -> i32
 
 /// Sets or clears a stop.
 fn turn(alloc: Global, stop: &mut DiffuseStop, is_set: bool) -> i32
-    ensures kept { stop.new.handle.held.stop ≡ stop.old.handle.held.stop }
-    ensures roads { stop.new.handle.held.roads ≡ stop.old.handle.held.roads }
-    ensures closed { (result ≡ pos 4) ↔ (stop.old.handle.held.roads ≡ None) }
+    ensures kept { KeepsHeld stop.old.handle.held stop.new.handle.held }
+    ensures closed { (result ≡ pos 4) ↔ (stop.old.handle.held.shared ≡ None) }
     ensures status { IsOneOf (0 ∷ 4 ∷ []) result }
 {
     let Some(owner) = take(alloc, &mut stop.handle) else {
@@ -60,9 +60,8 @@ fn turn(alloc: Global, stop: &mut DiffuseStop, is_set: bool) -> i32
 /// Sets a stop: the searches of the handles that have it end soon, without an answer.
 #[unsafe(no_mangle)]
 pub extern "C" fn diffuse_stop_set(alloc: Global, stop: &mut DiffuseStop) -> i32
-    ensures kept { stop.new.handle.held.stop ≡ stop.old.handle.held.stop }
-    ensures roads { stop.new.handle.held.roads ≡ stop.old.handle.held.roads }
-    ensures closed { (result ≡ pos 4) ↔ (stop.old.handle.held.roads ≡ None) }
+    ensures kept { KeepsHeld stop.old.handle.held stop.new.handle.held }
+    ensures closed { (result ≡ pos 4) ↔ (stop.old.handle.held.shared ≡ None) }
     ensures status { IsOneOf (0 ∷ 4 ∷ []) result }
 {
     turn(alloc, stop, true)
@@ -71,9 +70,8 @@ pub extern "C" fn diffuse_stop_set(alloc: Global, stop: &mut DiffuseStop) -> i32
 /// Clears a stop: the handles that have it search again.
 #[unsafe(no_mangle)]
 pub extern "C" fn diffuse_stop_clear(alloc: Global, stop: &mut DiffuseStop) -> i32
-    ensures kept { stop.new.handle.held.stop ≡ stop.old.handle.held.stop }
-    ensures roads { stop.new.handle.held.roads ≡ stop.old.handle.held.roads }
-    ensures closed { (result ≡ pos 4) ↔ (stop.old.handle.held.roads ≡ None) }
+    ensures kept { KeepsHeld stop.old.handle.held stop.new.handle.held }
+    ensures closed { (result ≡ pos 4) ↔ (stop.old.handle.held.shared ≡ None) }
     ensures status { IsOneOf (0 ∷ 4 ∷ []) result }
 {
     turn(alloc, stop, false)
@@ -83,7 +81,7 @@ pub extern "C" fn diffuse_stop_clear(alloc: Global, stop: &mut DiffuseStop) -> i
 #[unsafe(no_mangle)]
 pub extern "C" fn diffuse_stop_free(alloc: Global, stop: &mut DiffuseStop)
     ensures stop { stop.new.handle.held.stop ≡ None }
-    ensures roads { stop.new.handle.held.roads ≡ None }
+    ensures roads { stop.new.handle.held.shared ≡ None }
 {
     let _owner = take(alloc, &mut stop.handle);
 }
@@ -96,13 +94,13 @@ pub extern "C" fn diffuse_graph_stop_by(
     handle: &mut DiffuseGraph,
     stop: &mut DiffuseStop,
 ) -> i32
-    ensures kept { handle.new.held.roads ≡ handle.old.held.roads }
+    ensures kept { handle.new.held.shared ≡ handle.old.held.shared }
     ensures numbers { handle.new.held.numbers ≡ handle.old.held.numbers }
     ensures given { result ≡ pos 0 → (IsSome handle.new.held.stop ↔
         IsSome stop.old.handle.held.stop) }
     ensures unchanged { result ≢ pos 0 → handle.new.held.stop ≡ handle.old.held.stop }
-    ensures stop { stop.new.handle.held.stop ≡ stop.old.handle.held.stop }
-    ensures closed { (result ≡ pos 4) ↔ (handle.old.held.roads ≡ None) }
+    ensures stop { KeepsHeld stop.old.handle.held stop.new.handle.held }
+    ensures closed { (result ≡ pos 4) ↔ (handle.old.held.shared ≡ None) }
     ensures status { IsOneOf (0 ∷ 3 ∷ 4 ∷ []) result }
 {
     let Some(mut owner) = take(alloc, handle) else {
@@ -122,8 +120,7 @@ pub extern "C" fn diffuse_graph_stop_by(
 /// One more owner of a stop; none if it is closed.
 fn again(alloc: Global, stop: &mut DiffuseStop) -> Result<Option<Stop>, AllocError>
     ensures again { IfOk result (λ again. IsSome again ↔ IsSome stop.old.handle.held.stop) }
-    ensures kept { stop.new.handle.held.stop ≡ stop.old.handle.held.stop }
-    ensures roads { stop.new.handle.held.roads ≡ stop.old.handle.held.roads }
+    ensures kept { KeepsHeld stop.old.handle.held stop.new.handle.held }
 {
     let Some(owner) = take(alloc, &mut stop.handle) else {
         return Ok(None);

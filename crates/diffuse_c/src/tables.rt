@@ -28,13 +28,13 @@ pub extern "C" fn diffuse_graph_table(
     codes: &mut [u64],
 ) -> i32
     ensures kept { KeepsHeld handle.old.held handle.new.held }
-    ensures table { OfGraph handle.old.held.roads (λ g. result ≡ pos 0 → OfAlgebra algebra limit
+    ensures table { OfGraph handle.old.held.shared (λ g. result ≡ pos 0 → OfAlgebra algebra limit
         (λ V A. AreTableCodes A g sources.now targets.now codes.new)) }
     ensures places { (result ≡ pos 0 → ⊥) → codes.new ≡ codes.old }
-    ensures refusals { OfGraph handle.old.held.roads (λ g. ReportsListRefusals
+    ensures refusals { OfGraph handle.old.held.shared (λ g. ReportsListRefusals
         (AreEndsIn g sources.now targets.now) (HasPlaces sources.now targets.now codes.old)
         algebra limit result) }
-    ensures closed { (result ≡ pos 4) ↔ (handle.old.held.roads ≡ None) }
+    ensures closed { (result ≡ pos 4) ↔ (handle.old.held.shared ≡ None) }
     ensures stopped { result ≡ pos 45 → IsSome handle.old.held.stop }
     ensures status { IsOneOf (0 ∷ 2 ∷ 3 ∷ 4 ∷ 17 ∷ 43 ∷ 45 ∷ []) result }
 {

@@ -22,7 +22,7 @@ impl SharedGraph {
     /// Takes the searcher out if it serves this algebra. Else it is freed, and another is made.
     fn take_searcher(&mut self, chosen: AlgebraChoice) -> Result<Box<KeptSearcher>, Memory>
         ensures kept { self.new ≡ self.old }
-        ensures searcher { IfOk result (λ k. IsKeptFor chosen self.old k.value) }
+        ensures searcher { IfOk result (λ k. IsKeptFor chosen self.old.roads k.value) }
     {
         if let Some(mut searcher) = self.searcher.take() {
             if searcher.turn_to(chosen) {
@@ -43,10 +43,11 @@ impl SharedGraph {
         ends: (Vertex, Vertex),
         halt: &mut Halt<'_>,
     ) -> Result<Nearby, Memory>
-        requires by_head { by_head.now ≡ self.old }
-        requires ends { HasBoth self.old ends.0 ends.1 }
+        requires by_head { by_head.now ≡ self.old.roads }
+        requires ends { HasBoth self.old.roads ends.0 ends.1 }
         ensures kept { self.new ≡ self.old }
-        ensures found { Under chosen (λ V A. IfOk result (IsFoundIfNear A self.old ends.0 ends.1)) }
+        ensures found { Under chosen (λ V A. IfOk result (IsFoundIfNear A self.old.roads ends.0
+            ends.1)) }
         ensures halts { IfOk result (λ near. near ≡ Undecided → CanHalt halt.old) }
     {
         let mut searcher = self.take_searcher(chosen)?;
@@ -59,7 +60,7 @@ impl SharedGraph {
     /// made.
     pub(crate) fn take_tree(&mut self, chosen: AlgebraChoice) -> Result<KeptTree, Memory>
         ensures kept { self.new ≡ self.old }
-        ensures tree { IfOk result (IsTreeKeptFor chosen self.old) }
+        ensures tree { IfOk result (IsTreeKeptFor chosen self.old.roads) }
     {
         if let Some(mut tree) = self.tree.take() {
             if tree.turn_to(chosen) {
@@ -71,7 +72,7 @@ impl SharedGraph {
 
     /// Puts a searcher for trees in.
     pub(crate) fn put_tree(&mut self, tree: KeptTree)
-        requires { graph_in tree ≡ self.old }
+        requires { graph_in tree ≡ self.old.roads }
         ensures { self.new ≡ self.old }
     {
         self.tree = Some(tree);

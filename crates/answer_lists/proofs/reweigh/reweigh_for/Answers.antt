@@ -1,21 +1,25 @@
-use Rattle.std.proofs.Common.{rules, ◌≡◌, ◌∙◌, ℕ, inl, inr, refl, subst}
+use Rattle.std.proofs.Common.{rules, ◌≡◌, ◌∙◌, ℕ, ap, inl, inr, refl, subst, true}
 use Rattle.std.specs.Prelude.{pos}
 use Rattle.road_graph.specs.GraphData.{GraphData}
 use Rattle.path_algebra.specs.Counted.{cost_of, CountsFit}
+use Rattle.path_algebra.specs.declared.counted_sums.Cost.{Cost}
 use Rattle.path_factors.specs.Reweighing.{JoinsNoOthers}
 use Rattle.factor_routes.specs.Reweighing.{IsCause}
 use Rattle.factor_routes.specs.declared.reweighed.Unweighed.{Unweighed}
+use Rattle.answer_lists.specs.Sharing.{Shared, is_factored}
 use Rattle.answer_lists.proofs.reweigh.reweigh_for.Goals as goal
 
 pub returns-in-Err-Heavy-clause-refusal : goal.returns-in-Err-Heavy-clause-refusal
 returns-in-Err-Heavy-clause-refusal c =
     let f = c.in-Some.factored.now in
-    let here : c.graph.result.now ≡ c.args.second.now = c.graph.ensures ∙ c.by_head.ensures.kept in
+    let here : c.graph.result.now ≡ c.args.second.now.roads = c.graph.ensures ∙ ap (λ (s : Shared). s.roads) c.by_head.ensures.kept in
     let cause = subst (λ (why : Unweighed). IsCause why c.graph.result.now f) c.in-Err-Heavy.field-0-is c.in-Err-Heavy.ensures.cause in
-    let none = subst (λ (g : GraphData). (k : ℕ) → CountsFit g (cost_of f.algebra.cost) k → ⊥) here cause in
-    let link : pos 8 ≡ pos 44 → JoinsNoOthers c.args.second.now c.args.first.now → ⊥ = search rules in
+    let of_cost = subst (λ (cost : Cost). (k : ℕ) → CountsFit c.graph.result.now (cost_of cost) k → ⊥) c.in-Some.ensures.cost cause in
+    let none = subst (λ (g : GraphData). (k : ℕ) → CountsFit g (cost_of c.args.cost) k → ⊥) here of_cost in
+    let link : pos 8 ≡ pos 44 → JoinsNoOthers c.args.second.now.roads c.args.first.now.roads → ⊥ = search rules in
+    let is : is_factored c.args.first.now c.args.cost ≡ true = search rules in
     record {
       one_of = inr (inl refl);
-      heavy = λ _. (f.algebra.cost, none);
+      heavy = λ _. (c.args.cost, is, none);
       link = link;
     }

@@ -2,6 +2,7 @@ use Rattle.std.proofs.Common.{rules, ◌≡◌, ◌+◌, ◌++◌, ◌<◌, List
 use Rattle.std.specs.Prelude.{IfSome}
 use Rattle.road_graph.specs.GraphData.{GraphData}
 use Rattle.route_tree.specs.Searchers.{IsSearcherOf}
+use Rattle.answer_lists.specs.Sharing.{Shared}
 use Rattle.answer_lists.specs.Table.{AreTableCodes}
 use Rattle.answer_lists.proofs.Tabling.{table_more}
 use Rattle.answer_lists.proofs.table.table.Goals as goal
@@ -12,11 +13,12 @@ loop-source-preserved g c =
     let lt : i < length a.ends.now.sources.now = search rules in
     let joined : c.extend_from_slice.new.self.items ≡ c.loop-source.codes.items ++ c.in-Some.row.items =
     c.in_ok-extend_from_slice.ensures.items ∙ ap (λ (xs : List ℕ). c.loop-source.codes.items ++ xs) c.deref.ensures.value in
-    let more = table_more A c.loop-source.shared a.ends.now.targets.now a.ends.now.sources.now c.loop-source.codes.items c.in-Some.row.items i (get_or a.ends.now.sources.now i 0) lt refl
+    let roads = ap (λ (s : Shared). s.roads) (sym c.row.ensures.graph) in
+    let more = table_more A c.loop-source.shared.roads a.ends.now.targets.now a.ends.now.sources.now c.loop-source.codes.items c.in-Some.row.items i (get_or a.ends.now.sources.now i 0) lt refl
     c.loop-source.invariant.table (rw c.in-Some.is at c.in_ok-row.ensures.row) in
     record {
       same = c.row.ensures.graph ∙ c.loop-source.invariant.same;
-      kept = subst (λ (x : GraphData). IfSome c.row.new.kept (IsSearcherOf a.algebra x)) (sym c.row.ensures.graph) c.in_ok-row.ensures.kept;
-      table = subst (λ (x : GraphData). AreTableCodes A x (take (i + 1) a.ends.now.sources.now) a.ends.now.targets.now c.extend_from_slice.new.self.items) (sym c.row.ensures.graph)
-          (subst (AreTableCodes A c.loop-source.shared (take (i + 1) a.ends.now.sources.now) a.ends.now.targets.now) (sym joined) more);
+      kept = subst (λ (x : GraphData). IfSome c.row.new.kept (IsSearcherOf a.algebra x)) roads c.in_ok-row.ensures.kept;
+      table = subst (λ (x : GraphData). AreTableCodes A x (take (i + 1) a.ends.now.sources.now) a.ends.now.targets.now c.extend_from_slice.new.self.items) roads
+          (subst (AreTableCodes A c.loop-source.shared.roads (take (i + 1) a.ends.now.sources.now) a.ends.now.targets.now) (sym joined) more);
     }

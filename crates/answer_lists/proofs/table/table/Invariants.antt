@@ -7,6 +7,6 @@ use Rattle.answer_lists.proofs.table.table.Given as goal
 abbrev pub invariant-loop-source : goal.invariant-loop-source
 invariant-loop-source g l = record {
   same : l.shared ≡ l.initial.shared;
-  kept : IfSome l.kept (IsSearcherOf l.algebra l.shared);
-  table : AreTableCodes (g.A.PathAlgebra.meaning l.algebra) l.shared (take l.source-index l.ends.sources.now) l.ends.targets.now l.codes.items;
+  kept : IfSome l.kept (IsSearcherOf l.algebra l.shared.roads);
+  table : AreTableCodes (g.A.PathAlgebra.meaning l.algebra) l.shared.roads (take l.source-index l.ends.sources.now) l.ends.targets.now l.codes.items;
 }

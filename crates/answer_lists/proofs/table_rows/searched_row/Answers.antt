@@ -6,7 +6,7 @@ use Rattle.answer_lists.proofs.table_rows.searched_row.Goals as goal
 
 pub loop-target-preserved : goal.loop-target-preserved
 loop-target-preserved g c =
-    let a = c.args in let A = g.A.PathAlgebra.meaning a.algebra in let roads = a.shared.now in let s = a.ends.now.source in let i = c.loop-target.target-index in
+    let a = c.args in let A = g.A.PathAlgebra.meaning a.algebra in let roads = a.shared.now.roads in let s = a.ends.now.source in let i = c.loop-target.target-index in
     let is = c.loop-target.invariant in let same = c.searched_code.ensures.searcher in
     let lt : i < length a.ends.now.targets.now = search rules in let t = get_or a.ends.now.targets.now i 0 in
     let coded : IsTableCode A roads s t c.in-Some.code =

@@ -13,7 +13,7 @@ use denote.RawPtr.{null_ptr}
 use denote.Steps.{nothing}
 use denote.Triple.Walked.{Stays, walk_of}
 use Rattle.std.proofs.raw_atomic.Walks.{proved_at, leaves}
-use Rattle.road_graph.specs.GraphData.{GraphData}
+use Rattle.answer_lists.specs.Sharing.{Shared}
 use Rattle.path_plain.specs.declared.halt.Stop.{Stop}
 use Rattle.arc_numbers.specs.Numbering.{Numbering}
 use Rattle.diffuse_c.proofs.Values.{alone, held_in}
@@ -32,6 +32,6 @@ nothing_spec 𝓤 𝓛 𝓜 𝓡 wired =
     enter ! 𝓣.C 𝓣.Λ fn [] Post $ alloc_all ! (λ l. pass_all ! refl tt $
     sets ! (agg ! (and_then ! (lit ! tt) (no_more !))) refl (tt, (record { fits = lit< tt }, tt)) $
     returns ! (look_at ! 0 refl) $ free_all ! refl $
-    nothing ! $ let e : Option GraphData = None in let y : Option Stop = None in let n : Option Numbering = None in
+    nothing ! $ let e : Option Shared = None in let y : Option Stop = None in let n : Option Numbering = None in
     held_in ! null_ptr e y n $ use0 𝓛 (raw (fact 𝓤 ((e ≡ None) × (y ≡ None) × (n ≡ None)))) (fact_i 𝓤 ((e ≡ None) × (y ≡ None) × (n ≡ None)) (emp 𝓤) (refl, refl, refl)) $ nothing ! $ nothing ! $ keep ! (0 ∷ 1 ∷ 3 ∷ 2 ∷ []) $
-    by ! (leaves 𝓛 ended hs c z (alone null_ptr) (record { at = null_ptr; roads = None; stop = None; numbers = None }) tt tt)))
+    by ! (leaves 𝓛 ended hs c z (alone null_ptr) (record { at = null_ptr; shared = None; stop = None; numbers = None }) tt tt)))

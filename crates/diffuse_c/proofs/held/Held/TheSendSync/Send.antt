@@ -9,7 +9,7 @@ use denote.RattleType.{RattleType}
 use denote.RawPtr.{Ptr, block_ptr, null_ptr, lies_at}
 use denote.Param.Send.{IsSend, owning_send, part_keyless, sendable}
 use Rattle.std.proofs.Crossing.{crosses, frees}
-use Rattle.road_graph.specs.GraphData.{GraphData}
+use Rattle.answer_lists.specs.Sharing.{Shared}
 use Rattle.answer_lists.specs.contracts.kept_searcher.KeptSearcher as kept
 use Rattle.answer_lists.specs.contracts.kept_tree.KeptTree as kept_tree
 use Rattle.path_plain.specs.declared.halt.Stop.{Stop}
@@ -42,9 +42,9 @@ numbering = search (sendable, crosses) depth 60 fits 100000
 inside : IsSend owner_row
 inside = search (sendable, crosses, sharing, stopping, numbering) depth 60 fits 100000
 
-keyless : (p : Ptr) (x : Option GraphData) (y : Option Stop) (n : Option Numbering) → Keyless (held_at p x y n)
+keyless : (p : Ptr) (x : Option Shared) (y : Option Stop) (n : Option Numbering) → Keyless (held_at p x y n)
 keyless p None y n = tt
 keyless p (Some g) y n = (lies owner_row inside p (owner_of g y n), frees.frees the_heap (raw (lone owner_row.mir)) p)
 
 pub send : IsSend the_row
-send = let ps : IsSend RawPtr = search sendable in owning_send the_type (ps, tt) (λ d. keyless d.at d.roads d.stop d.numbers) (λ k x w. tt)
+send = let ps : IsSend RawPtr = search sendable in owning_send the_type (ps, tt) (λ d. keyless d.at d.shared d.stop d.numbers) (λ k x w. tt)

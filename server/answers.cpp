@@ -42,6 +42,7 @@ void check(diffuse_status status) {
 
 void Asker::use(const std::shared_ptr<Roads> &others) {
     handle = Handle();
+    has_searched = false;
     roads = nullptr;
     room = {};
     lines = {};
@@ -72,8 +73,7 @@ size_t arc_of_step(Asker &asker, uint32_t tail, uint32_t head) {
     const Also *also = asker.roads->also.get();
     size_t count = arcs_from(asker.handle, tail, asker.arcs), found = count;
     auto weights = [&](size_t i) {
-        return std::make_pair(
-            asker.arcs[i].weight, also ? also->weights[also->first[tail - 1] + i] : 0);
+        return std::make_pair(asker.arcs[i].weight, also ? also->weight(tail, i) : 0);
     };
     for (size_t i = 0; i < count; i++)
         if (asker.arcs[i].head == head && (found == count || weights(i) < weights(found)))
@@ -85,8 +85,7 @@ uint64_t sum_along(Asker &asker, const uint32_t *route, size_t length) {
     const Also &also = *asker.roads->also;
     uint64_t sum = 0;
     for (size_t i = 1; i < length; i++)
-        sum +=
-            also.weights[also.first[route[i - 1] - 1] + arc_of_step(asker, route[i - 1], route[i])];
+        sum += also.weight(route[i - 1], arc_of_step(asker, route[i - 1], route[i]));
     return sum;
 }
 

@@ -21,8 +21,11 @@ struct Asker {
     std::vector<uint32_t> room;
     std::vector<diffuse_arc> arcs;
     Lines lines;
+    // Whether the handle may have lists of its searches.
+    bool has_searched = false;
 
-    // Changes to another graph, or std::bad_alloc; the old one is freed with its last asker.
+    // Takes a new handle on this graph, or std::bad_alloc; the old one, its lists and the room are
+    // freed, and the old graph with its last asker.
     void use(const std::shared_ptr<Roads> &others);
     // The best value of a route, its hops, and its vertices in the room; false if there is none.
     bool find(

@@ -13,13 +13,19 @@ inline void put(std::string &out, uint64_t number) {
     out.append(room, std::to_chars(room, room + sizeof room, number).ptr);
 }
 
+// In one room for all of them, since a route may have many.
 inline void put(std::string &out, const uint32_t *numbers, size_t count) {
-    out += '[';
+    constexpr size_t LONGEST = 12;
+    size_t begin = out.size();
+    out.resize(begin + 2 + LONGEST * count);
+    char *at = out.data() + begin;
+    *at++ = '[';
     for (size_t i = 0; i < count; i++) {
-        if (i) out += ", ";
-        put(out, numbers[i]);
+        if (i) *at++ = ',', *at++ = ' ';
+        at = std::to_chars(at, at + LONGEST, numbers[i]).ptr;
     }
-    out += ']';
+    *at++ = ']';
+    out.resize(size_t(at - out.data()));
 }
 
 inline void put(std::string &out, const std::vector<uint32_t> &numbers) {

@@ -7,12 +7,20 @@
 #include "manager.hpp"
 #include "reloads.hpp"
 #include <csignal>
+#include <malloc.h>
 #include <sys/resource.h>
 #include <system_error>
 #include <thread>
 #include <unistd.h>
 
 namespace {
+
+// What is freed goes back to the system, or to all threads: long lists are mapped by themselves, and
+// the threads have one arena.
+void share_memory() {
+    mallopt(M_MMAP_THRESHOLD, 1 << 17);
+    mallopt(M_ARENA_MAX, 1);
+}
 
 // As many descriptors as connections need; or else fewer connections.
 void allow_descriptors(Options &options) {
@@ -150,6 +158,7 @@ int main(int count, char **words) {
     const auto reload = set_of({SIGHUP});
     pthread_sigmask(SIG_BLOCK, &reload, nullptr);
     std::signal(SIGPIPE, SIG_IGN);
+    share_memory();
     std::string error;
     try {
         serve(options);

@@ -95,12 +95,27 @@ void Roads::read_also(const std::string &name, const std::string &path) {
     }
 }
 
-Handle Roads::take() {
+Handle Roads::take_from(std::vector<Handle> &handles) {
     std::lock_guard<std::mutex> held(lock);
-    if (shares.empty()) return share();
-    auto taken = std::move(shares.back());
-    shares.pop_back();
+    if (handles.empty()) return share();
+    auto taken = std::move(handles.back());
+    handles.pop_back();
     return taken;
+}
+
+Handle Roads::take() { return take_from(shares); }
+
+Handle Roads::take_for_tree() { return take_from(for_trees); }
+
+void Roads::give_back(Handle for_tree) noexcept try {
+    std::lock_guard<std::mutex> held(lock);
+    for_trees.push_back(std::move(for_tree));
+} catch (const std::bad_alloc &) {
+}
+
+void Roads::free_idle() {
+    std::lock_guard<std::mutex> held(lock);
+    for_trees.clear();
 }
 
 Handle Roads::share() {

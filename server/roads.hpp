@@ -15,6 +15,9 @@ struct Also {
     Origin origin;
     std::vector<size_t> first;
     std::vector<uint32_t> weights;
+
+    // Of an arc that leaves a vertex, by its place among those, from 0.
+    uint32_t weight(uint32_t tail, size_t place) const { return weights[first[tail - 1] + place]; }
 };
 
 class Roads {
@@ -25,6 +28,12 @@ class Roads {
     // A further handle on the one graph, for a thread that asks; those of all threads are made
     // when the graph is read, so that none is refused for want of memory later.
     Handle take();
+    // A handle for the time of a tree: so no more have the lists of one than there were trees at
+    // once.
+    Handle take_for_tree();
+    void give_back(Handle for_tree) noexcept;
+    // Frees those that no tree has.
+    void free_idle();
     // What /health says.
     std::string health() const;
 
@@ -47,9 +56,10 @@ class Roads {
     uint32_t largest_part = 0;
     std::mutex lock;
     Handle first;
-    std::vector<Handle> shares;
+    std::vector<Handle> shares, for_trees;
 
     Handle share();
+    Handle take_from(std::vector<Handle> &handles);
     void factor();
     void read_places(const std::string &path);
     // Whether it is factored over the links of another graph: not if an arc has none there, or if

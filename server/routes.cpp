@@ -70,7 +70,7 @@ std::string steps(Asker &asker, const std::vector<uint32_t> &route) {
         auto &street = streets.back();
         street.value += asker.arcs[arc].weight;
         street.hops++;
-        if (roads.also) street.sum += roads.also->weights[roads.also->first[tail - 1] + arc];
+        if (roads.also) street.sum += roads.also->weight(tail, arc);
     }
     std::string out;
     for (auto &street : streets) out += (out.empty() ? "" : ", ") + street.shown(roads);

@@ -42,14 +42,19 @@ void Searches::wake_one() {
     idle.pop_back();
 }
 
-void Searches::wait_for_work(
+// False if there was none for so long that the asker is to give back the lists of its searches.
+bool Searches::wait_for_work(
     const Asker &asker, std::condition_variable &woken, std::unique_lock<std::mutex> &held) {
+    auto end = Clock::now() + std::chrono::microseconds(int64_t(options.idle * 1e6));
     while (roads == asker.roads && quick.empty() && !may_take_long()) {
+        if (asker.has_searched && Clock::now() >= end) return false;
         idle.push_back(&woken);
-        woken.wait(held);
+        if (asker.has_searched) woken.wait_until(held, end);
+        else woken.wait(held);
         // It may have woken by itself.
         idle.erase(std::remove(idle.begin(), idle.end(), &woken), idle.end());
     }
+    return true;
 }
 
 // The next request, of which an older long one goes first: but all threads but one may have long
@@ -73,20 +78,23 @@ void Searches::work() {
     for (;;) {
         std::shared_ptr<Roads> now;
         std::shared_ptr<Request> request;
+        bool is_rested = false;
         {
             std::unique_lock<std::mutex> held(lock);
-            wait_for_work(asker, woken, held);
+            is_rested = !wait_for_work(asker, woken, held);
             now = roads;
             if (!quick.empty() || may_take_long()) request = take(asker);
         }
-        if (now != asker.roads) change_graph(asker, now);
+        if (is_rested) now->free_idle();
+        if (is_rested || now != asker.roads) change_graph(asker, now);
         now = nullptr;
         if (!request) continue;
         end(request, answer_to(asker, *request));
     }
 }
 
-// Without memory for it the asker has no graph, and tries again soon.
+// Or to a new handle on the same one. Without memory for it the asker has no graph, and tries again
+// soon.
 void Searches::change_graph(Asker &asker, const std::shared_ptr<Roads> &now) try {
     asker.use(now);
 } catch (const std::bad_alloc &) {
@@ -96,6 +104,7 @@ void Searches::change_graph(Asker &asker, const std::shared_ptr<Roads> &now) try
 Reply Searches::answer_to(Asker &asker, const Request &request) {
     Reply reply;
     if (!asker.roads) return reply.refuse_briefly(), reply;
+    asker.has_searched = true;
     try {
         reply.text = answer(asker, request.path, request.fields, options.snap_limit);
         reply.text.shrink_to_fit();

@@ -48,7 +48,7 @@ class Searches {
     size_t most_long() const { return std::max(1u, options.handles - 1); }
     bool may_take_long() const { return !slow.empty() && long_ones < most_long(); }
     void work();
-    void wait_for_work(const Asker &asker, std::condition_variable &woken,
+    bool wait_for_work(const Asker &asker, std::condition_variable &woken,
         std::unique_lock<std::mutex> &held);
     void wake_one();
     std::shared_ptr<Request> take(Asker &asker);

@@ -17,12 +17,24 @@ Format format_of(const Asked &asked) {
     throw refusal(400, "format: " + value->shown() + " is not 'geojson' or 'hull'");
 }
 
+// A handle for the time of a tree, with the asker's stop.
+struct Lent {
+    Roads &roads;
+    Handle handle;
+
+    explicit Lent(Asker &asker) : roads(*asker.roads), handle(roads.take_for_tree()) {
+        check(diffuse_graph_stop_by(handle.at(), asker.stop.at()));
+    }
+    ~Lent() { roads.give_back(std::move(handle)); }
+};
+
 // Finds what is within a limit; gives how many lines there are.
 size_t find(Asker &asker, uint64_t limit, const std::vector<uint32_t> &sources) {
+    Lent lent(asker);
     Lines &lines = asker.lines;
     size_t n = std::min<size_t>(LONGEST_TREE, asker.roads->vertices), count = 0;
     lines.resize(n);
-    auto status = diffuse_graph_near(asker.handle.at(), DIFFUSE_ALGEBRA_WITHIN, limit,
+    auto status = diffuse_graph_near(lent.handle.at(), DIFFUSE_ALGEBRA_WITHIN, limit,
         sources.data(), sources.size(), lines.vertices.data(), n, lines.codes.data(), n,
         lines.hops.data(), n, lines.parents.data(), n, &count);
     if (status == DIFFUSE_STATUS_NO_ROOM)

@@ -291,6 +291,8 @@ public:
         found.hops = first(lists.hops, count), found.parents = first(lists.parents, count);
         return found;
     }
+    // By an algebra's number, what is near has a limit too, so that none is forgotten.
+    near_lines near(numbers sources, algebra by) const = delete;
 
     verdict check(const diffuse::tree& lines, numbers sources, measure by = shortest) const {
         return check(lines.codes, lines.hops, lines.parents, sources, by);
@@ -343,6 +345,7 @@ public:
         if (status != DIFFUSE_STATUS_NO_ROOM) expect(status);
         return count;
     }
+    std::size_t near_into(room, view<std::uint64_t>, room, room, numbers, algebra) const = delete;
     void table_into(view<std::uint64_t> codes, numbers sources, numbers targets, measure by = shortest) const {
         expect(diffuse_graph_table(&at, by.number(), by.limit(), sources.data(), sources.size(), targets.data(), targets.size(),
                                    codes.data(), codes.size()));

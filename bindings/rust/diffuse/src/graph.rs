@@ -189,34 +189,39 @@ impl Graph {
     /// The vertices that are reached from the nearest of the sources, the best first, each with its label. It costs what it
     /// returns: less than a tree, if [`Algebra::Within`] reaches only a part of the graph.
     pub fn near(&self, algebra: Algebra, sources: &[u32]) -> Result<Vec<(u32, Label)>, Error> {
-        let (number, limit) = algebra.number_and_limit();
         let mut count = FEW.min(self.vertices() as usize);
         loop {
             let (mut vertices, mut tree) = (vec![0; count], Tree::unreached(count));
-            // SAFETY: as in `share`; each slice is valid for its length.
-            let status = unsafe {
-                diffuse_graph_near(
-                    self.handle.get(),
-                    number,
-                    limit,
-                    sources.as_ptr(),
-                    sources.len(),
-                    vertices.as_mut_ptr(),
-                    vertices.len(),
-                    tree.codes.as_mut_ptr(),
-                    tree.codes.len(),
-                    tree.hops.as_mut_ptr(),
-                    tree.hops.len(),
-                    tree.parents.as_mut_ptr(),
-                    tree.parents.len(),
-                    &mut count,
-                )
-            };
+            let status = self.near_into(algebra, sources, &mut vertices, &mut tree, &mut count);
             if status != NO_ROOM {
                 error::done(status)?;
                 vertices.truncate(count);
                 return Ok(vertices.into_iter().zip(tree.labels()).collect());
             }
+        }
+    }
+
+    /// Writes what is near into lists, and how many vertices these are; returns the status.
+    fn near_into(&self, algebra: Algebra, sources: &[u32], vertices: &mut [u32], tree: &mut Tree, count: &mut usize) -> i32 {
+        let (number, limit) = algebra.number_and_limit();
+        // SAFETY: as in `share`; each slice is valid for its length.
+        unsafe {
+            diffuse_graph_near(
+                self.handle.get(),
+                number,
+                limit,
+                sources.as_ptr(),
+                sources.len(),
+                vertices.as_mut_ptr(),
+                vertices.len(),
+                tree.codes.as_mut_ptr(),
+                tree.codes.len(),
+                tree.hops.as_mut_ptr(),
+                tree.hops.len(),
+                tree.parents.as_mut_ptr(),
+                tree.parents.len(),
+                count,
+            )
         }
     }
 
@@ -251,7 +256,7 @@ impl Graph {
         error::done(unsafe { diffuse_graph_factor(self.handle.get(), algebra.number_and_limit().0) })
     }
 
-    /// A second graph, of other arcs on the same vertices, factored as this one is, over the same links, in a fraction of the time.
+    /// A second graph, of other arcs on the same vertices, factored as this one is, over the same links, in about half the time.
     ///
     /// Refused with [`Error::TooHeavy`] if the weights are too great for factors, and with [`Error::NoLink`] if an arc joins
     /// vertices that no arc of this graph joins, and that the factors do not link. Then it can be opened and factored anew.

@@ -1,9 +1,9 @@
 #!/usr/bin/env python3
-"""Draws the pictures of the documents but speed.svg and factors.svg, which benchmarks/run draws.
+"""Draws mailboxes.svg, and the answers five_vertices.svg and small_town.svg, as examples/draw draws them.
 
     docs/pictures/draw.py [PROGRAM]          PROGRAM is crates/diffuse/out/diffuse, which ./demo makes; needs Graphviz
 
-five_vertices.svg and small_town.svg are answers, as examples/draw draws them; mailboxes.svg is drawn here.
+benchmarks/run draws speed.svg and factors.svg, and the programs of PLANNING.md draw theirs.
 """
 import re
 import subprocess

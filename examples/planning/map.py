@@ -6,5 +6,5 @@ harbour, hospital = (0.0001, -0.0001), (0.0079, 0.0041)  # longitude and latitud
 route = island.route(harbour, hospital, by="seconds")
 near = island.isochrone(hospital, by="seconds", limits=[20, 40, 60, 80], towards=True)
 island.draw("island.svg", near, route, labels={harbour: "Harbour", hospital: "Hospital"},
-            title="To the hospital")
+            title="By car to the hospital")
 print(island.report, route, sep="\n")

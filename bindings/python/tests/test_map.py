@@ -79,7 +79,8 @@ class Maps(WithFiles):
     def test_directions(self):
         for tags, wanted in (({}, 0), ({"oneway": "yes"}, 1), ({"oneway": "-1"}, -1), ({"oneway": "no"}, 0), ({"highway": "motorway"}, 1),
                              ({"highway": "motorway", "oneway": "no"}, 0), ({"junction": "roundabout"}, 1), ({"junction": "roundabout", "oneway": "-1"}, -1),
-                             ({"oneway": "reversible"}, 0), ({"highway": "primary", "oneway": "1"}, 1)):
+                             ({"oneway": "reversible"}, 0), ({"highway": "primary", "oneway": "1"}, 1), ({"highway": "motorway_link"}, 1),
+                             ({"highway": "motorway_link", "oneway": "no"}, 0), ({"highway": "trunk_link"}, 0), ({"junction": "circular"}, 1)):
             self.assertEqual(diffuse.DRIVING.direction(tags), wanted, tags)
 
     def test_speeds(self):

@@ -33,6 +33,22 @@ PUBLIC = {
 }
 
 
+# Of each status its class, the status of HTTP, and words of what it means; of each reason its name and such words.
+STATUSES = {
+    1: ("NoRoute", 404, "No walk"), 2: ("NoRoom", 400, "one place for each vertex"), 3: ("OutOfMemory", 503, "no memory"), 4: ("Closed", 503, "closed"),
+    5: ("AlreadyOpen", 500, "to be opened"), 6: ("WrongTree", 422, "at vertex 4"), 7: ("TooDense", 422, "too many links"), 8: ("TooHeavy", 422, "weights are so great"),
+    9: ("NoFactors", 422, "no factors"), 10: ("NoProblemLine", 400, "no problem line"), 11: ("SecondProblemLine", 400, "second problem line"),
+    12: ("BadProblemLine", 400, "not `p sp VERTICES ARCS`"), 13: ("UnknownLine", 400, "none of c, p and a"), 14: ("WrongFields", 400, "number of fields"),
+    15: ("NotANumber", 400, "whole number"), 16: ("OutOfRange", 400, "limits"), 17: ("NoVertex", 404, "no vertex"), 18: ("TooManyArcs", 400, "More arc lines"),
+    19: ("TooFewArcs", 400, "Fewer arc lines"), 43: ("NoAlgebra", 400, "no such algebra"), 44: ("NoLink", 422, "no link"), 45: ("Stopped", 500, "stop was set"),
+    46: ("OtherArcs", 400, "not those of the graph"), 47: ("NoNumbers", 500, "not numbered"),
+}
+REASONS = {
+    1: ("NOT_A_SOURCE_LINE", "a source has the value of no arcs"), 2: ("NOT_BEST", "an arc gives a better value"), 3: ("NO_PARENT", "the parent does not give it"),
+    4: ("OTHER_HOPS", "the hops are not one more"), 5: ("LESSER_PARENT", "a lesser vertex could be the parent"), 6: ("HAS_WALK", "reported unreached"),
+}
+
+
 def kinds():
     """The public classes that are no exceptions, by their names."""
     named = ((name, getattr(diffuse, name)) for name in diffuse.__all__)
@@ -84,7 +100,17 @@ class Package(unittest.TestCase):
         self.assertEqual(numbers["status"], {0, *diffuse.errors.BY_STATUS})
         self.assertEqual(numbers["algebra"], {int(algebra) for algebra in diffuse.Algebra})
         self.assertEqual(numbers["reason"], {int(reason) for reason in diffuse.Reason})
-        self.assertTrue(all(reason.text for reason in diffuse.Reason))
+
+    def test_each_status_and_reason(self):
+        """By its number: the class or the name, the status of HTTP, and what it means; the message of a wrong tree has its reason."""
+        for status, (name, http, words) in STATUSES.items():
+            error = diffuse.WrongTree(4, 2) if name == "WrongTree" else diffuse.errors.refusal(status)
+            self.assertEqual((type(error).__name__, error.status, error.http, error.as_dict()["status"]), (name, status, http, status))
+            self.assertIn(words, str(error))
+            self.assertIs(diffuse.errors.BY_STATUS[status], getattr(diffuse, name))
+        for number, (name, words) in REASONS.items():
+            self.assertEqual(diffuse.Reason[name], number)
+            self.assertRegex(str(diffuse.WrongTree(4, number)), f"^the tree is wrong at vertex 4: .*{words}")
 
     def test_names_that_are_exported(self):
         for name in diffuse.__all__:
@@ -153,6 +179,19 @@ class Package(unittest.TestCase):
                 return int(open("/proc/self/statm").read().split()[1])
             first = pages_after(100)
             print(pages_after(3000) - first < 1024)
+        """
+        self.assertEqual(self.said(code, MALLOC_ARENA_MAX="1"), "True\n")
+
+    def test_stops_are_freed(self):
+        """A hundred thousand stops that nobody frees take 4 MB more than a thousand at most."""
+        code = """if True:
+            import diffuse
+            def pages_after(times):
+                for _ in range(times):
+                    diffuse.Stop().set()
+                return int(open("/proc/self/statm").read().split()[1])
+            first = pages_after(1000)
+            print(pages_after(100_000) - first < 1024)
         """
         self.assertEqual(self.said(code, MALLOC_ARENA_MAX="1"), "True\n")
 

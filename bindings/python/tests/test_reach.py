@@ -1,9 +1,12 @@
 """How far along roads an isochrone reaches, and polygons of cells. Expected values by hand."""
 import json
 import unittest
+from array import array
+from dataclasses import replace
 
 import diffuse
 from diffuse import Network
+from diffuse.roads import Cost
 from diffuse.trees import parts_of, rings_of
 
 from .test_network import WithFiles
@@ -35,6 +38,14 @@ class Roads(WithFiles):
         """From A and D: D to C 2, A to B 4; C to B is met 2 minutes after C, at B."""
         near = line_of_four().isochrone(["B", "D"], by="minutes", limits=[1, 9])
         self.assertEqual(rounded(near.roads()), [(1, [(.004, 0), (.005, 0)]), (1, [(.008, 0), (.007, 0)]), (9, [(.005, 0), (.006, 0)]), (9, [(.007, 0), (.006, 0)])])
+
+    def test_unlike_directions(self):
+        """A to B takes 4 minutes and back 2: from both ends they meet where 4f = 2(1 - f), at a third of the road."""
+        line = Network.from_table({"a": ["A"], "b": ["B"], "m": [1]}, tail="a", head="b", costs={"m": 1}, both_ways=True, places=PLACES)
+        network = Network(replace(line._roads, costs={"m": Cost(array("I", [4, 2]), 1)}), line.coordinates)
+        self.assertEqual(rounded(network.isochrone(["A", "B"], by="m", limits=[9]).roads()), [(9, [(0, 0), (.001333, 0)]), (9, [(.004, 0), (.001333, 0)])])
+        self.assertEqual(rounded(network.isochrone("A", by="m", limits=[1, 3]).roads()), [(1, [(0, 0), (.001, 0)]), (3, [(.001, 0), (.003, 0)])])
+        self.assertEqual(rounded(network.isochrone("B", by="m", limits=[1]).roads()), [(1, [(.004, 0), (.002, 0)])])
 
     def test_roads_of_no_minutes(self):
         network = Network.from_table({"a": ["A"], "b": ["B"], "m": [0]}, tail="a", head="b", costs={"m": 1}, both_ways=True, places=PLACES)

@@ -159,6 +159,19 @@ class Pictures(WithFiles):
         self.assertEqual(labels.place("name", (500, 500), True), (508, 500, "start"))
         self.assertEqual(labels.place("at the edge", (990, 300), False), (982, 300, "end"))
 
+    def test_labels_stay_off_roads(self):
+        labels = Boxes(Frame(diffuse.Coordinates({"A": (0.0, 0.0), "B": (1.0, 1.0)}), "AB", 1000), [((500, 500), (600, 500)), ((470, 480), (470, 520))])
+        self.assertEqual(labels.place("name", (500, 500), False), (500, 485, "middle"))  # one road leads to the right, one is to the left
+
+    def test_streets_have_their_names(self):
+        roads = {"a": ["A", "B", "B", "C"], "b": ["B", "C", "D", "D"], "m": [1, 1, 1, 1], "road": ["Quay", "(track)", "A name that is longer than its alley", "Quay"]}
+        network = Network.from_table(roads, tail="a", head="b", costs={"m": 1}, street="road", both_ways=True,
+                                     places={"place": ["A", "B", "C", "D"], "lon": [0, 2, 2, 2.1], "lat": [0, 0, 1, 0.5]})
+        path, _, _, words = self.drawn(network)
+        self.assertEqual(words, ["A", "B", "C", "D", "Quay"])
+        x, y, turn = map(float, re.search(r"translate[(]([\d.]+) ([\d.]+)[)] rotate[(]([-\d.]+)[)]", path.read_text()).groups())
+        self.assertEqual((round(x, 1), turn), (round(40 + 920 / 2.1, 1), 0))  # in the middle of 2 of 2.1 degrees, and level
+
     def test_names_are_escaped(self):
         network = Network.from_table({"a": ["<A>"], "b": ["B&C"], "m": [1]}, tail="a", head="b", costs={"m": 1},
                                      places={"place": ["<A>", "B&C"], "lon": [0, 1], "lat": [0, 0]})

@@ -4,7 +4,7 @@ from __future__ import annotations
 
 import re
 from bisect import bisect_left
-from math import cos, isfinite, radians, sqrt
+from math import atan2, cos, degrees, hypot, isfinite, radians, sin, sqrt
 from typing import (
     TYPE_CHECKING, Any, Container, Hashable, Iterable, Iterator, Mapping, Optional, Sequence,
     Union,
@@ -22,8 +22,8 @@ from .trees import Isochrone, NamedTree
 if TYPE_CHECKING:
     from .network import Network
 
-MARGIN, SIZE = 40, 14
-"""The margin of a picture and the height of its words, in pixels."""
+MARGIN, SIZE, SMALL = 40, 14, 12
+"""The margin of a picture and the height of its words and of names of streets, in pixels."""
 WIDTHS = (160, 100_000)
 """The least and the greatest width of a picture."""
 ROAD, ROUTE, INK = "#c4c4c4", "#d7301f", "#222222"
@@ -37,6 +37,11 @@ STYLE = (".diffuse text { paint-order: stroke; stroke: white; stroke-width: 4px 
 LABELS = Argument("labels", needed="a list of places, or places with words,")
 Labels = Union[Iterable[Hashable], Mapping[Hashable, str]]
 Answers = Sequence[Union[NamedRoute, NamedTree]]
+if TYPE_CHECKING:
+    Box = tuple[float, float, float, float]
+    """Left, top, right and bottom of a part of a picture."""
+    Stretch = tuple[Point, Point]
+    """The ends of a straight piece of a road in a picture."""
 
 
 class Frame:
@@ -71,33 +76,62 @@ class Frame:
 
 
 class Boxes:
-    """The boxes of labels beside points, each on the first side where it covers no other."""
+    """The boxes of words in a picture, none of which covers another."""
 
-    def __init__(self, frame: Frame) -> None:
-        self._frame = frame
-        self._boxes: list[tuple[float, float, float, float]] = []
+    def __init__(self, frame: Frame, stretches: Sequence[Stretch] = ()) -> None:
+        """No words yet, and the roads that labels had better not cover."""
+        self._frame, self._stretches = frame, stretches
+        self._boxes: list[Box] = []
 
     def place(self, name: str, at: Point, needed: bool) -> Optional[tuple[float, float, str]]:
-        """Where a label begins, or ends or has its middle (its text-anchor); None if there is no
-        room and it is not needed."""
+        """Where the label of a point begins, or ends or has its middle (its text-anchor): on the
+        first of the sides where it covers the fewest roads; None if there is no room and it is
+        not needed."""
         x, y = at
-        wide = 0.6 * SIZE * len(name)
-        sides = [(x + 8, y, "start", x + 8), (x - 8, y, "end", x - 8 - wide),
-                 (x, y - SIZE - 1, "middle", x - wide / 2),
-                 (x, y + SIZE + 1, "middle", x - wide / 2)]
-        for left, middle, anchor, begin in sides:
-            box = (begin, middle - SIZE / 2, begin + wide, middle + SIZE / 2)
-            if self._is_free(box):
-                self._boxes.append(box)
-                return left, middle, anchor
-        return sides[0][:3] if needed else None
+        wide, high = 0.6 * SIZE * len(name), SIZE + 1
+        sides = [(x + 8, y, "start"), (x - 8, y, "end"), (x, y - high, "middle"),
+                 (x, y + high, "middle"), (x + 6, y - 12, "start"), (x + 6, y + 12, "start"),
+                 (x - 6, y - 12, "end"), (x - 6, y + 12, "end")]
+        free = []
+        for side in sides:
+            begin = side[0] - wide * {"start": 0, "middle": 0.5, "end": 1}[side[2]]
+            box = (begin, side[1] - SIZE / 2, begin + wide, side[1] + SIZE / 2)
+            if self.is_free(box):
+                free.append((sum(crosses(line, box) for line in self._stretches), side, box))
+        if not free:
+            return sides[0] if needed else None
+        _, side, box = min(free, key=lambda found: found[0])
+        self._boxes.append(box)
+        return side
 
-    def _is_free(self, box: tuple[float, float, float, float]) -> bool:
+    def take(self, box: Box) -> bool:
+        """Takes a box, if it is free."""
+        if not self.is_free(box):
+            return False
+        self._boxes.append(box)
+        return True
+
+    def is_free(self, box: Box) -> bool:
+        """Whether a box is inside the picture, and covers no other."""
         left, top, right, bottom = box
         frame = self._frame
         inside = left >= 0 and right <= frame.width and top >= 0 and bottom <= frame.height
         return inside and all(right < a or c < left or bottom < b or d < top
                               for a, b, c, d in self._boxes)
+
+
+def crosses(stretch: Stretch, box: Box) -> bool:
+    """Whether some point of a straight line is in a box."""
+    (x, y), (u, v) = stretch
+    left, top, right, bottom = box
+    begin, end = 0.0, 1.0
+    for step, low, high in ((u - x, left - x, right - x), (v - y, top - y, bottom - y)):
+        if step == 0:
+            begin = begin if low <= 0 <= high else 2.0
+        else:
+            begin, end = max(begin, min(low / step, high / step)), min(
+                end, max(low / step, high / step))
+    return begin <= end
 
 
 def draw(network: Network, path: Target, answers: Answers, labels: Optional[Labels], title: str,
@@ -126,7 +160,10 @@ def draw(network: Network, path: Target, answers: Answers, labels: Optional[Labe
     few = list(network.places) if len(network.places) <= FEW else []
     body += dots(frame, list(dict.fromkeys(ends)), few)
     said = {**{place: words.get(place, str(place)) for place in ends}, **words}
-    body += names(frame, said, ends if labels is None else words)
+    named = stretches(frame, network) if few else []
+    taken = Boxes(frame, [stretch for stretch, _ in named])
+    body += names(frame, taken, said, ends if labels is None else words)
+    body += streets(taken, named)
     return write(path, svg(frame, body, legend, str(title)))
 
 
@@ -260,15 +297,56 @@ def dots(frame: Frame, ends: list[Hashable], places: list[Hashable]) -> Iterator
         yield circle(frame, place, 6, "white") + circle(frame, place, 3.5, INK)
 
 
-def names(frame: Frame, words: Mapping[Hashable, str],
+def names(frame: Frame, taken: Boxes, words: Mapping[Hashable, str],
           needed: Container[Hashable]) -> Iterator[str]:
     """The words beside places, of those that are not needed only where there is room."""
-    taken = Boxes(frame)
     for place, name in words.items():
         if place in frame.at:
             found = taken.place(name, frame.at[place], place in needed)
             if found:
                 yield words_at(*found, name)
+
+
+def stretches(frame: Frame, network: Network) -> list[tuple[Stretch, str]]:
+    """The straight pieces of all roads in the picture, each from left to right or upwards, and
+    the names of their streets; of a street without one it is empty."""
+    roads, places = network._roads, network.coordinates
+    if places is None:
+        return []
+    cells = None if roads.street is None else roads.table.column(roads.street)
+    found: set[tuple[Stretch, str]] = set()
+    for arc in range(len(roads.tails)):
+        name = "" if cells is None else str(cells[roads.rows[arc]] or "")
+        points = [frame.point(at) for at in roads.line(arc, places)]
+        found |= {(rightwards(*ends), "" if name.startswith("(") else name)
+                  for ends in zip(points, points[1:])}
+    return sorted(found)
+
+
+def rightwards(one: Point, other: Point) -> Stretch:
+    """Two points, from left to right, or upwards."""
+    return (one, other) if (one[0], other[1]) <= (other[0], one[1]) else (other, one)
+
+
+def streets(taken: Boxes, named: Iterable[tuple[Stretch, str]]) -> Iterator[str]:
+    """The names of streets, each beside its longest straight piece, where there is room."""
+    longest: dict[str, tuple[float, Stretch]] = {}
+    for stretch, name in named:
+        (x, y), (u, v) = stretch
+        longest[name] = max(longest.get(name, (0.0, stretch)), (hypot(u - x, v - y), stretch))
+    for name, (length, ((x, y), (u, v))) in longest.items():
+        wide, turn = 0.6 * SMALL * len(name), atan2(v - y, u - x)
+        for side in (-SMALL, SMALL):
+            middle = (x + u) / 2 - side * sin(turn), (y + v) / 2 + side * cos(turn)
+            half = [(abs(cos(turn)) * one + abs(sin(turn)) * other) / 2
+                    for one, other in ((wide, SMALL), (SMALL, wide))]
+            box = (middle[0] - half[0], middle[1] - half[1],
+                   middle[0] + half[0], middle[1] + half[1])
+            if name and wide <= length and taken.take(box):
+                yield (f'<text transform="translate({middle[0]:.1f} {middle[1]:.1f}) '
+                       f'rotate({degrees(turn):.1f})" dy=".35em" text-anchor="middle" '
+                       f'font-size="{SMALL}">{escape(name)}</text>')
+                break
 
 
 def escape(words: str) -> str:

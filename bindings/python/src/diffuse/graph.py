@@ -120,7 +120,7 @@ class Graph:
     def with_weights(self: Own, weights: Column) -> Own:
         """A second graph, of the same arcs with other weights.
 
-        It is factored as this one is, over the same links, in a fraction of the time.
+        It is factored as this one is, over the same links, in about half the time.
 
         Parameters
         ----------

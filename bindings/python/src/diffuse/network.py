@@ -274,7 +274,7 @@ class Network:
 
         Parameters
         ----------
-        path : str, path, or open file of bytes
+        path : as `save` takes it
 
         Raises
         ------
@@ -727,6 +727,8 @@ class Network:
     def draw(self, path: Target, *answers: Union[NamedRoute, NamedTree],
              labels: Optional[Labels] = None, title: str = "", width: int = 1000) -> Optional[str]:
         """Writes an SVG of the network, and over it trees, isochrones and routes of its own.
+
+        If places are few, streets have their names where there is room.
 
         Parameters
         ----------

@@ -203,6 +203,10 @@ static void reweighs(void) {
     IS(0, is_far(&second, 31));
     diffuse_graph_close(&second);
     open_shape(0, 65536, 1);
+    IS(DIFFUSE_STATUS_DONE, diffuse_graph_factor(&graph, DIFFUSE_ALGEBRA_HOPS));
+    IS(DIFFUSE_STATUS_DONE, reweigh(shape(0, 65536, 4294967295u), 65535)); /* hops need no sums of weights */
+    IS(1, is_far(&second, UINT64_C(12884901885)));
+    diffuse_graph_close(&second);
     IS(DIFFUSE_STATUS_DONE, diffuse_graph_factor(&graph, DIFFUSE_ALGEBRA_SHORTEST));
     IS(DIFFUSE_STATUS_HEAVY, reweigh(shape(0, 65536, 4294967295u), 65535));
     IS(DIFFUSE_STATUS_DONE, reweigh(shape(0, 65536, 2), 65535));

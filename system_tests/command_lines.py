@@ -264,4 +264,23 @@ HELP = [
         "order --help", "faults --help", "faults")),
     *((line, 2) for line in WRONG),
 ]
-FAULTS = [1, 2, 3, *range(10, 21), *range(30, 37), *range(40, 45)]
+
+# What the explanation of each fault has: in its meaning, and in its cause.
+EXPLAINED = {
+    1: ("opened or read", "no such file"), 2: ("4294967296 bytes", "endless stream"), 3: ("start of a worker", "too little memory"),
+    10: ("no problem line", "first lines were cut off"), 11: ("second problem line", "two files in one"), 12: ("wrong fields", "another format"),
+    13: ("does not have", "compressed file"), 14: ("number of fields", "arcs without weights"), 15: ("not a number", "scale the weights"),
+    16: ("too large", "weight above 4294967295"), 17: ("no such vertex", "numbered from 0"), 18: ("more lines", "counted once"), 19: ("fewer lines", "cut short"),
+    20: ("earlier line of an order", "`gpmetis`"), 30: ("begin with a header", "another file"), 31: ("algebra that is not here", "misspelled name"),
+    32: ("does not belong", "sorted, left out"), 33: ("number of fields", "`d V VALUE HOPS PARENT`"), 34: ("not a number", "`inf`"), 35: ("too large", "huge value"),
+    36: ("end before the last", "has not ended"), 40: ("limit of turns", "`--turns`"), 41: ("gate stopped", "caller's own"), 42: ("output", "full disk"),
+    43: ("go with the algebra", "required with `within`"), 44: ("too dense", "more arcs than roads have"),
+}
+
+# What help says of each algebra, and of each reason of a verdict.
+SAID = [
+    ("solve --help", {"shortest": "the least sum of weights", "widest": "the greatest least weight", "reach": "any", "hops": "the fewest arcs",
+                      "reliable": "the greatest product of chances", "within": "the least sum of weights, up to `--limit`"}),
+    ("check --help", {"1": "wrong header, question, source", "2": "there is a better value", "3": "not a possible value", "4": "wrong hops", "5": "a lower-numbered parent",
+                      "6": "marked unreached", "7": "another route"}),
+]

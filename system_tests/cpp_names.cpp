@@ -1,9 +1,11 @@
 // Each member of diffuse.hpp, held against an answer about the five vertices that was worked out by hand. Each wrong one is printed.
-// Link with -Wl,--wrap=diffuse_graph_route,--wrap=diffuse_graph_near. With FORGOTTEN it must not compile: `within` has no limit.
+// Link with -Wl,--wrap=diffuse_graph_route,--wrap=diffuse_graph_near. With FORGOTTEN, a measure, it must not compile: it has no limit.
 #include <diffuse.hpp>
 
 #include <array>
 #include <cstdio>
+#include <cstdlib>
+#include <new>
 #include <thread>
 #if __cplusplus >= 202002L
 #include <span>
@@ -15,7 +17,16 @@
 using numbers = std::vector<std::uint32_t>;
 using codes = std::vector<std::uint64_t>;
 
-static int wrong, asked;  // how often a route or what is near was asked of the library
+static int wrong, asked;        // how often a route or what is near was asked of the library
+static std::size_t most_bytes;  // of all lists that were made in C++, those of the longest
+
+void* operator new(std::size_t bytes) {
+    most_bytes = std::max(most_bytes, bytes);
+    if (void* at = std::malloc(bytes)) return at;
+    throw std::bad_alloc();
+}
+void operator delete(void* at) noexcept { std::free(at); }
+void operator delete(void* at, std::size_t) noexcept { std::free(at); }
 
 extern "C" {
 diffuse_status __real_diffuse_graph_route(diffuse_graph*, diffuse_algebra, uint64_t, uint32_t, uint32_t, uint64_t*, uint32_t*, uint32_t*, size_t);
@@ -77,7 +88,8 @@ static void scoped_names() {
     expect(graph.near({1}, diffuse::within(3)).vertices == numbers({1, 3, 2}), "near within 3");
     expect(!graph.route(1, 4, diffuse::within(7)).found() && graph.factor(diffuse::hops) == DIFFUSE_STATUS_DONE, "within 7");
 #ifdef FORGOTTEN
-    graph.near({1}, diffuse::within);
+    graph.near({1}, FORGOTTEN);
+    graph.near_into({}, {}, {}, {}, {1}, FORGOTTEN);
 #endif
 }
 
@@ -144,6 +156,18 @@ static void asked_once() {
     expect(hub.near({1}, diffuse::within(3)).parents == numbers({0, 1, 1}) && asked == 3, "a small answer after a large one");
 }
 
+// A near answer of a large graph takes a short list, not one of all vertices.
+static void short_lists() {
+    diffuse::graph line(200000, chain(200000));
+    line.number(chain(200000));
+    for (int run = 0; run < 2; run++) {
+        most_bytes = 0;
+        expect(line.route(1, 5).hops() == 4 && line.route_arcs(1, 5).arcs.size() == 4 && line.arcs_from(7).size() == 1, "near routes");
+        expect(line.near({1}, diffuse::within(3)).vertices.size() == 4 && line.table({1}, {2}).size() == 1, "what is near");
+    }
+    expect(most_bytes <= 1024 * sizeof(std::uint64_t), "the lists of near answers");
+}
+
 // Who owns a graph: what is assigned to is closed, and what was moved away is none.
 static void owners() {
     diffuse::graph first(5, FIVE), second(100, chain(100));
@@ -182,6 +206,7 @@ int main() {
     rooms_of_a_caller();
     texts_and_spans();
     asked_once();
+    short_lists();
     owners();
     stops();
     const auto& arcs = FIVE;

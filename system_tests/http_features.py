@@ -70,6 +70,21 @@ def point(vertex, value, hops, parent, place):
     return {"type": "Feature", "geometry": {"type": "Point", "coordinates": place}, "properties": {"vertex": vertex, "value": value, "hops": hops, "parent": parent}}
 
 
+def parallel_arcs(room):
+    """Of parallel arcs a route takes those of the least weight, and of these the one with the least second weight, wherever it is listed."""
+    arcs = [(5, 9), (5, 4), (5, 7), (9, 1)]
+    steps = [{"street": "Street 4", "value": 5, "hops": 1, "metres": 4}, {"street": "Street 6", "value": 4, "hops": 1, "metres": 6}]
+    for first in range(4):
+        listed = [*arcs[first:], *arcs[:first], (4, 6)]
+        texts = ["p sp 3 5\n" + "".join(f"a {1 if k < 4 else 2} {2 if k < 4 else 3} {arc[kind]}\n" for k, arc in enumerate(listed)) for kind in (0, 1)]
+        names = "".join(f"{k} Street {second}\n" for k, (_, second) in enumerate(listed, 1))
+        server = Server(written(room, "parallel.gr", texts[0]), "--also", f"metres={written(room, 'parallel.m.gr', texts[1])}", "--names", written(room, "parallel.names", names))
+        got = server.ask("/route?source=1&target=3&steps=true")[1], server.ask("/table?sources=1&targets=2,3&sums=true")[1]
+        if not has({"value": 9, "metres": 10, "steps": steps}, got[0]) or not has({"values": [[5, 9]], "metres": [[4, 10]]}, got[1]):
+            yield f"{listed}: {got}"
+        yield from server.ends()
+
+
 def far_places(room):
     """A place that is too far is refused by name, a number of hundreds of digits is no longitude, and metres are those of great circles."""
     server = ring(room, "--snap-limit", "300")

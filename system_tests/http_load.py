@@ -1,5 +1,6 @@
 """The server under load: beside the program, over its limits, with graphs that change, and at its end."""
 import http.client
+import json
 import random
 import re
 import signal
@@ -79,6 +80,46 @@ def late(room):
     yield from server.goes_on()
 
 
+def latencies(room):
+    """What a long table and a route take is in the sums and buckets of their paths, as it is in the log: as much as the processor was used at least, and
+    as long as the client waited at most."""
+    path, n = street(room, 100_000)
+    server, began = Server(path), time.monotonic()
+    (status, _), cost = server.cost(lambda: server.ask(table_to(n)))
+    waited = time.monotonic() - began
+    server.ask("/route?source=1&target=2")
+    soon(lambda: all(seconds_logged(server, name) for name in ("/table", "/route")))
+    text = server.ask("/metrics")[1]
+    for name, least, most in (("/table", cost / 2, waited), ("/route", 0, time.monotonic() - began - waited)):
+        (total,), (count,) = (re.findall(rf'^diffuse_request_seconds_{kind}{{path="{name}"}} (\S+)$', text, re.M) for kind in ("sum", "count"))
+        buckets = re.findall(rf'^diffuse_request_seconds_bucket{{path="{name}",le="(\S+)"}} (\d+)$', text, re.M)
+        right = all(int(below) == (float(total) <= float(bound)) for bound, below in buckets) and count == "1" and len(buckets) > 5
+        logged = seconds_logged(server, name)
+        if status != 200 or not right or not least <= float(total) <= most or len(logged) != 1 or abs(logged[0] - float(total)) > 0.001:
+            yield f"{name}: {total} s for {count}, logged {logged}, with {buckets}, of {waited:.3f} s that took {cost:.3f} s of the processor"
+    yield from server.ends()
+
+
+def seconds_logged(server, name):
+    """How long requests for a path took, as the log has them."""
+    return [line["seconds"] for line in map(json.loads, list(server.log)) if line.get("request", "").startswith(f"GET {name}?")]
+
+
+def age(room):
+    """The age of a graph goes on by seconds, and begins anew with a reload."""
+    path, began = Path(room) / "aged.gr", time.monotonic()
+    path.write_text(FIVE.read_text())
+    server = Server(path)
+    if not soon(lambda: server.counted("diffuse_graph_age_seconds") >= 2, 60) or server.counted("diffuse_graph_age_seconds") > time.monotonic() - began:
+        yield f"the age of a graph is {server.counted('diffuse_graph_age_seconds')} s after {time.monotonic() - began:.1f} s"
+    again = time.monotonic()
+    server.send(signal.SIGHUP)
+    server.wait_for("reloaded")
+    if server.counted("diffuse_graph_age_seconds") > time.monotonic() - again:
+        yield f"the age of a new graph is {server.counted('diffuse_graph_age_seconds')} s after {time.monotonic() - again:.1f} s"
+    yield from server.ends()
+
+
 def routes_beside_tables(room):
     """Tables and trees leave a thread to routes: while ten tables are answered, up to when the last one is begun, twice as many routes are, and more."""
     path, n = street(room, 50_000)
@@ -104,6 +145,36 @@ def one_at_a_time(room):
     held = server.counted("diffuse_resident_bytes") - before
     if held > 8 * 26 * n:
         yield f"{held / 26 / n:.1f} searches have lists"
+    yield from server.ends()
+
+
+def given_back(room):
+    """The lists of tables that are searched for at once are given back once none has needed them for the time of --idle; then a table is answered as before."""
+    path, n = street(room, 200_000)
+    server, table = Server(path, "--handles", "8", "--idle", "5"), f"/table?sources=1&targets={n}"
+    before = server.counted("diffuse_resident_bytes")
+
+    def searches_held():
+        return (server.counted("diffuse_resident_bytes") - before) / 26 / n
+
+    together([lambda: server.ask(table)] * 14)
+    most = searches_held()
+    if most < 2 or not soon(lambda: searches_held() < 1, 120) or server.ask(table)[1]["values"] != [[n - 1]]:
+        yield f"{most:.1f} searches have lists after 14 tables at once, and later {searches_held():.1f}"
+    yield from server.ends()
+
+
+def few_trees(room):
+    """Trees that are asked one at a time, by whichever threads tables leave free, leave the lists of a few trees, and not of one for each thread."""
+    path, n = street(room, 200_000)
+    server, table = Server(path, "--handles", "8"), f"/table?sources=1&targets={n}"
+    together([lambda: server.ask(table)] * 14)
+    before = server.counted("diffuse_resident_bytes")
+    with again_and_again([server.asker(table) for _ in range(5)]):
+        got = [server.ask("/tree?sources=1&limit=1")[1]["vertices"] for _ in range(60)]
+    trees = (server.counted("diffuse_resident_bytes") - before) / 25 / n
+    if trees > 4 or got != [[[1, 0, 0, 0], [2, 1, 1, 1]]] * 60:
+        yield f"{trees:.1f} trees have lists: {got[:2]}"
     yield from server.ends()
 
 
@@ -139,9 +210,12 @@ def reweighed(room):
         server.send(signal.SIGHUP)
         server.wait_for("reloaded", turn)
         counted += is_reweighed
-        got = server.counted("diffuse_reloads_reweighed_total"), server.ask(ROUTE)[1]["value"], server.ask("/tree?sources=1&limit=1")[0]
-        if got != (counted, value, 200):
-            yield f"reload {turn}: {got}, and not {counted, value, 200}"
+        # Only the weights that are too great have no factors; the graph after it has.
+        wanted = counted, value, 200, value < 2**32
+        got = (server.counted("diffuse_reloads_reweighed_total"), server.ask(ROUTE)[1]["value"], server.ask("/tree?sources=1&limit=1")[0],
+               server.ask("/health")[1]["graph"]["factors"])
+        if got != wanted:
+            yield f"reload {turn}: {got}, and not {wanted}"
     if server.counted('diffuse_reloads_total{result="done"}') != len(texts):
         yield f"reloads: {server.log[-2:]}"
     yield from server.ends()

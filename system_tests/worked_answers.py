@@ -233,9 +233,21 @@ def locks(count):
         (door, door + 1, 0), (door + 1, door + 3, 1 << (count - 1 - k)), (door + 1, door + 2, 0), (door + 2, door + 3, 0))))
 
 
+def detour(dear):
+    """A way to 3 by one dear arc, and a nearer one by two cheap arcs, and on to 5."""
+    return graph_of(5, (1, 2, 1), (1, 3, dear), (2, 3, 2), (3, 4, 1), (4, 5, 1))
+
+
+def through_five(other):
+    """A dear arc to 3, and a nearer way through 5, which is in the other of two blocks; the loop of vertex 6 has another weight."""
+    return graph_of(6, (1, 3, 10), (1, 5, 1), (5, 3, 1), (3, 4, 1), (6, 6, other))
+
+
 # How many messages a question takes with one worker, and as many signals. First come, first served, vertex 2 of the five has 4 and then 3, and vertex 4
 # has 9 and then 8, so two arcs are told twice; locks take 2^(k + 2) - 3 messages. Best first one message goes along each arc out of a reached vertex, and
-# so it does over several shards if none may run ahead, or if all values are the same.
+# so it does over several shards if none may run ahead, or if all values are the same. The dear message waits while 1 waits elsewhere, unless 1 and the
+# weight by which a shard may run ahead, a fifth of the mean one if it is not given, come to it; then its two arcs, or one, are told twice. Of 21 locks each
+# message and signal has a turn: 16,777,210.
 ONE_SHARD = "--shards 1"
 MESSAGES = [
     ("shortest", ONE_SHARD, FIVE, 1, 9), ("within --limit 0", "--shards 3", FIVE, 1, 1), ("within --limit 0", "--shards 3 --best-first", FIVE, 1, 1),
@@ -244,6 +256,11 @@ MESSAGES = [
         ("shortest", 5, 8))),
     *(("reach", f"--shards 3 {order} --budget {budget}", FIVE, 1, 7) for order in ("", "--best-first") for budget in (1, 2, 1000)),
     *(("shortest", f"--shards {shards} --best-first --ahead 0 --budget {budget}", two_chains(walk), 1, 15) for walk, shards in ZIPS for budget in (1, 3, 1000)),
+    *(("shortest", f"--shards 3 --best-first --ahead {ahead} --budget 1", detour(dear), 1, count) for dear, ahead, count in (
+        (10, 0, 6), (10, 8, 6), (10, 9, 8), (10, MOST, 8), (100, 98, 6), (100, 99, 8), (MOST, MOST - 2, 6), (MOST, MOST - 1, 8))),
+    *(("shortest", f"--shards 2 --best-first --budget 5 {ahead}", through_five(other), 1, count) for ahead, other, count in (
+        ("--ahead 8", 1, 5), ("--ahead 9", 1, 6), ("", 1, 5), ("", 211, 5), ("", 212, 6))),
+    ("shortest", f"{ONE_SHARD} --budget 1", locks(21), 1, 8388605),
     *((algebra, shards, locks(k), 1, count) for k, arrival, best in ((1, 5, 5), (2, 13, 9), (6, 253, 25), (10, 4093, 41))
       for algebra, shards, count in (("shortest", ONE_SHARD, arrival), ("shortest", f"{ONE_SHARD} --best-first", best))),
 ]

@@ -197,9 +197,10 @@ DIFFUSE_CHECKED((1))
 enum diffuse_status diffuse_graph_number(struct diffuse_graph *graph, const struct diffuse_arc *arcs, size_t n_arcs);
 
 /* What diffuse_graph_route writes, and the numbers of the hops arcs that the route takes: where parallel arcs join two
-   vertices of the route, the one that gives the best value, and of equally good ones the one with the least number. The places after them are left as they are. If the room is shorter than hops + 1, or the places for arcs are
-   fewer than hops, code and hops are written all the same, and neither list is. The handle of a graph that was opened by
-   diffuse_graph_reweigh has no numbers until it is numbered.
+   vertices of the route, the one that gives the best value, and of equally good ones the one with the least number. The places
+   after them are left as they are. If the room is shorter than hops + 1, or the places for arcs are fewer than hops, code and
+   hops are written all the same, and neither list is. The handle of a graph that was opened by diffuse_graph_reweigh has no
+   numbers until it is numbered.
    CLOSED, NO_NUMBERS, NO_VERTEX, NO_ALGEBRA, MEMORY, STOPPED, NO_ROUTE, NO_ROOM or DONE. */
 DIFFUSE_CHECKED((1))
 enum diffuse_status diffuse_graph_route_arcs(struct diffuse_graph *graph, enum diffuse_algebra algebra, uint64_t limit,
@@ -243,7 +244,8 @@ enum diffuse_status diffuse_graph_table(struct diffuse_graph *graph, enum diffus
     const uint32_t *sources, size_t n_sources, const uint32_t *targets, size_t n_targets, uint64_t *codes, size_t n_codes);
 
 /* Factors the graph for an algebra. Afterwards far routes, far trees and tables of this handle, and of those opened from it by
-   diffuse_graph_share later, use the factors, and answer the same in a fraction of the time; what is near is still searched for.
+   diffuse_graph_share later, use the factors, and answer the same; a far route takes a fraction of a search. What is near is found
+   by a search first.
    SHORTEST and WITHIN at every limit have one factoring, HOPS has its own, and the other algebras have none. Once it is done, a
    second call for the same factoring does nothing. After a refusal calls search, as before, and a second call tries again.
    CLOSED, NO_ALGEBRA, NO_FACTORS, MEMORY, HEAVY, DENSE or DONE. */
@@ -281,8 +283,7 @@ DIFFUSE_NONNULL((1)) void diffuse_stop_free(struct diffuse_stop *stop);
 uint32_t diffuse_version(void);
 
 /* The library's own functions need a valid pointer for each single number. The inline functions below replace NULL by a local
-   variable.
-   For GCC that has no symbol of its own. Other compilers see it by macros; with one of these a caller that defines such a
+   variable. For GCC that has no symbol of its own. Other compilers see it by macros; with one of these a caller that defines such a
    function itself, as a test double, undefines its macro first. What is DIFFUSE_ONE is there once in a program, so that a caller's
    inline functions may use it. */
 #if defined(__GNUC__) && !defined(__cplusplus)

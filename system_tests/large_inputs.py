@@ -38,11 +38,12 @@ def many_questions(room):
 
 
 def many_judged(room):
-    """A check of more than a thousand answers, and of the most, right and with the last one wrong."""
+    """A check of more than a thousand answers, right and with the last one wrong, and of the most."""
     for count in (1003, MOST):
         asked, right = pairs_of(count)
         words = ["check", GRAPH, room.file(asked)]
-        yield from (f"{count} right answers: {wrong}" for wrong in ended(room, [*words, room.file(right)], "valid\n"))
+        if count < MOST:
+            yield from (f"{count} right answers: {wrong}" for wrong in ended(room, [*words, room.file(right)], "valid\n"))
         before, _, last = right.rpartition("q ")
         source, target = last.split("\n")[0].split()
         run = room.run(*words, room.file(f"{before}q {source} {target}\nd 0 0\nr {source}\n"))

@@ -183,15 +183,15 @@ class Package(unittest.TestCase):
         self.assertEqual(self.said(code, MALLOC_ARENA_MAX="1"), "True\n")
 
     def test_stops_are_freed(self):
-        """A hundred thousand stops that nobody frees take 4 MB more than a thousand at most."""
+        """The stops of twenty thousand graphs that were asked with one take 4 MB more than those of a thousand at most."""
         code = """if True:
             import diffuse
             def pages_after(times):
                 for _ in range(times):
-                    diffuse.Stop().set()
+                    diffuse.Graph(2, [(1, 2, 3)]).tree(1, stop=diffuse.Stop())
                 return int(open("/proc/self/statm").read().split()[1])
             first = pages_after(1000)
-            print(pages_after(100_000) - first < 1024)
+            print(pages_after(20_000) - first < 1024)
         """
         self.assertEqual(self.said(code, MALLOC_ARENA_MAX="1"), "True\n")
 

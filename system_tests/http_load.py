@@ -161,10 +161,13 @@ def given_back(room):
     def searches_held():
         return (server.counted("diffuse_resident_bytes") - before) / 26 / n
 
-    together([lambda source=source: value(source) for source in sources])
-    most = searches_held()
-    if most < 2.5 or not soon(lambda: searches_held() < 1.5, 120) or value(1) != n - 2:
-        yield f"{most:.1f} searches have lists after 14 routes at once, and later {searches_held():.1f}"
+    def most_held():
+        together([lambda source=source: value(source) for source in sources])
+        return searches_held()
+
+    # One thread may answer all, if the others are slow to wake: so they are asked again.
+    if not soon(lambda: most_held() >= 2.5, 120) or not soon(lambda: searches_held() < 1.5, 120) or value(1) != n - 2:
+        yield f"{searches_held():.1f} searches have lists"
     yield from server.ends()
 
 
@@ -176,9 +179,13 @@ def few_trees(room):
     before = server.counted("diffuse_resident_bytes")
     with again_and_again([server.asker(table) for _ in range(5)]):
         got = [server.ask("/tree?sources=1&limit=1")[1]["vertices"] for _ in range(60)]
-    trees = (server.counted("diffuse_resident_bytes") - before) / 25 / n
-    if trees > 6 or got != [[[1, 0, 0, 0], [2, 1, 1, 1]]] * 60:
-        yield f"{trees:.1f} trees have lists: {got[:2]}"
+
+    def trees():
+        return (server.counted("diffuse_resident_bytes") - before) / 25 / n
+
+    # Lists of the last tables may not have gone yet.
+    if not soon(lambda: trees() <= 6, 30) or got != [[[1, 0, 0, 0], [2, 1, 1, 1]]] * 60:
+        yield f"{trees():.1f} trees have lists: {got[:2]}"
     yield from server.ends()
 
 

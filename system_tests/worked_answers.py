@@ -246,7 +246,7 @@ def through_five(other):
 # How many messages a question takes with one worker, and as many signals. First come, first served, vertex 2 of the five has 4 and then 3, and vertex 4
 # has 9 and then 8, so two arcs are told twice; locks take 2^(k + 2) - 3 messages. Best first one message goes along each arc out of a reached vertex, and
 # so it does over several shards if none may run ahead, or if all values are the same. The dear message waits while 1 waits elsewhere, unless 1 and the
-# weight by which a shard may run ahead, a fifth of the mean one if it is not given, come to it; then its two arcs, or one, are told twice. Of 21 locks each
+# weight by which a shard may run ahead, a fifth of the mean one if it is not given, come to it; then two arcs, or one, carry two messages. Of 21 locks each
 # message and signal has a turn: 16,777,210.
 ONE_SHARD = "--shards 1"
 MESSAGES = [

@@ -1,5 +1,6 @@
 """Questions by factors, beside the search and the baseline."""
 from cases import BASELINE, BASELINES, Case
+from inputs import is_newer, write_by
 
 # The name of the program with factors in the figures.
 FACTORS = "diffuse --factors"
@@ -32,6 +33,19 @@ class FactoredAlone(Factored):
 
     def commands(self, programs, folder):
         return {FACTORS: super().commands(programs, folder)[FACTORS]}
+
+
+class ByOrder(FactoredAlone):
+    """The same by an order that `diffuse order` finds with care and writes before the first round."""
+
+    def title(self):
+        return super().title() + " with care"
+
+    def commands(self, programs, folder):
+        order = self.files.graph + ".order"
+        if not all(is_newer(order, it) for it in (programs["diffuse"], self.files.graph)):
+            write_by([programs["diffuse"], "order", self.files.graph], order)
+        return {name: command + ["--order", order] for name, command in super().commands(programs, folder).items()}
 
 
 class Bundled(Factored):

@@ -3,7 +3,7 @@ import statistics
 
 from cases import BASELINE, PEAK, SOLVE, THREADS, TIME, WALL, Dealt, Engine, Plain, ratios
 from chosen import Chosen
-from factored import FACTORS, Factored, FactoredAlone
+from factored import FACTORS, ByOrder, Factored, FactoredAlone
 from inputs import EIGHT_SOURCES, FIVE_SOURCES, NEAR_PAIRS, ONE_SOURCE, READING, TEN_PAIRS, THOUSAND_PAIRS, TWENTY_PAIRS, Real
 from report import Table, factored_of, pairs_of, ran, seconds, served_of, settings_of, size, spread
 from services import BY_FACTORS, BY_SEARCH, Served, Way, ways_of
@@ -11,6 +11,9 @@ from services import BY_FACTORS, BY_SEARCH, Served, Way, ways_of
 # Workers, shards, width and budget of the engine, over five sources. The best message first is tried with each.
 ALONE, SIXTEEN, CUT, TOGETHER = (1, 1, 1, 1024), (1, 16, 1, 1024), (1, 64, 1, 1024), (4, 16, 5, 1024)
 ORDERS = AS_THEY_COME, BEST_FIRST = False, True
+
+# The head of the column of pairs by an order that was found with care.
+CARE = "by an order found with care"
 
 # Settings over graphs whose vertices are numbered in several ways, and at most how many messages an arc; the last is four workers'.
 NUMBERED = {(1, 1, 1, 1024): 1, (1, 4, 1, 1024): 1.02, (1, 16, 1, 1024): 1.02, (1, 64, 1, 1024): 1.02, (4, 4, 1, 1024): 1.1}
@@ -21,6 +24,10 @@ ORDER_AIMS = {ALONE: (1, 0.2, TIME, 3.5), SIXTEEN: (1.05, 0.12, TIME, None), CUT
 # A pair by factors, and order and build in pairs: both to the baseline's pair, by graph.
 FACTOR_AIMS = {"New York's size": (1 / 25, 60), "New York's size with rivers": (1 / 70, 60),
                "Florida's size": (1 / 70, 35), "Florida's size with rivers": (1 / 150, 35)}
+
+# A pair by factors of an order that was found with care, to the baseline's pair, by graph.
+CARE_AIMS = {"New York's size": 0.013, "New York's size with rivers": 0.004, "Florida's size": 0.0045, "Florida's size with rivers": 0.006,
+             "Liechtenstein (real)": 0.012}
 
 
 class Reach(Chosen):
@@ -34,6 +41,7 @@ class Reach(Chosen):
         self.whole = [Plain(graph, ONE_SOURCE) for graph in sizes]
         self.pairs = [Plain(graph, kind) for kind in (TWENTY_PAIRS, NEAR_PAIRS) for graph in sizes]
         self.built, self.many = ([FactoredAlone(graph, kind, graph in far) for graph in sizes] for kind in (READING, THOUSAND_PAIRS))
+        self.ready, self.careful = ([ByOrder(graph, kind, graph in far) for graph in sizes] for kind in (READING, THOUSAND_PAIRS))
         self.served = [Served(new_york, THOUSAND_PAIRS, ways_of(40, 400) + [Way(BY_SEARCH, 0, 40)]),
                        Served(new_york, NEAR_PAIRS, ways_of(1000, 1000)[::2])]
         self.engine = {(settings, order): Engine(motorways, FIVE_SOURCES, settings, order, same_rule or order)
@@ -49,7 +57,8 @@ class Reach(Chosen):
         return [*self.engine.values(), *self.by_order, *self.numbered.values(), self.dealt]
 
     def cases(self):
-        return self.whole + self.pairs + self.built + self.many + self.served + self.workers() + self.largest
+        factored = self.built + self.many + self.ready + self.careful
+        return self.whole + self.pairs + factored + self.served + self.workers() + self.largest
 
     def tables(self):
         workers = in_both_orders(self.engine) + [(self.by_order[0], None), self.by_order[::-1]]
@@ -66,14 +75,15 @@ class Reach(Chosen):
         return next(case for case in cases if case.files is graph and kind in (None, case.kind))
 
     def ratios_of(self, graph):
-        """By factors: order and build, and a pair, in pairs of the baseline; in each round."""
-        built, many = self.of(self.built, graph), self.of(self.many, graph)
+        """By factors, in pairs of the baseline, in each round: order and build, a pair, and one by an order that was found with care."""
+        built, many, ready, careful = (self.of(cases, graph) for cases in (self.built, self.many, self.ready, self.careful))
         pair = self.of(self.pairs, graph, TWENTY_PAIRS).each(BASELINE, SOLVE)
-        return ratios([taken[SOLVE] for taken in built.taken.get(FACTORS, [])], pair), ratios(many.each(FACTORS, SOLVE, built), pair)
+        return (ratios([taken[SOLVE] for taken in built.taken.get(FACTORS, [])], pair), ratios(many.each(FACTORS, SOLVE, built), pair),
+                ratios(careful.each(FACTORS, SOLVE, ready), pair))
 
     def factors_of(self):
         """What factors take, what a pair takes by them, and after how many pairs they have paid for themselves."""
-        heads = ["Graph", "Order and build", "in pairs of the baseline", "A pair", "by --plain", "to the baseline's", "Pays after pairs", "Peak memory"]
+        heads = ["Graph", "Order and build", "in pairs of the baseline", "A pair", "by --plain", "to the baseline's", CARE, "Pays after pairs", "Peak memory"]
         table = Table("Factors by solve, without reading and writing: ratios as median (quartiles)", heads)
         for built in ran(self.built):
             many, twenty = self.of(self.many, built.files), self.of(self.pairs, built.files, TWENTY_PAIRS)
@@ -83,10 +93,10 @@ class Reach(Chosen):
 
     def factor_row(self, built, many, twenty):
         """A graph's order and build, pairs by factors, and pairs by the search."""
-        once, peak, (order, ratios) = built.median(FACTORS, SOLVE), many.median(FACTORS, PEAK), self.ratios_of(built.files)
+        once, peak, (order, each, careful) = built.median(FACTORS, SOLVE), many.median(FACTORS, PEAK), self.ratios_of(built.files)
         pair, plain = (statistics.median(each) for each in (many.each(FACTORS, SOLVE, built), twenty.each("diffuse", SOLVE)))
         pays = "%.0f" % (once / (plain - pair)) if plain > pair else "never"
-        return [built.files.name, seconds(once), spread(order), seconds(max(0, pair)), seconds(plain), spread(ratios), pays, size(peak)]
+        return [built.files.name, seconds(once), spread(order), seconds(max(0, pair)), seconds(plain), spread(each), spread(careful), pays, size(peak)]
 
     def aims(self):
         """What is aimed at: of what, the most, and the ratios that were measured."""
@@ -108,10 +118,11 @@ class Reach(Chosen):
         aims = []
         for case in (case for case in self.built if case.files.name in FACTOR_AIMS):
             pair, once = FACTOR_AIMS[case.files.name]
-            order, each = self.ratios_of(case.files)
+            order, each, _ = self.ratios_of(case.files)
             aims += [(case.files.name, "a pair by factors, to the baseline", pair, each),
                      (case.files.name, "order and build, in pairs of the baseline", once, order)]
-        return aims
+        return aims + [(graph.name, "a pair by an order found with care, to the baseline", CARE_AIMS[graph.name], self.ratios_of(graph)[2])
+                       for graph in (case.files for case in self.ready) if graph.name in CARE_AIMS]
 
     def service_aims(self):
         """Services, in milliseconds a pair."""

@@ -42,7 +42,7 @@ SMALL = [
                                     (PAIRS, "Peak memory to the baseline", "Peak memory to the baseline")],
      [((f"{graph}, {pairs}",), (f"{graph}, {pairs}",)) for pairs in ("twenty pairs", "5,000 near pairs") for graph in FOUR + [REAL]]),
     ("factors", ["Graph"], [(FACTORS, head, head) for head in ("Order and build", "A pair", "by --plain", "to the baseline's",
-                                                               "Pays after pairs", "Peak memory")],
+                                                               "by an order found with care", "Pays after pairs", "Peak memory")],
      [((graph,), (graph,)) for graph in FOUR + [REAL]]),
     ("services", ["Graph and pairs", "How"], [(SERVED, head, head) for head in ("Pairs a second", "Wall time a pair", "First answer after",
                                                                                 "Peak memory")],

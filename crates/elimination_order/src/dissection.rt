@@ -17,7 +17,7 @@ pub(crate) struct Dissection {
     care: Care,
     /// The largest piece that is not cut has so many vertices.
     whole: usize,
-    flow: Flow,
+    pub(crate) flow: Flow,
     /// After so many gates for each vertex of a piece, no better cut is sought.
     share: u64,
     /// The pieces that are not cut yet.
@@ -108,11 +108,6 @@ impl Dissection {
             dissection.cut_each(alloc, pieces)?;
         }
         Ok(dissection)
-    }
-
-    /// How many gates the flows have reached.
-    pub(crate) fn work(&self) -> u64 {
-        self.flow.work
     }
 
     /// The levels: what is in no cut first, and then the cuts from the deepest on.

@@ -1,13 +1,13 @@
 //! The order by nested dissection.
-ghost use Rattle.std.specs.Prelude.{◌≡◌, IfOk, IfNone, IfSome, length};
-ghost use Rattle.elimination_order.specs.Bounds.{AreWithinBounds, IsTooDense};
+ghost use Rattle.std.specs.Prelude.{IfOk, Some};
+ghost use Rattle.elimination_order.specs.Found.{IsOrderedOn};
 
 use crate::care::Care;
 use crate::degree_lists::{DegreeLists, Turn};
 use crate::dissection::Dissection;
 use crate::elimination::Elimination;
 use crate::lists::NONE;
-use crate::minimum_degree::approximate_minimum_degree;
+use crate::minimum_degree::by_degree;
 use crate::ordered::{Ordered, order_of};
 use road_graph::{Memory, OutGraph};
 use std::alloc::Global;
@@ -43,7 +43,7 @@ impl Elimination {
         let rest = self.graph.remainder(alloc)?;
         let work = self.work_of_flows();
         let dissection = Dissection::of(alloc, n, &rest, care, work)?;
-        self.counts.add_work(dissection.work() as usize);
+        self.counts.add_work(dissection.flow.work as usize);
         self.degrees = DegreeLists::new(alloc, n, Turn::Newest)?;
         self.levels = dissection.levels(alloc)?;
         for level in 0..=dissection.deepest {
@@ -74,17 +74,11 @@ fn dissected(alloc: Global, graph: &OutGraph, care: Care) -> Result<Elimination,
 /// # Errors
 /// Out of memory.
 pub fn nested_dissection(alloc: Global, graph: &OutGraph, care: Care) -> Result<Ordered, Memory>
-    ensures each { IfOk result (λ found. IfSome found.order (λ order.
-        length order.vertices.items ≡ graph.now.vertices)) }
-    ensures within { IfOk result (λ found. IfSome found.order (λ _.
-        AreWithinBounds graph.now.vertices (length graph.now.arcs) found.counts)) }
-    ensures dense { IfOk result (λ found. IfNone found.order
-        (IsTooDense graph.now.vertices (length graph.now.arcs) found.counts)) }
+    ensures { IfOk result (IsOrderedOn graph.now (Some care)) }
 {
-    let elimination = dissected(alloc, graph, care)?;
-    let found = order_of(alloc, graph, &elimination)?;
-    if found.order.is_some() {
-        return Ok(found);
+    let mut elimination = dissected(alloc, graph, care)?;
+    if elimination.is_too_dense() {
+        elimination = by_degree(alloc, graph)?;
     }
-    approximate_minimum_degree(alloc, graph)
+    order_of(alloc, graph, Some(care), &elimination)
 }

@@ -49,7 +49,7 @@ impl Elimination {
         let mut elimination = Elimination {
             graph,
             degrees,
-            levels: Levels::one(alloc),
+            levels: Levels::new(Vec::new(alloc)),
             buckets: HashBuckets::new(alloc, n as usize)?,
             counts: Counts::new(),
             arcs,
@@ -116,13 +116,14 @@ impl Elimination {
     fn eliminate(&mut self, vertex: u32) -> Result<(), Memory> {
         let mut pivot = self.begin(vertex)?;
         if pivot.members.len() == 1 {
-            self.end_lone(pivot)?;
+            self.end_lone(pivot);
         } else {
             self.find_outside(pivot);
             self.update_members(&mut pivot)?;
             self.merge_members(pivot)?;
-            self.end(pivot)?;
+            self.end(pivot);
         }
+        self.eliminated.push(vertex).map_err(AllocError::from)?;
         self.count(pivot);
         Ok(())
     }

@@ -114,10 +114,8 @@ impl Flow {
         self.value = 0;
         let n = stored(ranks.len());
         for rank in ranks {
-            let end = end_of(*rank, n, percent);
-            self.carriers
-                .push(Carrier::new(end))
-                .map_err(AllocError::from)?;
+            let carrier = Carrier::new(end_of(*rank, n, percent));
+            self.carriers.push(carrier).map_err(AllocError::from)?;
         }
         Ok(())
     }

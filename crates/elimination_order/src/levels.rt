@@ -1,7 +1,5 @@
 //! Levels: which vertices are eliminated before which others.
 
-use std::alloc::Global;
-
 /// The level of each vertex, and the one that is eliminated at present.
 #[derive(Drop)]
 pub(crate) struct Levels {
@@ -12,14 +10,6 @@ pub(crate) struct Levels {
 }
 
 impl Levels {
-    /// One level for all.
-    pub(crate) fn one(alloc: Global) -> Self {
-        Levels {
-            levels: Vec::new(alloc),
-            present: 0,
-        }
-    }
-
     /// These levels, of which the first begins.
     pub(crate) fn new(levels: Vec<u32>) -> Self {
         Levels { levels, present: 0 }

@@ -1,4 +1,4 @@
-//! An order in which the vertices of a graph are eliminated, so that few links come about.
+//! An order in which to eliminate the vertices of a graph, sought so that few links come about.
 //!
 //! It is by approximate minimum degree (Amestoy, Davis and Duff, SIAM J. Matrix Anal. Appl. 17,
 //! 1996), over a quotient graph: an eliminated vertex becomes an element, whose members are
@@ -12,7 +12,8 @@
 //! between two ends, by a flow, and goes after what it parts, so that a vertex has few others above
 //! it in the tree. Flows are given up after a bounded work, and what is not cut by then stays whole.
 //!
-//! Any order gives right answers, so of this one it is only claimed that it has each vertex once.
+//! Any order gives right answers. Of one that is found it is claimed that it has each vertex once, on
+//! which graph it was found, and how, as no other crate can claim; not that it is a good one.
 //! The links and triangles that it makes are counted as it comes about, and a graph with too many is
 //! given up; that the counts are those of the order is not claimed.
 #![tactic(auto)]
@@ -55,4 +56,4 @@ pub use dissection_order::nested_dissection;
 pub use minimum_degree::approximate_minimum_degree;
 pub use order::Order;
 pub use order_builder::OrderBuilder;
-pub use ordered::Ordered;
+pub use ordered::{FoundOrder, Ordered};

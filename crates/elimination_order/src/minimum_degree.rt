@@ -1,6 +1,6 @@
 //! The order by approximate minimum degree.
-ghost use Rattle.std.specs.Prelude.{◌≡◌, IfOk, IfNone, IfSome, length};
-ghost use Rattle.elimination_order.specs.Bounds.{AreWithinBounds, IsTooDense};
+ghost use Rattle.std.specs.Prelude.{IfOk, None};
+ghost use Rattle.elimination_order.specs.Found.{IsOrderedOn};
 
 use crate::degree_lists::Turn;
 use crate::elimination::Elimination;
@@ -8,6 +8,13 @@ use crate::lists::NONE;
 use crate::ordered::{Ordered, order_of};
 use road_graph::{Memory, OutGraph};
 use std::alloc::Global;
+
+/// The elimination by approximate minimum degree.
+pub(crate) fn by_degree(alloc: Global, graph: &OutGraph) -> Result<Elimination, Memory> {
+    let mut elimination = Elimination::open(alloc, graph, Turn::Newest)?;
+    elimination.run(NONE)?;
+    Ok(elimination)
+}
 
 /// An order of the vertices of a graph by approximate minimum degree; none if the graph is too
 /// dense to factor.
@@ -17,14 +24,8 @@ use std::alloc::Global;
 /// # Errors
 /// Out of memory.
 pub fn approximate_minimum_degree(alloc: Global, graph: &OutGraph) -> Result<Ordered, Memory>
-    ensures each { IfOk result (λ found. IfSome found.order (λ order.
-        length order.vertices.items ≡ graph.now.vertices)) }
-    ensures within { IfOk result (λ found. IfSome found.order (λ _.
-        AreWithinBounds graph.now.vertices (length graph.now.arcs) found.counts)) }
-    ensures dense { IfOk result (λ found. IfNone found.order
-        (IsTooDense graph.now.vertices (length graph.now.arcs) found.counts)) }
+    ensures { IfOk result (IsOrderedOn graph.now None) }
 {
-    let mut elimination = Elimination::open(alloc, graph, Turn::Newest)?;
-    elimination.run(NONE)?;
-    order_of(alloc, graph, &elimination)
+    let elimination = by_degree(alloc, graph)?;
+    order_of(alloc, graph, None, &elimination)
 }

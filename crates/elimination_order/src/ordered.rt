@@ -1,20 +1,41 @@
 //! An order that is found, and what it makes.
-ghost use Rattle.std.specs.Prelude.{◌≡◌, IfOk, IfNone, IfSome, length};
-ghost use Rattle.elimination_order.specs.Bounds.{AreWithinBounds, IsTooDense};
+ghost use Rattle.std.specs.Prelude.{◌≡◌, IfOk};
+ghost use Rattle.elimination_order.specs.Found.{IsOrderedOn};
 
+use crate::care::Care;
 use crate::counts::{Counts, is_too_dense};
 use crate::elimination::Elimination;
 use crate::order::Order;
 use crate::postorder::in_postorder;
 use road_graph::{Memory, OutGraph};
 use std::alloc::Global;
+use std::snapshot::Snapshot;
+
+/// An order that was found. Only this crate can make one.
+#[derive(Drop)]
+pub struct FoundOrder {
+    order: Order,
+    /// The graph that it was found on, which contracts alone see.
+    graph: Snapshot<OutGraph>,
+    /// The care, if the graph was dissected.
+    care: Option<Care>,
+}
+
+impl FoundOrder {
+    /// The order alone.
+    pub fn into_order(self) -> Order
+        ensures { result ≡ self.order }
+    {
+        self.order
+    }
+}
 
 /// An order of elimination, and what it makes.
 #[derive(Drop)]
 pub struct Ordered {
     /// The vertices in the order in which they are eliminated; none if the graph is too dense to
     /// factor.
-    pub order: Option<Order>,
+    pub order: Option<FoundOrder>,
     /// What the elimination makes, if each dense row is a neighbour of every vertex; what it had
     /// made when it was given up, if there is no order.
     pub counts: Counts,
@@ -24,14 +45,10 @@ pub struct Ordered {
 pub(crate) fn order_of(
     alloc: Global,
     graph: &OutGraph,
+    care: Option<Care>,
     elimination: &Elimination,
 ) -> Result<Ordered, Memory>
-    ensures each { IfOk result (λ found. IfSome found.order (λ order.
-        length order.vertices.items ≡ graph.now.vertices)) }
-    ensures within { IfOk result (λ found. IfSome found.order (λ _.
-        AreWithinBounds graph.now.vertices (length graph.now.arcs) found.counts)) }
-    ensures dense { IfOk result (λ found. IfNone found.order
-        (IsTooDense graph.now.vertices (length graph.now.arcs) found.counts)) }
+    ensures { IfOk result (IsOrderedOn graph.now care) }
 {
     graph.holds();
     let counts = elimination.counts;
@@ -42,8 +59,9 @@ pub(crate) fn order_of(
         });
     }
     let order = in_postorder(alloc, graph.vertices(), elimination)?;
+    let graph = Snapshot::of(graph);
     Ok(Ordered {
-        order: Some(order),
+        order: Some(FoundOrder { order, graph, care }),
         counts,
     })
 }

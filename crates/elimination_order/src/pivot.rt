@@ -83,7 +83,7 @@ impl Elimination {
     }
 
     /// Ends with the members that are left.
-    pub(crate) fn end(&mut self, pivot: Pivot) -> Result<(), Memory> {
+    pub(crate) fn end(&mut self, pivot: Pivot) {
         self.left = self.left.saturating_sub(pivot.eliminated);
         let start = pivot.members.start;
         let mut end = start;
@@ -98,14 +98,10 @@ impl Elimination {
         let element = self.graph.node_mut(pivot.vertex);
         element.set_list(Span { start, end });
         element.degree = pivot.degree;
-        self.eliminated
-            .push(pivot.vertex)
-            .map_err(AllocError::from)?;
-        Ok(())
     }
 
     /// Ends with a lone member, whose list is not looked at: only its degree falls.
-    pub(crate) fn end_lone(&mut self, pivot: Pivot) -> Result<(), Memory> {
+    pub(crate) fn end_lone(&mut self, pivot: Pivot) {
         self.left = self.left.saturating_sub(pivot.eliminated);
         let left = self.left;
         let start = pivot.members.start;
@@ -117,9 +113,5 @@ impl Elimination {
         self.enter(v, degree);
         self.graph.lists.truncate(start);
         self.absorb(pivot.vertex, v);
-        self.eliminated
-            .push(pivot.vertex)
-            .map_err(AllocError::from)?;
-        Ok(())
     }
 }

@@ -87,7 +87,7 @@ impl RoadFactors {
             return Err(Unfactored::Memory);
         };
         match order {
-            Some(order) => Ok((order, counts)),
+            Some(found) => Ok((found.into_order(), counts)),
             None => Err(Unfactored::Dense(counts)),
         }
     }

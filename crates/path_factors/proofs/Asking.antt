@@ -152,8 +152,7 @@ module _ {V W : Type 0} (A : Algebra V) (lawful : IsLawful A) (C : Composition V
         AreFound heads g.vertices before all known list found marks) where
       pub asking_after : (more : List ℕ) → more ≡ asked ++ list → IsAsking A C g F heads sources found marks more
       asking_after more listed =
-          let inside = unknown_inside heads g.vertices known t list unknown.0 unknown.1 in
-          asking_found list inside more listed found marks (made is.before is.all is.run is.agree)
+          asking_found list (unknown_inside heads g.vertices known t list unknown.0 unknown.1) more listed found marks (made is.before is.all is.run is.agree)
 
       pub target_known : AreAtHeads heads F → t < g.vertices → is_on marks t ≡ true
       target_known at_heads in_t =
@@ -177,6 +176,5 @@ module _ {V W : Type 0} (A : Algebra V) (lawful : IsLawful A) (C : Composition V
     pub known_label_is_best : (v : ℕ) → HasVertex g v → is_on known (place_of F v) ≡ true →
         IsBestLabel A g sources v (at labels (place_of F v))
     known_label_is_best v in_v on =
-        let low = (factor.ordering.place v in_v).0 in
-        subst (λ (o : Option V). IsBestLabel A g sources v o) (sym (is.agree.done (place_of F v) low on))
+        subst (λ (o : Option V). IsBestLabel A g sources v o) (sym (is.agree.done (place_of F v) ((factor.ordering.place v in_v).0) on))
         (label_at_place_is_best A lawful C composes g roads F factor is.before is.all is.run sources is.inside is.forward v in_v)

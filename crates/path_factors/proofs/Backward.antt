@@ -39,16 +39,14 @@ module _ {V W : Type 0} (A : Algebra V) (C : Composition V W) (g : GraphData) (F
       let others : (i : ℕ) → (i ≡ k → ⊥) → at more i ≡ at labels i = λ i other. get_or-set_other labels k i best None other in
       let above : (i : ℕ) → k ≤ i → (q : Link W) → Contains (row_of F.entering i) q → at labels q.place ≡ at more q.place =
       λ i high q h.
-      let up = (links.falling q.place i q.walk h).0 in
-      sym (others q.place (λ e. omega (arith, up, e, high))) in (
+      sym (others q.place (λ e. omega (arith, (links.falling q.place i q.walk h).0, e, high))) in (
         more,
         record {
           count = length-set labels k best ∙ done.count;
           below = λ i less. others i (λ e. omega (arith, less, e)) ∙ done.below i (omega (arith, less));
           best = λ i high in_i. elim (cases_eq i k) [
             | inl is ↦
-                let n = done.count in
-                let at_k : at more k ≡ best = get_or-set_same labels k best None (omega (arith, low, n)) in
+                let at_k : at more k ≡ best = get_or-set_same labels k best None (omega (arith, low, done.count)) in
                 let was : at labels k ≡ at before k = done.below k (omega arith) in
                 let now : at more k ≡ best_along A C more (at before k) (row_of F.entering k) =
                 at_k ∙ ap (λ (o : Option V). best_along A C labels o (row_of F.entering k)) was

@@ -97,7 +97,6 @@ module _ {V W : Type 0} (A : Algebra V) (lawful : IsLawful A) (C : Composition V
 
       pub climbs_on : IsClimbedTo heads g.vertices s p next
       climbs_on =
-          let up = parent_inside g.vertices heads are v p low parent in
           record {
             below = λ j less. elim (cases_lt j v) [
               | inl before ↦ elim (done.below j before) [
@@ -112,14 +111,13 @@ module _ {V W : Type 0} (A : Algebra V) (lawful : IsLawful A) (C : Composition V
                 ]
               ]
             ];
-            above = λ j high. elim (labelled j (omega (arith, up.0, high))) [
+            above = λ j high. elim (labelled j (omega (arith, (parent_inside g.vertices heads are v p low parent).0, high))) [
               | inl none ↦ inl none
               | inr above ↦ elim (cases_eq j p) [
                 | inl is ↦ inr (inl is)
                 | inr other ↦ elim parent.one [
                   | inl none ↦
-                      let r = are.rising v j above in
-                      absurd (omega (arith, none, high, r.1))
+                      absurd (omega (arith, none, high, (are.rising v j above).1))
                   | inr first ↦
                       inr (inr (are.nested v p j first above (omega (arith, high, other))))
                 ]

@@ -5,12 +5,13 @@ use Rattle.std.specs.Prelude.{IsTrue, Contains}
 use Rattle.std.proofs.lemmas.Bool.{cases_eq}
 use Rattle.road_graph.specs.GraphData.{GraphData, IsGraph, HasArc, arc_of}
 use Rattle.path_algebra.specs.Algebra.{Algebra, IsOrder}
-use Rattle.path_algebra.specs.Composition.{Composition, IsComposition, applied}
+use Rattle.path_algebra.specs.Composition.{Composition, IsComposition}
 use Rattle.path_algebra.proofs.Least.{same_no_worse}
 use Rattle.path_factors.specs.declared.link.Link.{Link}
 use Rattle.path_factors.specs.Factors.{FactorData, LeadsNoWorse, IsWorthOfWalk, IsClosedAt, row_of, vertex_at}
 use Rattle.path_factors.specs.Eliminating.{AreImproved, IsBegun, Improves}
 use Rattle.path_factors.specs.Edges.{LinkRows, AreEdgesImproved}
+use Rattle.path_factors.proofs.Offers.{applied_is}
 use Rattle.path_factors.proofs.Substitution.{IsWalk-append, Extends-append}
 
 module _ {V W : Type 0} (A : Algebra V) (C : Composition V W) (composes : IsComposition A C) (g : GraphData) where
@@ -26,15 +27,11 @@ module _ {V W : Type 0} (A : Algebra V) (C : Composition V W) (composes : IsComp
   pub worth_of_none : (u v : ℕ) → IsWorthOfWalk A C g u v C.no_walk
   worth_of_none u v = λ x y is e. let bad : None ≡ Some y = sym (composes.no_walk_refused x is) ∙ e in absurd (cc)
 
-  applied_is : (o : Option V) (b : W) (y : V) → applied C o b ≡ Some y → (m : V) × (o ≡ Some m) × (C.apply m b ≡ Some y)
-  applied_is None b y e = cc
-  applied_is (Some m) b y e = (m, refl, e)
-
   -- the worth of two walks, one after the other
   pub worth_of_both : (u v w : ℕ) (a b : W) → IsWorthOfWalk A C g u v a → IsWorthOfWalk A C g v w b →
       IsWorthOfWalk A C g u w (C.compose a b)
   worth_of_both u v w a b first second = λ x y is e.
-      let m = applied_is (C.apply x a) b y (sym (composes.apply_composed x a b is) ∙ e) in
+      let m = applied_is C (C.apply x a) b y (sym (composes.apply_composed x a b is) ∙ e) in
       let to = first x m.0 is m.1 in
       let on = second m.0 y (composes.apply_is_value x a m.0 is m.1) m.2 in
       (to.0 ++ on.0, IsWalk-append g u to.0 v on.0 w to.1 on.1, Extends-append A g x to.0 m.0 on.0 y to.2 on.2)
@@ -44,13 +41,13 @@ module _ {V W : Type 0} (C : Composition V W) (ordered : IsOrder C.no_worse) whe
   same a = same_no_worse C.no_worse ordered a
 
   module _ (before after : List (List (Link W))) (i : ℕ) (k : Link W) (improved : AreImproved C before i k after) where
-    given_at : (j : ℕ) (l : Link W) → Contains (row_of after j) l → Contains (row_of before j) l ⊎ ((j ≡ i) × (l ≡ k))
+    given_at : (j : ℕ) (l : Link W) → Contains (row_of after j) l → Contains (row_of before j) l ⊎ ((j ≡ i) × (l.place ≡ k.place) × (l.walk ≡ k.walk))
     given_at j l c = elim (cases_eq j i) [
       | inl is ↦
           let here : Contains (row_of after i) l = subst (λ (m : ℕ). Contains (row_of after m) l) is c in
           elim (improved.row.given l here) [
             | inl old ↦ inl (subst (λ (m : ℕ). Contains (row_of before m) l) (sym is) old)
-            | inr new ↦ inr (is, new)
+            | inr new ↦ inr (is, ap (λ (q : Link W). q.place) new, ap (λ (q : Link W). q.walk) new)
           ]
       | inr other ↦ inl (subst (λ (r : List (Link W)). Contains r l) (improved.others j other) c)
     ]
@@ -107,126 +104,62 @@ module _ {V W : Type 0} (C : Composition V W) (ordered : IsOrder C.no_worse) whe
       (subst (λ (r : List (Link W)). Contains r (record { place = x; walk = a })) (improves.entering v h) falls)
       (subst (λ (r : List (Link W)). Contains r (record { place = y; walk = b })) (improves.leaving v h) rises) other)
 
-  module _ (A : Algebra V) (g : GraphData) (F : FactorData W) (begun : IsBegun A C g F) (x y : ℕ) (a : W)
-      (worth : IsWorthOfWalk A C g (vertex_at F x) (vertex_at F y) a) where
-    -- from a lesser place to a greater one
-    module _ (up : x < y) (low : y < g.vertices) (rows : List (List (Link W)))
-        (improved : AreImproved C F.leaving x (record { place = y; walk = a }) rows) where
-      abbrev upper : FactorData W
-      upper = record { order = F.order; places = F.places; leaving = rows; entering = F.entering }
-
-      pub up_begun : IsBegun A C g upper
-      up_begun = record {
-        ordering = begun.ordering;
-        links = record {
-          leaving_count = improved.count ∙ begun.links.leaving_count;
-          entering_count = begun.links.entering_count;
-          rising = λ p q b c. elim (given_at F.leaving rows x (record { place = y; walk = a }) improved p (record { place = q; walk = b }) c) [
-            | inl old ↦ begun.links.rising p q b old
-            | inr new ↦
-                let from = new.0 in
-                let to : q ≡ y = ap (λ (l : Link W). l.place) new.1 in
-                (omega (arith, from, to, up), omega (arith, to, low))
-          ];
-          falling = begun.links.falling;
-          sound = λ p q b l. elim l [
-            | inl rises ↦ elim (given_at F.leaving rows x (record { place = y; walk = a }) improved p (record { place = q; walk = b }) rises) [
-              | inl old ↦ begun.links.sound p q b (inl old)
-              | inr new ↦
-                  let to : q ≡ y = ap (λ (k : Link W). k.place) new.1 in
-                  let walk : b ≡ a = ap (λ (k : Link W). k.walk) new.1 in
-                  subst (λ (w : W). IsWorthOfWalk A C g (vertex_at F p) (vertex_at F q) w) (sym walk)
-                  (subst (λ (j : ℕ). IsWorthOfWalk A C g (vertex_at F p) (vertex_at F j) a) (sym to)
-                  (subst (λ (j : ℕ). IsWorthOfWalk A C g (vertex_at F j) (vertex_at F y) a) (sym new.0) worth))
-            ]
-            | inr falls ↦ begun.links.sound p q b (inr falls)
-          ];
-        };
-      }
-
-      pub up_improves : (least : ℕ) → least ≤ x → Improves C least F upper
-      up_improves least h = record {
-        order = refl;
-        places = refl;
-        leaving = λ i l. improved.others i (λ e. omega (arith, l, h, e));
-        entering = λ i l. refl;
-        kept = λ p q b l. elim l [
-          | inl rises ↦
-              let k = kept_at F.leaving rows x (record { place = y; walk = a }) improved p q b rises in
-              (k.0, inl k.1, k.2)
-          | inr falls ↦ (b, inr falls, same b)
-        ];
-      }
-
-    -- from a greater place to a lesser one
-    module _ (down : y < x) (low : x < g.vertices) (rows : List (List (Link W)))
-        (improved : AreImproved C F.entering y (record { place = x; walk = a }) rows) where
-      abbrev lower : FactorData W
-      lower = record { order = F.order; places = F.places; leaving = F.leaving; entering = rows }
-
-      pub down_begun : IsBegun A C g lower
-      down_begun = record {
-        ordering = begun.ordering;
-        links = record {
-          leaving_count = begun.links.leaving_count;
-          entering_count = improved.count ∙ begun.links.entering_count;
-          rising = begun.links.rising;
-          falling = λ p q b c. elim (given_at F.entering rows y (record { place = x; walk = a }) improved q (record { place = p; walk = b }) c) [
-            | inl old ↦ begun.links.falling p q b old
-            | inr new ↦
-                let to = new.0 in
-                let from : p ≡ x = ap (λ (l : Link W). l.place) new.1 in
-                (omega (arith, from, to, down), omega (arith, from, low))
-          ];
-          sound = λ p q b l. elim l [
-            | inl rises ↦ begun.links.sound p q b (inl rises)
-            | inr falls ↦ elim (given_at F.entering rows y (record { place = x; walk = a }) improved q (record { place = p; walk = b }) falls) [
-              | inl old ↦ begun.links.sound p q b (inr old)
-              | inr new ↦
-                  let from : p ≡ x = ap (λ (k : Link W). k.place) new.1 in
-                  let walk : b ≡ a = ap (λ (k : Link W). k.walk) new.1 in
-                  subst (λ (w : W). IsWorthOfWalk A C g (vertex_at F p) (vertex_at F q) w) (sym walk)
-                  (subst (λ (j : ℕ). IsWorthOfWalk A C g (vertex_at F p) (vertex_at F j) a) (sym new.0)
-                  (subst (λ (j : ℕ). IsWorthOfWalk A C g (vertex_at F j) (vertex_at F y) a) (sym from) worth))
-            ]
-          ];
-        };
-      }
-
-      pub down_improves : (least : ℕ) → least ≤ y → Improves C least F lower
-      down_improves least h = record {
-        order = refl;
-        places = refl;
-        leaving = λ i l. refl;
-        entering = λ i l. improved.others i (λ e. omega (arith, l, h, e));
-        kept = λ p q b l. elim l [
-          | inl rises ↦ (b, inl rises, same b)
-          | inr falls ↦
-              let k = kept_at F.entering rows y (record { place = x; walk = a }) improved q p b falls in
-              (k.0, inr k.1, k.2)
-        ];
-      }
-
   -- both ways between a lesser place and a greater one
   module _ (A : Algebra V) (g : GraphData) (F : FactorData W) (begun : IsBegun A C g F) (x y : ℕ) (there back : W)
       (onward : IsWorthOfWalk A C g (vertex_at F x) (vertex_at F y) there) (homeward : IsWorthOfWalk A C g (vertex_at F y) (vertex_at F x) back)
       (less : x < y) (low : y < g.vertices) (rows : LinkRows W)
       (improved : AreEdgesImproved C (record { leaving = F.leaving; entering = F.entering }) x (record { place = y; leaving = there; entering = back }) rows) where
-    abbrev half : FactorData W
-    half = upper A g F begun x y there onward less low rows.leaving improved.leaving
+    is_worth : (p u q v : ℕ) (b a : W) → p ≡ u → q ≡ v → b ≡ a → IsWorthOfWalk A C g (vertex_at F u) (vertex_at F v) a →
+        IsWorthOfWalk A C g (vertex_at F p) (vertex_at F q) b
+    is_worth p u q v b a from to walk worth =
+        subst (λ (w : W). IsWorthOfWalk A C g (vertex_at F p) (vertex_at F q) w) (sym walk)
+        (subst (λ (j : ℕ). IsWorthOfWalk A C g (vertex_at F p) (vertex_at F j) a) (sym to)
+        (subst (λ (j : ℕ). IsWorthOfWalk A C g (vertex_at F j) (vertex_at F v) a) (sym from) worth))
 
-    half_begun : IsBegun A C g half
-    half_begun = up_begun A g F begun x y there onward less low rows.leaving improved.leaving
+    abbrev riser : Link W
+    riser = record { place = y; walk = there }
+
+    abbrev faller : Link W
+    faller = record { place = y; walk = back }
 
     abbrev whole : FactorData W
     whole = record { order = F.order; places = F.places; leaving = rows.leaving; entering = rows.entering }
 
     pub both_begun : IsBegun A C g whole
-    both_begun = down_begun A g half half_begun y x back homeward less low rows.entering improved.entering
-
-    second : (least : ℕ) → least ≤ x → Improves C least half whole
-    second least h = down_improves A g half half_begun y x back homeward less low rows.entering improved.entering least h
+    both_begun = record {
+      ordering = begun.ordering;
+      links = record {
+        leaving_count = improved.leaving.count ∙ begun.links.leaving_count;
+        entering_count = improved.entering.count ∙ begun.links.entering_count;
+        rising = λ p q b c. elim (given_at F.leaving rows.leaving x riser improved.leaving p (record { place = q; walk = b }) c) [
+          | inl old ↦ begun.links.rising p q b old
+          | inr new ↦ (omega (arith, new.0, new.1, less), omega (arith, new.1, low))
+        ];
+        falling = λ p q b c. elim (given_at F.entering rows.entering x faller improved.entering q (record { place = p; walk = b }) c) [
+          | inl old ↦ begun.links.falling p q b old
+          | inr new ↦ (omega (arith, new.0, new.1, less), omega (arith, new.1, low))
+        ];
+        sound = λ p q b l. elim l [
+          | inl c ↦ elim (given_at F.leaving rows.leaving x riser improved.leaving p (record { place = q; walk = b }) c) [
+            | inl old ↦ begun.links.sound p q b (inl old)
+            | inr new ↦ is_worth p x q y b there new.0 new.1 new.2 onward
+          ]
+          | inr c ↦ elim (given_at F.entering rows.entering x faller improved.entering q (record { place = p; walk = b }) c) [
+            | inl old ↦ begun.links.sound p q b (inr old)
+            | inr new ↦ is_worth p y q x b back new.1 new.0 new.2 homeward
+          ]
+        ];
+      };
+    }
 
     pub both_improve : (least : ℕ) → least ≤ x → Improves C least F whole
-    both_improve least h =
-        improves_more least F half whole (up_improves A g F begun x y there onward less low rows.leaving improved.leaving least h) (second least h)
+    both_improve least h = record {
+      order = refl;
+      places = refl;
+      leaving = λ i l. improved.leaving.others i (λ e. omega (arith, l, h, e));
+      entering = λ i l. improved.entering.others i (λ e. omega (arith, l, h, e));
+      kept = λ p q b l. elim l [
+        | inl rises ↦ let k = kept_at F.leaving rows.leaving x riser improved.leaving p q b rises in (k.0, inl k.1, k.2)
+        | inr falls ↦ let k = kept_at F.entering rows.entering x faller improved.entering q p b falls in (k.0, inr k.1, k.2)
+      ];
+    }

@@ -60,55 +60,42 @@ module _ {W : Type 0} where
     aligned_count =
         let n = length-map (row_of F.leaving v) (λ k. k.place) in
         let m = length-map (row_of F.entering v) (λ k. k.place) in
-        let same = ap length (aligned v) in
-        omega (arith, n, m, same)
+        omega (arith, n, m, ap length (aligned v))
 
     pub aligned_place : (j : ℕ) (d c : Link W) → j < length (row_of F.leaving v) →
         (get_or (row_of F.leaving v) j d).place ≡ (get_or (row_of F.entering v) j c).place
     aligned_place j d c lt =
-        let n = aligned_count in
         sym (get_or-map (λ k. k.place) (row_of F.leaving v) j d 0 lt)
         ∙ ap (λ (r : List ℕ). get_or r j 0) (aligned v)
-        ∙ get_or-map (λ k. k.place) (row_of F.entering v) j c 0 (omega (arith, lt, n))
+        ∙ get_or-map (λ k. k.place) (row_of F.entering v) j c 0 (omega (arith, lt, aligned_count))
+
+    edge_at : (j : ℕ) (d : Link W) → j < length (row_of F.leaving v) → (e : Edge W) × IsEdgeAt F v j e
+    edge_at j d lt =
+        let k = get_or (row_of F.leaving v) j d in
+        let l = get_or (row_of F.entering v) j d in
+        let low : j < length (row_of F.entering v) = omega (arith, lt, aligned_count) in
+        let link : record { place = k.place; walk = l.walk } ≡ l = λ i. record { place = (aligned_place j d d lt) i; walk = l.walk } in (
+          record { place = k.place; leaving = k.walk; entering = l.walk },
+          record {
+            leaving_inside = lt;
+            entering_inside = low;
+            rises = get_or_default (row_of F.leaving v) j k d lt;
+            falls = get_or_default (row_of F.entering v) j (record { place = k.place; walk = l.walk }) d low ∙ sym link;
+          },
+        )
 
     -- the edge of a link
     pub edge_of_riser : (y : ℕ) (b : W) (h : Rises F v y b) → (e : Edge W) × IsEdgeAt F v h.0 e × (rising e ≡ record { place = y; walk = b })
     edge_of_riser y b h =
         let k : Link W = record { place = y; walk = b } in
-        let other = get_or (row_of F.entering v) h.0 k in
-        let lt = h.1 in
-        let n = aligned_count in
-        let low : h.0 < length (row_of F.entering v) = omega (arith, lt, n) in
-        let place : other.place ≡ y = sym (aligned_place h.0 k k h.1) ∙ ap (λ (l : Link W). l.place) h.2 in
-        let link : record { place = y; walk = other.walk } ≡ other = λ i. record { place = (sym place) i; walk = other.walk } in (
-          record { place = y; leaving = b; entering = other.walk },
-          record {
-            leaving_inside = h.1;
-            entering_inside = low;
-            rises = h.2;
-            falls = get_or_default (row_of F.entering v) h.0 (record { place = y; walk = other.walk }) k low ∙ sym link;
-          },
-          λ i. k,
-        )
+        let e = edge_at h.0 k h.1 in
+        (e.0, e.1, sym e.1.rises ∙ get_or_default (row_of F.leaving v) h.0 (rising e.0) k h.1 ∙ h.2)
 
     pub edge_of_faller : (x : ℕ) (a : W) (h : Falls F x v a) → (e : Edge W) × IsEdgeAt F v h.0 e × (falling e ≡ record { place = x; walk = a })
     edge_of_faller x a h =
         let k : Link W = record { place = x; walk = a } in
-        let other = get_or (row_of F.leaving v) h.0 k in
-        let lt = h.1 in
-        let n = aligned_count in
-        let low : h.0 < length (row_of F.leaving v) = omega (arith, lt, n) in
-        let place : other.place ≡ x = aligned_place h.0 k k low ∙ ap (λ (l : Link W). l.place) h.2 in
-        let link : record { place = x; walk = other.walk } ≡ other = λ i. record { place = (sym place) i; walk = other.walk } in (
-          record { place = x; leaving = other.walk; entering = a },
-          record {
-            leaving_inside = low;
-            entering_inside = h.1;
-            rises = get_or_default (row_of F.leaving v) h.0 (record { place = x; walk = other.walk }) k low ∙ sym link;
-            falls = h.2;
-          },
-          λ i. k,
-        )
+        let e = edge_at h.0 k (omega (arith, h.1, aligned_count)) in
+        (e.0, e.1, sym e.1.falls ∙ get_or_default (row_of F.entering v) h.0 (falling e.0) k h.1 ∙ h.2)
 
 module _ {V W : Type 0} (C : Composition V W) (ordered : IsOrder C.no_worse) where
   still_joined : (low : ℕ) (F G : FactorData W) → Improves C low F G → (e f : Edge W) → AreJoined C F e f → AreJoined C G e f
@@ -142,10 +129,9 @@ module _ {V W : Type 0} (C : Composition V W) (ordered : IsOrder C.no_worse) whe
         | inl before ↦ still_joined (v + 1) G H improves e f (done.joined q e f less before at also)
         | inr not_before ↦
             let is : q ≡ j = omega (arith, not_before, low) in
-            let one = edge_unique F v i first e at_i at in
             let here : IsEdgeAt F v j f = subst (λ (k : ℕ). IsEdgeAt F v k f) is also in
             let two = edge_unique F v j second f (edge_back F G done.improves j second at_j) here in
-            subst (λ (k : Edge W). AreJoined C H k f) one (subst (λ (k : Edge W). AreJoined C H first k) two joined)
+            subst (λ (k : Edge W). AreJoined C H k f) (edge_unique F v i first e at_i at) (subst (λ (k : Edge W). AreJoined C H first k) two joined)
       ];
     }
 
@@ -176,15 +162,13 @@ module _ {V W : Type 0} (C : Composition V W) (ordered : IsOrder C.no_worse) whe
         let leads : LeadsNoWorse C G e.0.place f.0.place (C.compose e.0.entering f.0.leaving) =
         elim (cases_lt before.0 onward.0) [
           | inl less ↦
-              let low = e.1.leaving_inside in
-              (done.joined before.0 onward.0 e.0 f.0 (omega (arith, low, all)) less e.1 f.1 apart).0
+              (done.joined before.0 onward.0 e.0 f.0 (omega (arith, e.1.leaving_inside, all)) less e.1 f.1 apart).0
           | inr not_less ↦ elim (cases_eq before.0 onward.0) [
             | inl is ↦
                 let here : IsEdgeAt F v onward.0 e.0 = subst (λ (k : ℕ). IsEdgeAt F v k e.0) is e.1 in
                 absurd (apart (ap (λ (k : Edge W). k.place) (edge_unique F v onward.0 e.0 f.0 here f.1)))
             | inr differ ↦
-                let low = f.1.leaving_inside in
-                (done.joined onward.0 before.0 f.0 e.0 (omega (arith, low, all)) (omega (arith, not_less, differ)) f.1 e.1 (λ is. apart (sym is))).1
+                (done.joined onward.0 before.0 f.0 e.0 (omega (arith, f.1.leaving_inside, all)) (omega (arith, not_less, differ)) f.1 e.1 (λ is. apart (sym is))).1
           ]
         ] in
         subst (λ (l : Link W). LeadsNoWorse C G l.place y (C.compose l.walk b)) e.2

@@ -98,7 +98,6 @@ module _ (heads : List (List ℕ)) (n : ℕ) (known : List Bool) (t : ℕ) where
         ];
         parents = λ q lt. elim (cases_lt q (length list)) [
           | inl before ↦
-              let here = up.parents q before in
               let next : get_or (list ++ v ∷ []) (q + 1) p ≡ get_or list (q + 1) v = elim (cases_lt (q + 1) (length list)) [
                 | inl within ↦ old (q + 1) within
                 | inr past ↦
@@ -106,7 +105,7 @@ module _ (heads : List (List ℕ)) (n : ℕ) (known : List Bool) (t : ℕ) where
                     new (q + 1) is ∙ sym (get_or_past list (q + 1) v past)
               ] in
               subst (λ (x : ℕ). IsTreeParent heads n (get_or (list ++ v ∷ []) q p) x) (sym next)
-              (subst (λ (x : ℕ). IsTreeParent heads n x (get_or list (q + 1) v)) (sym (old q before)) here)
+              (subst (λ (x : ℕ). IsTreeParent heads n x (get_or list (q + 1) v)) (sym (old q before)) (up.parents q before))
           | inr past ↦
               let is = last q lt past in
               let end : get_or (list ++ v ∷ []) (q + 1) p ≡ p = get_or_past (list ++ v ∷ []) (q + 1) p (omega (arith, m, is)) in
@@ -117,9 +116,7 @@ module _ (heads : List (List ℕ)) (n : ℕ) (known : List Bool) (t : ℕ) where
 
   pub unknown_inside : (list : List ℕ) (v : ℕ) → AreUnknownUp heads n known t list v → All (λ i. i < n) list
   unknown_inside list v up q d lt =
-      let low = up.inside q lt in
-      let read = get_or_default list q d v lt in
-      omega (arith, low, read)
+      omega (arith, up.inside q lt, get_or_default list q d v lt)
 
 -- the places from index k of the list on are found
 pub record AreFoundFrom {V : Type 0} (heads : List (List ℕ)) (n : ℕ) (before all : List (Option V)) (old : List Bool) (list : List ℕ) (k : ℕ)
@@ -144,19 +141,15 @@ module _ {V W : Type 0} (A : Algebra V) (C : Composition V W) (g : GraphData) (F
 
   pub list_inside : (q : ℕ) → q < length list → get_or list q 0 < g.vertices
   list_inside q lt =
-      let h = unknown.1.inside q lt in
-      let is = read q lt in
-      omega (arith, h, is)
+      omega (arith, unknown.1.inside q lt, read q lt)
 
   -- each is below the next
   rising_one : (q : ℕ) → q + 1 < length list → get_or list q 0 < get_or list (q + 1) 0
   rising_one q lt =
       let here : q < length list = omega (arith, lt) in
-      let low = list_inside q here in
       let is = read q here in
-      let up = parent_inside g.vertices heads are (get_or list q v) (get_or list (q + 1) v) (omega (arith, low, is)) (unknown.1.parents q here) in
-      let on = read (q + 1) lt in
-      omega (arith, up.0, is, on)
+      let up = parent_inside g.vertices heads are (get_or list q v) (get_or list (q + 1) v) (omega (arith, list_inside q here, is)) (unknown.1.parents q here) in
+      omega (arith, up.0, is, read (q + 1) lt)
 
   rising_by : (d q : ℕ) → q + suc d < length list → get_or list q 0 < get_or list (q + suc d) 0
   rising_by zero q lt =
@@ -204,9 +197,8 @@ module _ {V W : Type 0} (A : Algebra V) (C : Composition V W) (g : GraphData) (F
       -- what is above the place is known
       known_above : (y : ℕ) → IsHead heads i y → is_on known y ≡ true
       known_above y above =
-          let here = unknown.1.parents q lt in
           let parent : IsTreeParent heads g.vertices i (get_or list (q + 1) v) =
-          subst (λ (x : ℕ). IsTreeParent heads g.vertices x (get_or list (q + 1) v)) (read q lt) here in
+          subst (λ (x : ℕ). IsTreeParent heads g.vertices x (get_or list (q + 1) v)) (read q lt) (unknown.1.parents q lt) in
           let inside = are.rising i y above in
           let le = parent.least y above in
           let first : (get_or list (q + 1) v < g.vertices) → is_on known (get_or list (q + 1) v) ≡ true = λ within. elim (cases_lt (q + 1) (length list)) [
@@ -224,8 +216,7 @@ module _ {V W : Type 0} (A : Algebra V) (C : Composition V W) (g : GraphData) (F
               | inl none ↦ absurd (omega (arith, none, le, inside.1))
               | inr up ↦
                   let past = are.nested i (get_or list (q + 1) v) y up above (omega (arith, le, other)) in
-                  let r = are.rising i (get_or list (q + 1) v) up in
-                  done.upward (get_or list (q + 1) v) y (first r.1) past
+                  done.upward (get_or list (q + 1) v) y (first (are.rising i (get_or list (q + 1) v) up).1) past
             ]
           ]
 
@@ -265,8 +256,7 @@ module _ {V W : Type 0} (A : Algebra V) (C : Composition V W) (g : GraphData) (F
             ];
             kept = λ j on. keeps j (done.kept j on);
             fresh = λ p less within.
-                let rises = rising_list p q less lt in
-                others (get_or list p 0) (λ e. omega (arith, rises, e)) ∙ done.fresh p (omega (arith, less)) within;
+                others (get_or list p 0) (λ e. omega (arith, rising_list p q less lt, e)) ∙ done.fresh p (omega (arith, less)) within;
             done = λ p le within. elim (cases_eq p q) [
               | inl is ↦ ap (λ (r : ℕ). is_on (set known i true) (get_or list r 0)) is ∙ here
               | inr other ↦ keeps (get_or list p 0) (done.done p (omega (arith, le, other)) within)

@@ -22,9 +22,8 @@ rises_between xs up i j less lt = AllPairs-from_increasing xs up i j 0 less lt
 pub first_is_least : (xs : List ℕ) → IsStrictlyIncreasing xs → (y : ℕ) → Contains xs y → get_or xs 0 0 ≤ y
 first_is_least xs up y (zero, lt, is) = let e = get_or_default xs zero 0 y lt ∙ is in omega (arith, e)
 first_is_least xs up y (suc k, lt, is) =
-    let e = get_or_default xs (suc k) 0 y lt ∙ is in
     let less = rises_between xs up 0 (suc k) (omega arith) lt in
-    omega (arith, e, less)
+    omega (arith, get_or_default xs (suc k) 0 y lt ∙ is, less)
 
 not_falling : (xs : List ℕ) → IsStrictlyIncreasing xs → (i j : ℕ) → i ≤ j → j < length xs → get_or xs i 0 ≤ get_or xs j 0
 not_falling xs up i j le lt = elim (cases_lt i j) [
@@ -157,8 +156,7 @@ module _ (n : ℕ) (heads : List (List ℕ)) (are : AreHeads n heads) (v i j : �
 
   pub seek_between : (q : ℕ) → AreAhead heads v i j q → (m : ℕ) × (q ≤ m) × (m < length (row_of heads near)) × (get_or (row_of heads near) m 0 ≡ far)
   seek_between q ahead =
-      let up = rises_between (row_of heads v) (are.ascending v) i j after lt in
-      let at = are.nested v near far near_head (j, lt, get_or_default (row_of heads v) j far 0 lt) up in
+      let at = are.nested v near far near_head (j, lt, get_or_default (row_of heads v) j far 0 lt) (rises_between (row_of heads v) (are.ascending v) i j after lt) in
       let is : get_or (row_of heads near) at.0 0 ≡ far = get_or_default (row_of heads near) at.0 0 far at.1 ∙ at.2 in
       (at.0, ahead j at.0 (omega arith) lt at.1 is, at.1, is)
 

@@ -32,9 +32,8 @@ module _ (Has : ℕ → ℕ → Type 0) (places : List ℕ) where
       length roads ≤ j → (a : ℕ) → HasArc g a → (arc_of g a).tail ≡ tail → IsJoined Has (at places (arc_of g a).tail) (at places (arc_of g a).head)
   roads_all g tail roads lists j done all a has from =
       let h = arc_listed g tail roads lists a has from in
-      let low = h.1 in
       subst (λ (t : ℕ). IsJoined Has (at places t) (at places (arc_of g a).head)) (sym from)
-      (done (road_of (arc_of g a)) h.0 (omega (arith, low, all)) h.2)
+      (done (road_of (arc_of g a)) h.0 (omega (arith, h.1, all)) h.2)
 
   -- an arc's road
   pub road_joined : (g : GraphData) (tail : ℕ) (roads : List OutRoad) → ListsRoadsFrom g tail roads →

@@ -36,8 +36,7 @@ module _ (items : List Item) (falling : (i : ℕ) → 1 ≤ i → (item_of items
       go zero i low is = (is, omega (arith, low, is))
       go (suc k) i low after =
           let some = after.0 in
-          let less = falling i some in
-          let r = go k (item_of items i).next (omega (arith, less, low)) after.1 in
+          let r = go k (item_of items i).next (omega (arith, falling i some, low)) after.1 in
           ((some, subst (λ (q : Item). IsAfter more k q.next j) (sym (same_item i some low)) r.0), r.1)
 
 -- one more number in front of a list

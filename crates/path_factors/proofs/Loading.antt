@@ -96,9 +96,8 @@ module _ {V W : Type 0} (C : Composition V W) (ordered : IsOrder C.no_worse) whe
       LeadsNoWorse C G (place_of F (arc_of g a).tail) (place_of F (arc_of g a).head) (C.of_arc (arc_of g a).weight)
   loaded_all g tail roads lists F G j done all a has from other =
       let at = arc_listed g tail roads lists a has from in
-      let low = at.1 in
       subst (λ (t : ℕ). LeadsNoWorse C G (place_of F t) (place_of F (arc_of g a).head) (C.of_arc (arc_of g a).weight)) (sym from)
-      (done.linked (road_of (arc_of g a)) at.0 (omega (arith, low, all)) at.2 (λ e. other (from ∙ e)))
+      (done.linked (road_of (arc_of g a)) at.0 (omega (arith, at.1, all)) at.2 (λ e. other (from ∙ e)))
 
   pub loaded_to_more : (g : GraphData) (F G H : FactorData W) (k : ℕ) → LoadedTo C g F G k → Improves C 0 G H →
       ((a : ℕ) → HasArc g a → (arc_of g a).tail ≡ k + 1 → ((arc_of g a).tail ≡ (arc_of g a).head → ⊥) →
@@ -122,10 +121,9 @@ module _ {V W : Type 0} (C : Composition V W) (ordered : IsOrder C.no_worse) whe
   loaded_to_all g roads F G k done all = λ a has other.
       let tail = (arc_of g a).tail in
       let head = (arc_of g a).head in
-      let within = (roads.ends a has).0.1 in
       subst (λ (p : ℕ). LeadsNoWorse C G p (place_of G head) (C.of_arc (arc_of g a).weight)) (sym (same_place C 0 F G done.improves tail))
       (subst (λ (p : ℕ). LeadsNoWorse C G (place_of F tail) p (C.of_arc (arc_of g a).weight)) (sym (same_place C 0 F G done.improves head))
-      (done.covers a has (omega (arith, within, all)) other))
+      (done.covers a has (omega (arith, (roads.ends a has).0.1, all)) other))
 
   -- what was covered stays covered
   pub still_covers : (g : GraphData) (F G : FactorData W) → Improves C 0 F G → CoversArcs C g F → CoversArcs C g G

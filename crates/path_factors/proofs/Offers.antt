@@ -10,6 +10,12 @@ use Rattle.path_algebra.proofs.Least.{same_no_worse, other_no_worse}
 use Rattle.path_factors.specs.declared.link.Link.{Link}
 use Rattle.path_factors.specs.Substituting.{at, HasNoWorse, offered_link, offered_along, offered_from, best_along}
 
+-- what a walk makes of a label, it makes of a value
+pub applied_is : {V W : Type 0} (C : Composition V W) (o : Option V) (a : W) (z : V) → applied C o a ≡ Some z →
+    (x : V) × (o ≡ Some x) × (C.apply x a ≡ Some z)
+applied_is C None a z e = cc
+applied_is C (Some x) a z e = (x, refl, e)
+
 module _ {V : Type 0} (A : Algebra V) (lawful : IsLawful A) where
   same : (x : V) → IsTrue (A.no_worse x x)
   same x = same_no_worse A.no_worse lawful.ordered x
@@ -62,8 +68,7 @@ module _ {V : Type 0} (A : Algebra V) (lawful : IsLawful A) where
     best_keeps labels (k ∷ row) l x e =
         let m = applied C (at labels k.place) k.walk in
         let one = better_keeps l m x e in
-        let rest = best_keeps labels row (better_label A.no_worse l m) one.0 one.1 in
-        no_worse_on (best_along A C labels (better_label A.no_worse l m) row) one.0 x rest one.2
+        no_worse_on (best_along A C labels (better_label A.no_worse l m) row) one.0 x (best_keeps labels row (better_label A.no_worse l m) one.0 one.1) one.2
 
     -- and than what a link of the row brings
     pub best_passes : (labels : List (Option V)) (row : List (Link W)) (l : Option V) (k : Link W) (x z : V) → Contains row k →
@@ -76,8 +81,7 @@ module _ {V : Type 0} (A : Algebra V) (lawful : IsLawful A) where
               let brings : m ≡ Some z =
               ap (λ (q : Link W). applied C (at labels q.place) q.walk) is ∙ ap (λ (o : Option V). applied C o k.walk) e ∙ f in
               let one = better_takes l m z brings in
-              let rest = best_keeps labels row (better_label A.no_worse l m) one.0 one.1 in
-              no_worse_on (best_along A C labels (better_label A.no_worse l m) row) one.0 z rest one.2
+              no_worse_on (best_along A C labels (better_label A.no_worse l m) row) one.0 z (best_keeps labels row (better_label A.no_worse l m) one.0 one.1) one.2
           | inr after ↦ best_passes labels row (better_label A.no_worse l m) k x z after e f
         ]
 
@@ -89,10 +93,6 @@ module _ {V : Type 0} (A : Algebra V) (lawful : IsLawful A) where
       pub label : at labels link.place ≡ Some value
       pub extends : C.apply value link.walk ≡ Some z
 
-    applied_is : (o : Option V) (a : W) (z : V) → applied C o a ≡ Some z → (x : V) × (o ≡ Some x) × (C.apply x a ≡ Some z)
-    applied_is None a z e = cc
-    applied_is (Some x) a z e = (x, refl, e)
-
     -- and it is one of these
     pub best_is_one : (labels : List (Option V)) (row : List (Link W)) (l : Option V) (z : V) →
         best_along A C labels l row ≡ Some z → (l ≡ Some z) ⊎ Brings labels row z
@@ -103,7 +103,7 @@ module _ {V : Type 0} (A : Algebra V) (lawful : IsLawful A) where
           | inl one ↦ elim (better_is_one l m z one) [
             | inl old ↦ inl old
             | inr new ↦
-                let by = applied_is (at labels k.place) k.walk z new in
+                let by = applied_is C (at labels k.place) k.walk z new in
                 inr (record { link = k; among = here k row; value = by.0; label = by.1; extends = by.2 })
           ]
           | inr by ↦ inr (record {
@@ -129,10 +129,9 @@ module _ {V : Type 0} (A : Algebra V) (lawful : IsLawful A) where
           at (offered_along A C x labels row) i ≡ at labels i
       offered_other [] labels i beyond = refl
       offered_other (k ∷ row) labels i beyond =
-          let less = beyond k (here k row) in
           offered_other row (offered_link A C x labels k) i (λ q h. beyond q (later k q row h))
           ∙ get_or-set_other labels k.place i (better_label A.no_worse (at labels k.place) (C.apply x k.walk)) None
-          (λ e. omega (arith, less, e))
+          (λ e. omega (arith, beyond k (here k row), e))
 
       module _ (labels : List (Option V)) (k : Link W) (inside : k.place < length labels) where
         link_same : at (offered_link A C x labels k) k.place ≡ better_label A.no_worse (at labels k.place) (C.apply x k.walk)
@@ -189,8 +188,7 @@ module _ {V : Type 0} (A : Algebra V) (lawful : IsLawful A) where
           let low = inside k (here k row) in
           let one = link_keeps labels k low i y e in
           let further = subst (λ (n : ℕ). LeadBelow n row) (sym (link_count labels k low)) (rest_inside (length labels) k row inside) in
-          let rest = offered_keeps row next further i one.0 one.1 in
-          no_worse_on (at (offered_along A C x next row) i) one.0 y rest one.2
+          no_worse_on (at (offered_along A C x next row) i) one.0 y (offered_keeps row next further i one.0 one.1) one.2
 
       -- the place of a link has a label no worse than it was offered
       pub offered_passes : (row : List (Link W)) (labels : List (Option V)) → LeadBelow (length labels) row →
@@ -205,9 +203,8 @@ module _ {V : Type 0} (A : Algebra V) (lawful : IsLawful A) where
             | inl is ↦
                 let offer : C.apply x r.walk ≡ Some z = ap (λ (q : Link W). C.apply x q.walk) is ∙ f in
                 let one = link_takes labels r low z offer in
-                let rest = offered_keeps row next further r.place one.0 one.1 in
                 subst (λ (q : Link W). HasNoWorse A (at (offered_along A C x next row) q.place) z) is
-                (no_worse_on (at (offered_along A C x next row) r.place) one.0 z rest one.2)
+                (no_worse_on (at (offered_along A C x next row) r.place) one.0 z (offered_keeps row next further r.place one.0 one.1) one.2)
             | inr after ↦ offered_passes row next further k z after f
           ]
 
@@ -217,10 +214,9 @@ module _ {V : Type 0} (A : Algebra V) (lawful : IsLawful A) where
           (at labels i ≡ Some z) ⊎ ((k : Link W) × Contains row k × (k.place ≡ i) × (C.apply x k.walk ≡ Some z))
       offered_is_one [] labels inside i z e = inl e
       offered_is_one (k ∷ row) labels inside i z e =
-          let next = offered_link A C x labels k in
           let low = inside k (here k row) in
           let further = subst (λ (n : ℕ). LeadBelow n row) (sym (link_count labels k low)) (rest_inside (length labels) k row inside) in
-          elim (offered_is_one row next further i z e) [
+          elim (offered_is_one row (offered_link A C x labels k) further i z e) [
             | inl one ↦ elim (link_is_one labels k low i z one) [
               | inl old ↦ inl old
               | inr new ↦ inr (k, here k row, new.0, new.1)

@@ -2,13 +2,14 @@
 use Rattle.std.proofs.Common.{◌≡◌, ℕ, zero, suc, ◌+◌, ◌-◌, ◌<◌, ◌≤◌, inl, inr, List, [], ◌∷◌, ◌++◌, length, take, drop, get_or, refl, ap, sym, ◌∙◌, subst, arith}
 use Rattle.std.specs.Prelude.{All, Contains, slice_range}
 use Rattle.std.proofs.lemmas.Bool.{cases_lt}
-use Rattle.std.proofs.lemmas.List.{length-drop, length-take-le, get_or-take, get_or-drop, take-append-le, drop-append-le, take_all, get_or_past, get_or_append_left, get_or_push, length-append}
+use Rattle.std.proofs.lemmas.List.{get_or_default, length-drop, length-take-le, get_or-take, get_or-drop, take-append-le, drop-append-le, take_all, get_or_past, get_or_append_left, get_or_push, length-append}
 use Rattle.std.proofs.lemmas.List.Elements.{All-nil, All-take, All-drop}
 use Rattle.std.proofs.Math.ListN.{drop_of_length-le}
 use Rattle.road_graph.proofs.Lists.{not_in_empty}
 use Rattle.path_factors.specs.declared.link.Link.{Link}
 use Rattle.path_factors.specs.Factors.{row_of}
-use Rattle.path_factors.specs.Packing.{links_of, rows_between, ArePacked, ArePackedBothWays}
+use Rattle.path_factors.specs.Edges.{LinkRows}
+use Rattle.path_factors.specs.Packing.{links_of, rows_between, ArePacked, ArePackedBothWays, packed_rows}
 
 module _ {W : Type 0} where
   pub links_count : (places : List ℕ) (walks : List W) → length walks ≡ length places → length (links_of places walks) ≡ length places
@@ -39,8 +40,7 @@ module _ {X : Type 0} where
   rows_count [] items = refl
   rows_count (s ∷ []) items = refl
   rows_count (s ∷ e ∷ starts) items =
-      let rest = rows_count (e ∷ starts) items in
-      omega (arith, rest)
+      omega (arith, rows_count (e ∷ starts) items)
 
   -- no row past the last
   pub row_past : (rows : List (List X)) (i : ℕ) → length rows ≤ i → row_of rows i ≡ []
@@ -74,9 +74,8 @@ module _ {X : Type 0} where
   -- a part is the same in a longer list
   part_before : (items row : List X) (s e : ℕ) → s ≤ e → e ≤ length items → slice_range (items ++ row) s e ≡ slice_range items s e
   part_before items row s e le inside =
-      let n = length-drop s items in
       ap (λ (l : List X). take (e - s) l) (drop-append-le s items row (omega (arith, le, inside)))
-      ∙ take-append-le (e - s) (drop s items) row (omega (arith, n, le, inside))
+      ∙ take-append-le (e - s) (drop s items) row (omega (arith, length-drop s items, le, inside))
 
   -- the part after a list
   part_after : (items row : List X) → slice_range (items ++ row) (length items) (length items + length row) ≡ row
@@ -106,8 +105,7 @@ module _ {X : Type 0} where
         inside = λ i lt. packed.inside (suc i) (omega (arith, lt));
         last =
             let size : length (s ∷ e ∷ starts) - 1 ≡ suc (length (e ∷ starts) - 1) = omega arith in
-            let here = packed.last in
-            rw size at here;
+            rw size at packed.last;
       } in
       ap (λ (r : List X). r ∷ rows_between (e ∷ starts ++ (length items + length row) ∷ []) (items ++ row)) (part_before items row s e first within)
       ∙ ap (λ (rows : List (List X)). slice_range items s e ∷ rows) (packed_more (e ∷ starts) items row tail)
@@ -126,16 +124,13 @@ packed_push starts items row packed =
       some = omega (arith, n);
       rising = λ i lt. elim (cases_lt (i + 1) (length starts)) [
         | inl low ↦
-            let up = packed.rising i low in
             let one = old i (omega (arith, low)) in
-            let two = old (i + 1) low in
-            omega (arith, up, one, two)
+            omega (arith, packed.rising i low, one, old (i + 1) low)
         | inr high ↦
             let is : i + 1 ≡ length starts = omega (arith, high, lt, n) in
             let one = old i (omega (arith, is)) in
-            let two = new (i + 1) is in
             let le = packed.inside i (omega (arith, is)) in
-            omega (arith, one, two, le)
+            omega (arith, one, new (i + 1) is, le)
       ];
       inside = λ i lt. elim (cases_lt i (length starts)) [
         | inl low ↦ let one = old i low in let le = packed.inside i low in omega (arith, one, le, size)
@@ -163,11 +158,9 @@ pub row_count : {X : Type 0} (starts : List ℕ) (items : List X) → ArePacked 
     length (row_of (rows_between starts items) i) ≡ get_or starts (i + 1) 0 - get_or starts i 0
 row_count starts items packed i lt =
     let s = get_or starts i 0 in
-    let e = get_or starts (i + 1) 0 in
-    let up = packed.rising i lt in
     let within = packed.inside (i + 1) lt in
     let n = length-drop s items in
-    ap length (row_between starts items i lt) ∙ length-take-le (e - s) (drop s items) (omega (arith, n, up, within))
+    ap length (row_between starts items i lt) ∙ length-take-le ((get_or starts (i + 1) 0) - s) (drop s items) (omega (arith, n, packed.rising i lt, within))
 
 -- a link of a row, in the whole list
 pub row_link : {X : Type 0} (starts : List ℕ) (items : List X) → ArePacked starts items → (i : ℕ) → i + 1 < length starts →
@@ -175,10 +168,8 @@ pub row_link : {X : Type 0} (starts : List ℕ) (items : List X) → ArePacked s
     get_or (row_of (rows_between starts items) i) j d ≡ get_or items (get_or starts i 0 + j) d
 row_link starts items packed i lt j low d =
     let s = get_or starts i 0 in
-    let e = get_or starts (i + 1) 0 in
-    let n = row_count starts items packed i lt in
     ap (λ (r : List _). get_or r j d) (row_between starts items i lt)
-    ∙ get_or-take (e - s) (drop s items) j d (omega (arith, n, low)) ∙ get_or-drop s items j d
+    ∙ get_or-take ((get_or starts (i + 1) 0) - s) (drop s items) j d (omega (arith, row_count starts items packed i lt, low)) ∙ get_or-drop s items j d
 
 -- the same starts serve other items, of which there are as many
 pub packed_as : {X Y : Type 0} (starts : List ℕ) (items : List X) (others : List Y) → length others ≡ length items → ArePacked starts items → ArePacked starts others
@@ -189,56 +180,56 @@ packed_as starts items others n packed = record {
   last = let is = packed.last in omega (arith, is, n);
 }
 
--- what is known of the row of a place, in lists of both links
-module _ {W : Type 0} (starts places : List ℕ) (leaving entering : List W) (packed : ArePackedBothWays starts places leaving entering)
-    (i : ℕ) (low : i < length (rows_between starts (links_of places leaving))) where
-  abbrev risers : List (Link W)
-  risers = links_of places leaving
+pub packed_links : {W : Type 0} (starts places : List ℕ) (walks : List W) → length walks ≡ length places → ArePacked starts places →
+    ArePacked starts (links_of places walks)
+packed_links starts places walks n packed = packed_as starts places (links_of places walks) (links_count places walks n) packed
 
-  abbrev fallers : List (Link W)
-  fallers = links_of places entering
-
-  risers_count : length risers ≡ length places
-  risers_count = links_count places leaving packed.fields.leaving_count
-
-  fallers_count : length fallers ≡ length places
-  fallers_count = links_count places entering packed.fields.entering_count
-
-  pub packed_falls : ArePacked starts fallers
-  packed_falls =
-      let n = risers_count in
-      let m = fallers_count in
-      packed_as starts risers fallers (omega (arith, n, m)) packed.packed
-
+-- the row of a place in packed rows, if s is where it begins
+module _ {W : Type 0} {starts places : List ℕ} {leaving entering : List W} (packed : ArePackedBothWays starts places leaving entering)
+    {rows : LinkRows W} (view : packed_rows starts places leaving entering ≡ rows) (i : ℕ) (inside : i < length rows.leaving) where
   pub row_inside : i + 1 < length starts
-  row_inside = let n = rows_count starts risers in let some = packed.packed.some in omega (arith, low, n, some)
+  row_inside =
+      let low : i < length (rows_between starts (links_of places leaving)) = subst (λ (l : LinkRows W). i < length l.leaving) (sym view) inside in
+      omega (arith, low, rows_count starts (links_of places leaving), packed.packed.some)
 
-  pub row_rises : get_or starts i 0 ≤ get_or starts (i + 1) 0
-  row_rises = packed.packed.rising i row_inside
+  -- with the links of either list of walks
+  module _ (s : ℕ) (begins : s ≡ get_or starts i s) where
+    pub start_is : s ≡ get_or starts i 0
+    start_is = begins ∙ get_or_default starts i s 0 (omega (arith, row_inside))
 
-  pub row_ends : get_or starts (i + 1) 0 ≤ length places
-  row_ends = let le = packed.packed.inside (i + 1) row_inside in let n = risers_count in omega (arith, le, n)
+    module _ (walks : List W) (n : length walks ≡ length places) (j : ℕ) (low : j < length (row_of (rows_between starts (links_of places walks)) i)) where
+      link_inside : s + j < length places
+      link_inside =
+          omega (arith, low, start_is, row_count starts (links_of places walks) (packed_links starts places walks n packed.packed) i row_inside,
+          packed.packed.rising i row_inside, packed.packed.inside (i + 1) row_inside)
 
-  pub risers_of_row : length (row_of (rows_between starts risers) i) ≡ get_or starts (i + 1) 0 - get_or starts i 0
-  risers_of_row = row_count starts risers packed.packed i row_inside
+      pub link_in_row : (p : ℕ) (a : W) (d : Link W) → p ≡ get_or places (s + j) p → a ≡ get_or walks (s + j) a →
+          get_or (row_of (rows_between starts (links_of places walks)) i) j d ≡ record { place = p; walk = a }
+      link_in_row p a d is at =
+          row_link starts (links_of places walks) (packed_links starts places walks n packed.packed) i row_inside j low d
+          ∙ ap (λ (k : ℕ). get_or (links_of places walks) (k + j) d) (sym start_is)
+          ∙ link_at places walks (s + j) p a d n link_inside is at
 
-  pub fallers_of_row : length (row_of (rows_between starts fallers) i) ≡ get_or starts (i + 1) 0 - get_or starts i 0
-  fallers_of_row = row_count starts fallers packed_falls i row_inside
+    module _ (j : ℕ) (low : j < length (row_of rows.leaving i)) where
+      was : j < length (row_of (rows_between starts (links_of places leaving)) i)
+      was = subst (λ (l : LinkRows W). j < length (row_of l.leaving i)) (sym view) low
 
-  pub riser_at : (j p : ℕ) (a : W) (d : Link W) → j < length (row_of (rows_between starts risers) i) →
-      p ≡ get_or places (get_or starts i 0 + j) p → a ≡ get_or leaving (get_or starts i 0 + j) a →
-      get_or (row_of (rows_between starts risers) i) j d ≡ record { place = p; walk = a }
-  riser_at j p a d lt is at =
-      let n = risers_of_row in
-      let le = row_ends in
-      row_link starts risers packed.packed i row_inside j lt d
-      ∙ link_at places leaving (get_or starts i 0 + j) p a d packed.fields.leaving_count (omega (arith, lt, n, le)) is at
+      pub riser_inside : s + j < length places
+      riser_inside = link_inside leaving packed.fields.leaving_count j was
 
-  pub faller_at : (j p : ℕ) (a : W) (d : Link W) → j < length (row_of (rows_between starts fallers) i) →
-      p ≡ get_or places (get_or starts i 0 + j) p → a ≡ get_or entering (get_or starts i 0 + j) a →
-      get_or (row_of (rows_between starts fallers) i) j d ≡ record { place = p; walk = a }
-  faller_at j p a d lt is at =
-      let n = fallers_of_row in
-      let le = row_ends in
-      row_link starts fallers packed_falls i row_inside j lt d
-      ∙ link_at places entering (get_or starts i 0 + j) p a d packed.fields.entering_count (omega (arith, lt, n, le)) is at
+      pub riser_at : (p : ℕ) (a : W) (d : Link W) → p ≡ get_or places (s + j) p → a ≡ get_or leaving (s + j) a →
+          get_or (row_of rows.leaving i) j d ≡ record { place = p; walk = a }
+      riser_at p a d is at =
+          ap (λ (l : LinkRows W). get_or (row_of l.leaving i) j d) (sym view) ∙ link_in_row leaving packed.fields.leaving_count j was p a d is at
+
+    module _ (j : ℕ) (low : j < length (row_of rows.entering i)) where
+      also : j < length (row_of (rows_between starts (links_of places entering)) i)
+      also = subst (λ (l : LinkRows W). j < length (row_of l.entering i)) (sym view) low
+
+      pub faller_inside : s + j < length places
+      faller_inside = link_inside entering packed.fields.entering_count j also
+
+      pub faller_at : (p : ℕ) (a : W) (d : Link W) → p ≡ get_or places (s + j) p → a ≡ get_or entering (s + j) a →
+          get_or (row_of rows.entering i) j d ≡ record { place = p; walk = a }
+      faller_at p a d is at =
+          ap (λ (l : LinkRows W). get_or (row_of l.entering i) j d) (sym view) ∙ link_in_row entering packed.fields.entering_count j also p a d is at

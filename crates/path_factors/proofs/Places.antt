@@ -35,10 +35,8 @@ module _ {V W : Type 0} (A : Algebra V) (g : GraphData) (F : FactorData W) (orde
       AreOrigins A g F before labels → AreOrigins A g F (before ++ s ∷ []) (set labels (place_of F s) (Some A.origin))
   origins_more before s labels in_s done =
       let p = place_of F s in
-      let n = done.count in
-      let low = (ordering.place s in_s).0 in
       let here : at (set labels p (Some A.origin)) p ≡ Some A.origin =
-      get_or-set_same labels p (Some A.origin) None (omega (arith, low, n)) in
+      get_or-set_same labels p (Some A.origin) None (omega (arith, (ordering.place s in_s).0, done.count)) in
       record {
         count = length-set labels p (Some A.origin) ∙ done.count;
         at_sources = λ t c. elim (cases_eq (place_of F t) p) [
@@ -62,8 +60,7 @@ module _ {V W : Type 0} (A : Algebra V) (g : GraphData) (F : FactorData W) (orde
   pub read_by_vertex : (labels : List (Option V)) (v : ℕ) → HasVertex g v →
       label_of (map (at labels) F.places) v ≡ at labels (place_of F v)
   read_by_vertex labels v in_v =
-      let n = ordering.places_count in
-      get_or-map (at labels) F.places (v - 1) 0 None (omega (arith, in_v.0, in_v.1, n))
+      get_or-map (at labels) F.places (v - 1) 0 None (omega (arith, in_v.0, in_v.1, ordering.places_count))
 
   -- before the first source
   pub origins_none : (labels : List (Option V)) → length labels ≡ g.vertices → ((i : ℕ) → at labels i ≡ None) →
@@ -77,10 +74,8 @@ module _ {V W : Type 0} (A : Algebra V) (g : GraphData) (F : FactorData W) (orde
   -- each entry is a place
   pub place_inside : (places : List ℕ) → places ≡ F.places → (i : ℕ) → i < length places → get_or places i 0 < g.vertices
   place_inside places is i lt =
-      let n = ordering.places_count in
-      let same = ap length is in
       let back : (i + 1) - 1 ≡ i = omega arith in
       let read : place_of F (i + 1) ≡ get_or places i 0 =
       ap (λ (j : ℕ). get_or F.places j 0) back ∙ ap (λ (l : List ℕ). get_or l i 0) (sym is) in
-      let low = (ordering.place (i + 1) (omega arith, omega (arith, lt, n, same))).0 in
+      let low = (ordering.place (i + 1) (omega arith, omega (arith, lt, ordering.places_count, ap length is))).0 in
       omega (arith, low, read)

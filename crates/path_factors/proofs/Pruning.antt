@@ -4,20 +4,21 @@ use Rattle.std.specs.Prelude.{IsTrue, Contains}
 use Rattle.std.proofs.lemmas.Bool.{cases_eq, cases_lt}
 use Rattle.std.proofs.lemmas.List.{get_or_append_left, get_or_push, length-append, get_or-set_other}
 use Rattle.road_graph.proofs.Lists.{not_in_empty, head_or_tail, here, later}
-use Rattle.road_graph.specs.GraphData.{GraphData, arc_of}
+use Rattle.road_graph.specs.GraphData.{GraphData, IsGraph, arc_of}
 use Rattle.path_algebra.specs.Algebra.{Algebra, IsLawful}
-use Rattle.path_algebra.specs.Composition.{Composition, IsComposition, applied}
+use Rattle.path_algebra.specs.Composition.{Composition, IsComposition}
 use Rattle.path_factors.specs.declared.link.Link.{Link}
 use Rattle.path_factors.specs.declared.edge.Edge.{Edge}
-use Rattle.path_factors.specs.Factors.{FactorData, IsFactor, IsCovered, Passes, CoversArcs, AreStable, Rises, Falls, Leads, LeadsNoWorse, at, row_of, place_of}
+use Rattle.path_factors.specs.Factors.{FactorData, IsCovered, Passes, CoversArcs, AreStable, Rises, Falls, Leads, LeadsNoWorse, at, row_of, place_of}
 use Rattle.path_factors.specs.Asking.{is_on}
 use Rattle.path_factors.specs.Eliminating.{AreClosedTo, IsBegun}
-use Rattle.path_factors.specs.Heads.{heads_in}
+use Rattle.path_factors.specs.Heads.{IsOutline, heads_in}
 use Rattle.path_factors.specs.Pruning.{marked, PassesAlong, DoForAll, IsBypassed, AreThinTo}
 use Rattle.path_factors.specs.Edges.{LinkRows, IsEdgeAt, AreAligned, rising}
-use Rattle.path_factors.specs.Tree.{AreAtHeads}
+use Rattle.path_factors.specs.Tree.{IsFactored}
 use Rattle.path_factors.proofs.Eliminating.{edge_unique, edge_rises, edge_falls, edge_of_riser, edge_of_faller}
 use Rattle.path_factors.proofs.HeadRows.{head_of_link, head_at, heads_row}
+use Rattle.path_factors.proofs.Offers.{applied_is}
 use Rattle.path_factors.proofs.Packing.{inside_rows}
 
 -- one element more
@@ -99,21 +100,15 @@ module _ {V W : Type 0} (A : Algebra V) (lawful : IsLawful A) (C : Composition V
       let on = passes x better.0 e better.1 in
       (on.0, on.1, lawful.ordered.transitive on.0 better.0 z on.2 better.2)
 
-  applied_is : (o : Option V) (b : W) (y : V) → applied C o b ≡ Some y → (m : V) × (o ≡ Some m) × (C.apply m b ≡ Some y)
-  applied_is None b y e = cc
-  applied_is (Some m) b y e = (m, refl, e)
-
   -- neither does one after the other of two that improve nothing
   passes_both : (from mid to : Option V) (a b : W) → ((x : V) → from ≡ Some x → IsTrue (A.is_value x)) →
       ((x : V) → mid ≡ Some x → IsTrue (A.is_value x)) →
       Passes A C from a mid → Passes A C mid b to → Passes A C from (C.compose a b) to
   passes_both from mid to a b values also first second = λ x z e f.
       let is = values x e in
-      let m = applied_is (C.apply x a) b z (sym (composes.apply_composed x a b is) ∙ f) in
+      let m = applied_is C (C.apply x a) b z (sym (composes.apply_composed x a b is) ∙ f) in
       let to_mid = first x m.0 e m.1 in
-      let is_m = composes.apply_is_value x a m.0 is m.1 in
-      let is_mid = also to_mid.0 to_mid.1 in
-      let more = composes.monotone to_mid.0 m.0 b z is_mid is_m to_mid.2 m.2 in
+      let more = composes.monotone to_mid.0 m.0 b z (also to_mid.0 to_mid.1) (composes.apply_is_value x a m.0 is m.1) to_mid.2 m.2 in
       let end = second to_mid.0 more.0 to_mid.1 more.1 in
       (end.0, end.1, lawful.ordered.transitive end.0 more.0 z end.2 more.2)
 
@@ -155,11 +150,9 @@ module _ {V W : Type 0} (A : Algebra V) (lawful : IsLawful A) (C : Composition V
   thin_more k rows more marks done does up down =
       let n = done.leaving_count in
       let m = done.entering_count in
-      let up_count = ap length up ∙ length-append rows.leaving (marked (row_of F.leaving k) marks ∷ []) in
-      let down_count = ap length down ∙ length-append rows.entering (marked (row_of F.entering k) marks ∷ []) in
       record {
-        leaving_count = omega (arith, n, up_count);
-        entering_count = omega (arith, m, down_count);
+        leaving_count = omega (arith, n, ap length up ∙ length-append rows.leaving (marked (row_of F.leaving k) marks ∷ []));
+        entering_count = omega (arith, m, ap length down ∙ length-append rows.entering (marked (row_of F.entering k) marks ∷ []));
         marks = λ v less. elim (cases_lt v k) [
           | inl low ↦
               let old = done.marks v low in (
@@ -180,119 +173,134 @@ module _ {V W : Type 0} (A : Algebra V) (lawful : IsLawful A) (C : Composition V
         ];
       }
 
-  -- the links that are left of a factor
+  -- the factor with other links
+  abbrev with_rows : LinkRows W → FactorData W
+  with_rows rows = record { order = F.order; places = F.places; leaving = rows.leaving; entering = rows.entering }
+
   module _ (g : GraphData) (covers : CoversArcs C g F) (closed : AreClosedTo C F g.vertices) (begun : IsBegun A C g F)
-      (aligned : AreAligned F.leaving F.entering) (rows : LinkRows W) (thin : AreThinTo A C F g.vertices rows) where
-    abbrev K : FactorData W
-    K = record { order = F.order; places = F.places; leaving = rows.leaving; entering = rows.entering }
+      (aligned : AreAligned F.leaving F.entering) (roads : IsGraph g) (outline : IsOutline g F.places (heads_in F.leaving)) where
+    -- links are a factor if they were there, and improve a label if some link does
+    module _ (rows : LinkRows W) (counts : (length rows.leaving ≡ g.vertices) × (length rows.entering ≡ g.vertices))
+        (rises_before : (x y : ℕ) (a : W) → Rises (with_rows rows) x y a → Rises F x y a)
+        (falls_before : (x y : ℕ) (a : W) → Falls (with_rows rows) x y a → Falls F x y a)
+        (all_stable : (low : ℕ) (labels : List (Option V)) → AreStable A C (with_rows rows) low labels → AreStable A C F low labels) where
+      covered : (low x y : ℕ) (a : W) → low ≤ x → low ≤ y → LeadsNoWorse C F x y a → IsCovered A C (with_rows rows) low x y a
+      covered low x y a one two l = λ labels stable.
+          passes_worse (at labels x) (at labels y) l.0 a (stable.values x) l.2 ((all_stable low labels stable).passes x y l.0 one two l.1)
 
-    rises_before : (x y : ℕ) (a : W) → Rises K x y a → Rises F x y a
-    rises_before x y a r = elim (cases_lt x g.vertices) [
-      | inl low ↦
-          let k = thin.marks x low in
-          marked_given (row_of F.leaving x) k.0 (record { place = y; walk = a }) (subst (λ (t : List (Link W)). Contains t (record { place = y; walk = a })) k.2 r)
-      | inr past ↦ let low = inside_rows rows.leaving x (record { place = y; walk = a }) r in let n = thin.leaving_count in absurd (omega (arith, low, past, n))
-    ]
+      left_is_factored : IsFactored A C g (with_rows rows) (heads_in F.leaving)
+      left_is_factored = record {
+        roads = roads;
+        factor = record {
+          ordering = begun.ordering;
+          links = record {
+            leaving_count = counts.0;
+            entering_count = counts.1;
+            rising = λ x y a r. begun.links.rising x y a (rises_before x y a r);
+            falling = λ x y a f. begun.links.falling x y a (falls_before x y a f);
+            sound = λ x y a l. elim l [
+              | inl r ↦ begun.links.sound x y a (inl (rises_before x y a r))
+              | inr f ↦ begun.links.sound x y a (inr (falls_before x y a f))
+            ];
+          };
+          covers = λ a has other.
+              covered 0 (place_of F (arc_of g a).tail) (place_of F (arc_of g a).head) (C.of_arc (arc_of g a).weight) (omega arith) (omega arith) (covers a has other);
+          closed = λ v low x y a b f r other.
+              let from = falls_before x v a f in
+              let on = rises_before v y b r in
+              let also = (begun.links.rising v y b on).0 in
+              covered (v + 1) x y (C.compose a b) (omega (arith, (begun.links.falling x v a from).0)) (omega (arith, also)) (closed v low x y a b from on other);
+        };
+        outline = outline;
+        at_heads = record {
+          rising = λ x y a r. head_of_link F.leaving x (record { place = y; walk = a }) (rises_before x y a r);
+          falling = λ x y a f.
+              subst (λ (r : List ℕ). Contains r x) (heads_row F.entering y ∙ sym (aligned y) ∙ sym (heads_row F.leaving y))
+              (head_of_link F.entering y (record { place = x; walk = a }) (falls_before x y a f));
+        };
+      }
 
-    falls_before : (x y : ℕ) (a : W) → Falls K x y a → Falls F x y a
-    falls_before x y a f = elim (cases_lt y g.vertices) [
-      | inl low ↦
-          let k = thin.marks y low in
-          marked_given (row_of F.entering y) k.0 (record { place = x; walk = a }) (subst (λ (t : List (Link W)). Contains t (record { place = x; walk = a })) k.3 f)
-      | inr past ↦ let low = inside_rows rows.entering y (record { place = x; walk = a }) f in let n = thin.entering_count in absurd (omega (arith, low, past, n))
-    ]
+    pub whole_is_factored : IsFactored A C g F (heads_in F.leaving)
+    whole_is_factored =
+        left_is_factored (record { leaving = F.leaving; entering = F.entering }) (begun.links.leaving_count, begun.links.entering_count)
+        (λ x y a r. r) (λ x y a f. f) (λ low labels stable. stable)
 
-    -- where no link that is left improves a label, no edge of place v does
-    along : (v : ℕ) (labels : List (Option V)) → v < g.vertices → AreStable A C F (v + 1) labels → AreStable A C K v labels →
-        (j : ℕ) (e : Edge W) → IsEdgeAt F v j e → v < e.place → PassesAlong A C labels v e
-    along v labels low above stable =
-        let k = thin.marks v low in
-        λ j e at up. k.1 labels above (λ i d at_i on.
-        let to = begun.links.rising v d.place d.leaving (i, at_i.leaving_inside, at_i.rises) in
-        record {
-          leaving = stable.passes v d.place d.leaving (omega arith) (omega (arith, to.0))
-              (inl (subst (λ (t : List (Link W)). Contains t (record { place = d.place; walk = d.leaving })) (sym k.2)
-              (marked_kept (row_of F.leaving v) k.0 i (record { place = d.place; walk = d.leaving }) at_i.leaving_inside at_i.rises on)));
-          entering = stable.passes d.place v d.entering (omega (arith, to.0)) (omega arith)
-              (inr (subst (λ (t : List (Link W)). Contains t (record { place = d.place; walk = d.entering })) (sym k.3)
-              (marked_kept (row_of F.entering v) k.0 i (record { place = d.place; walk = d.entering }) at_i.entering_inside at_i.falls on)));
-        }) j e at
+    module _ (rows : LinkRows W) (thin : AreThinTo A C F g.vertices rows) where
+      rises_before : (x y : ℕ) (a : W) → Rises (with_rows rows) x y a → Rises F x y a
+      rises_before x y a r = elim (cases_lt x g.vertices) [
+        | inl low ↦
+            let k = thin.marks x low in
+            marked_given (row_of F.leaving x) k.0 (record { place = y; walk = a }) (subst (λ (t : List (Link W)). Contains t (record { place = y; walk = a })) k.2 r)
+        | inr past ↦ let low = inside_rows rows.leaving x (record { place = y; walk = a }) r in let n = thin.leaving_count in absurd (omega (arith, low, past, n))
+      ]
 
-    -- so no link does that there was: by induction on how many places are above
-    all_stable : (d low : ℕ) (labels : List (Option V)) → g.vertices ≤ low + d → AreStable A C K low labels → AreStable A C F low labels
-    all_stable zero low labels far stable = record {
-      values = stable.values;
-      passes = λ x y a one two l. elim l [
-        | inl r ↦ let inside = begun.links.rising x y a r in absurd (omega (arith, inside.0, inside.1, far, one))
-        | inr f ↦ let inside = begun.links.falling x y a f in absurd (omega (arith, inside.0, inside.1, far, two))
-      ];
-    }
-    all_stable (suc d) low labels far stable =
-        let above : AreStable A C F (low + 1) labels = all_stable d (low + 1) labels (omega (arith, far))
-        (record { values = stable.values; passes = λ x y a one two l. stable.passes x y a (omega (arith, one)) (omega (arith, two)) l }) in
-        record {
-          values = stable.values;
-          passes = λ x y a one two l. elim l [
-            | inl r ↦
-                let inside = begun.links.rising x y a r in
-                elim (cases_eq x low) [
-                  | inl is ↦
-                      let at_low : Rises F low y a = subst (λ (i : ℕ). Rises F i y a) is r in
-                      let e = edge_of_riser F aligned low y a at_low in
-                      let to : e.0.place ≡ y = ap (λ (k : Link W). k.place) e.2 in
-                      let p = along low labels (omega (arith, is, inside.0, inside.1)) above stable at_low.0 e.0 e.1 (omega (arith, is, inside.0, to)) in
-                      subst (λ (i : ℕ). Passes A C (at labels i) a (at labels y)) (sym is)
-                      (subst (λ (k : Link W). Passes A C (at labels low) k.walk (at labels k.place)) e.2 p.leaving)
-                  | inr other ↦ above.passes x y a (omega (arith, one, other)) (omega (arith, one, inside.0)) (inl r)
-                ]
-            | inr f ↦
-                let inside = begun.links.falling x y a f in
-                elim (cases_eq y low) [
-                  | inl is ↦
-                      let at_low : Falls F x low a = subst (λ (i : ℕ). Falls F x i a) is f in
-                      let e = edge_of_faller F aligned low x a at_low in
-                      let to : e.0.place ≡ x = ap (λ (k : Link W). k.place) e.2 in
-                      let p = along low labels (omega (arith, is, inside.0, inside.1)) above stable at_low.0 e.0 e.1 (omega (arith, is, inside.0, to)) in
-                      subst (λ (i : ℕ). Passes A C (at labels x) a (at labels i)) (sym is)
-                      (subst (λ (k : Link W). Passes A C (at labels k.place) k.walk (at labels low)) e.2 p.entering)
-                  | inr other ↦ above.passes x y a (omega (arith, two, inside.0)) (omega (arith, two, other)) (inr f)
-                ]
-          ];
-        }
+      falls_before : (x y : ℕ) (a : W) → Falls (with_rows rows) x y a → Falls F x y a
+      falls_before x y a f = elim (cases_lt y g.vertices) [
+        | inl low ↦
+            let k = thin.marks y low in
+            marked_given (row_of F.entering y) k.0 (record { place = x; walk = a }) (subst (λ (t : List (Link W)). Contains t (record { place = x; walk = a })) k.3 f)
+        | inr past ↦ let low = inside_rows rows.entering y (record { place = x; walk = a }) f in let n = thin.entering_count in absurd (omega (arith, low, past, n))
+      ]
 
-    -- the links that are left do for those that there were
-    covered : (low x y : ℕ) (a : W) → low ≤ x → low ≤ y → LeadsNoWorse C F x y a → IsCovered A C K low x y a
-    covered low x y a one two l = λ labels stable.
-        let all = all_stable g.vertices low labels (omega arith) stable in
-        passes_worse (at labels x) (at labels y) l.0 a (stable.values x) l.2 (all.passes x y l.0 one two l.1)
+      -- where no link that is left improves a label, no edge of place v does
+      along : (v : ℕ) (labels : List (Option V)) → v < g.vertices → AreStable A C F (v + 1) labels → AreStable A C (with_rows rows) v labels →
+          (j : ℕ) (e : Edge W) → IsEdgeAt F v j e → v < e.place → PassesAlong A C labels v e
+      along v labels low above stable =
+          let k = thin.marks v low in
+          λ j e at up. k.1 labels above (λ i d at_i on.
+          let to = begun.links.rising v d.place d.leaving (i, at_i.leaving_inside, at_i.rises) in
+          record {
+            leaving = stable.passes v d.place d.leaving (omega arith) (omega (arith, to.0))
+                (inl (subst (λ (t : List (Link W)). Contains t (record { place = d.place; walk = d.leaving })) (sym k.2)
+                (marked_kept (row_of F.leaving v) k.0 i (record { place = d.place; walk = d.leaving }) at_i.leaving_inside at_i.rises on)));
+            entering = stable.passes d.place v d.entering (omega (arith, to.0)) (omega arith)
+                (inr (subst (λ (t : List (Link W)). Contains t (record { place = d.place; walk = d.entering })) (sym k.3)
+                (marked_kept (row_of F.entering v) k.0 i (record { place = d.place; walk = d.entering }) at_i.entering_inside at_i.falls on)));
+          }) j e at
 
-    pub pruned_is_factor : IsFactor A C g K
-    pruned_is_factor = record {
-      ordering = begun.ordering;
-      links = record {
-        leaving_count = thin.leaving_count;
-        entering_count = thin.entering_count;
-        rising = λ x y a r. begun.links.rising x y a (rises_before x y a r);
-        falling = λ x y a f. begun.links.falling x y a (falls_before x y a f);
-        sound = λ x y a l. elim l [
-          | inl r ↦ begun.links.sound x y a (inl (rises_before x y a r))
-          | inr f ↦ begun.links.sound x y a (inr (falls_before x y a f))
+      -- so no link does that there was: by induction on how many places are above
+      all_stable : (d low : ℕ) (labels : List (Option V)) → g.vertices ≤ low + d → AreStable A C (with_rows rows) low labels → AreStable A C F low labels
+      all_stable zero low labels far stable = record {
+        values = stable.values;
+        passes = λ x y a one two l. elim l [
+          | inl r ↦ let inside = begun.links.rising x y a r in absurd (omega (arith, inside.0, inside.1, far, one))
+          | inr f ↦ let inside = begun.links.falling x y a f in absurd (omega (arith, inside.0, inside.1, far, two))
         ];
-      };
-      covers = λ a has other.
-          covered 0 (place_of F (arc_of g a).tail) (place_of F (arc_of g a).head) (C.of_arc (arc_of g a).weight) (omega arith) (omega arith) (covers a has other);
-      closed = λ v low x y a b f r other.
-          let from = falls_before x v a f in
-          let on = rises_before v y b r in
-          let above = (begun.links.falling x v a from).0 in
-          let also = (begun.links.rising v y b on).0 in
-          covered (v + 1) x y (C.compose a b) (omega (arith, above)) (omega (arith, also)) (closed v low x y a b from on other);
-    }
+      }
+      all_stable (suc d) low labels far stable =
+          let above : AreStable A C F (low + 1) labels = all_stable d (low + 1) labels (omega (arith, far))
+          (record { values = stable.values; passes = λ x y a one two l. stable.passes x y a (omega (arith, one)) (omega (arith, two)) l }) in
+          record {
+            values = stable.values;
+            passes = λ x y a one two l. elim l [
+              | inl r ↦
+                  let inside = begun.links.rising x y a r in
+                  elim (cases_eq x low) [
+                    | inl is ↦
+                        let at_low : Rises F low y a = subst (λ (i : ℕ). Rises F i y a) is r in
+                        let e = edge_of_riser F aligned low y a at_low in
+                        let to : e.0.place ≡ y = ap (λ (k : Link W). k.place) e.2 in
+                        let p = along low labels (omega (arith, is, inside.0, inside.1)) above stable at_low.0 e.0 e.1 (omega (arith, is, inside.0, to)) in
+                        subst (λ (i : ℕ). Passes A C (at labels i) a (at labels y)) (sym is)
+                        (subst (λ (k : Link W). Passes A C (at labels low) k.walk (at labels k.place)) e.2 p.leaving)
+                    | inr other ↦ above.passes x y a (omega (arith, one, other)) (omega (arith, one, inside.0)) (inl r)
+                  ]
+              | inr f ↦
+                  let inside = begun.links.falling x y a f in
+                  elim (cases_eq y low) [
+                    | inl is ↦
+                        let at_low : Falls F x low a = subst (λ (i : ℕ). Falls F x i a) is f in
+                        let e = edge_of_faller F aligned low x a at_low in
+                        let to : e.0.place ≡ x = ap (λ (k : Link W). k.place) e.2 in
+                        let p = along low labels (omega (arith, is, inside.0, inside.1)) above stable at_low.0 e.0 e.1 (omega (arith, is, inside.0, to)) in
+                        subst (λ (i : ℕ). Passes A C (at labels x) a (at labels i)) (sym is)
+                        (subst (λ (k : Link W). Passes A C (at labels k.place) k.walk (at labels low)) e.2 p.entering)
+                    | inr other ↦ above.passes x y a (omega (arith, two, inside.0)) (omega (arith, two, other)) (inr f)
+                  ]
+            ];
+          }
 
-    pub pruned_at_heads : AreAtHeads (heads_in F.leaving) K
-    pruned_at_heads = record {
-      rising = λ x y a r. head_of_link F.leaving x (record { place = y; walk = a }) (rises_before x y a r);
-      falling = λ x y a f.
-          subst (λ (r : List ℕ). Contains r x) (heads_row F.entering y ∙ sym (aligned y) ∙ sym (heads_row F.leaving y))
-          (head_of_link F.entering y (record { place = x; walk = a }) (falls_before x y a f));
-    }
+      pub pruned_is_factored : IsFactored A C g (with_rows rows) (heads_in F.leaving)
+      pruned_is_factored =
+          left_is_factored rows (thin.leaving_count, thin.entering_count) rises_before falls_before
+          (λ low labels stable. all_stable g.vertices low labels (omega arith) stable)

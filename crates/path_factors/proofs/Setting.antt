@@ -2,7 +2,7 @@
 use Rattle.std.proofs.Common.{◌≡◌, ℕ, zero, suc, ◌+◌, ◌-◌, ◌<◌, ◌≤◌, inl, inr, List, [], ◌∷◌, length, take, drop, get_or, set, refl, ap, sym, ◌∙◌, subst, arith}
 use Rattle.std.specs.Prelude.{All}
 use Rattle.std.proofs.lemmas.Bool.{cases_lt}
-use Rattle.std.proofs.lemmas.List.{get_or_default, get_or-map, drop-set-lt, drop-set-add, take-set-le}
+use Rattle.std.proofs.lemmas.List.{get_or_default, drop-set-lt, drop-set-add, take-set-le}
 use Rattle.std.proofs.lemmas.List.Elements.{All-nil, All-cons, All-head, All-tail, All-contains}
 use Rattle.std.proofs.Math.Seq.{take-set-lt}
 use Rattle.path_algebra.specs.Algebra.{Algebra, IsOrder}
@@ -13,12 +13,12 @@ use Rattle.path_factors.specs.declared.edge.Edge.{Edge}
 use Rattle.path_factors.specs.Factors.{ArePlaces, IsWorthOfWalk, row_of}
 use Rattle.path_factors.specs.Eliminating.{IsImproved, AreImproved, IsBegun}
 use Rattle.path_factors.specs.Edges.{LinkRows, AreBlank, AreEdgesImproved, better_walk, rising, falling}
-use Rattle.path_factors.specs.Packing.{links_of, rows_between, ArePacked, ArePackedBothWays}
+use Rattle.path_factors.specs.Packing.{links_of, rows_between, ArePacked, ArePackedBothWays, packed_rows}
 use Rattle.path_factors.specs.Heads.{AreHeads, IsHead, heads_in}
 use Rattle.path_factors.proofs.Improving.{improved_better}
 use Rattle.path_factors.proofs.Connecting.{worth_of_none}
-use Rattle.path_factors.proofs.HeadRows.{heads_row, heads_count, head_of_link}
-use Rattle.path_factors.proofs.Packing.{link_at, rows_count, row_past, row_all, row_between, row_count, row_link, row_inside, risers_of_row, fallers_of_row, row_ends, riser_at, packed_falls}
+use Rattle.path_factors.proofs.HeadRows.{head_at, heads_count, head_of_link}
+use Rattle.path_factors.proofs.Packing.{link_at, rows_count, row_past, row_all, row_between, row_count, row_link, packed_links, row_inside, start_is, riser_inside, riser_at}
 
 module _ {W : Type 0} where
   -- a walk is replaced
@@ -75,9 +75,8 @@ module _ {W : Type 0} where
     pub set_others : (q : ℕ) → (q ≡ i → ⊥) → row_of (rows_between starts after) q ≡ row_of (rows_between starts links) q
     set_others q other = elim (cases_lt (q + 1) (length starts)) [
       | inr high ↦
-          let n = rows_count starts links in
           let m = rows_count starts after in
-          row_past (rows_between starts after) q (omega (arith, m, high)) ∙ sym (row_past (rows_between starts links) q (omega (arith, n, high)))
+          row_past (rows_between starts after) q (omega (arith, m, high)) ∙ sym (row_past (rows_between starts links) q (omega (arith, rows_count starts links, high)))
       | inl inside ↦
           let f = get_or starts q 0 in
           let t = get_or starts (q + 1) 0 in
@@ -92,8 +91,7 @@ module _ {W : Type 0} where
                 ∙ take-set-le (t - f) (drop f links) ((s + j) - f) l (omega (arith, le, up))
             | inr not_before ↦
                 let le = rises_to starts links packed (i + 1) q (omega (arith, not_before, other)) (omega (arith, inside)) in
-                let in_row = within in
-                ap (λ (r : List (Link W)). take (t - f) r) (drop-set-lt f links (s + j) l (omega (arith, le, in_row)))
+                ap (λ (r : List (Link W)). take (t - f) r) (drop-set-lt f links (s + j) l (omega (arith, le, within)))
           ])
           ∙ sym (row_between starts links q inside)
     ]
@@ -108,12 +106,11 @@ module _ {W : Type 0} where
     set_improved C ordered k old is leads new =
         let row = row_of (rows_between starts links) i in
         let read : old ≡ get_or row j old = is ∙ sym (row_link starts links packed i lt j low old) in
-        let better = improved_better C ordered row k j old low read leads in
         let here : row_of (rows_between starts after) i ≡ set row j (record { place = k.place; walk = better_walk C old.walk k.walk }) =
         set_row ∙ ap (λ (q : Link W). set row j q) new in
         record {
           count = set_count;
-          row = subst (λ (r : List (Link W)). IsImproved C row k r) (sym here) better;
+          row = subst (λ (r : List (Link W)). IsImproved C row k r) (sym here) (improved_better C ordered row k j old low read leads);
           others = set_others;
         }
 
@@ -156,50 +153,49 @@ begun_blank {W = W} A C composes g order places are rows heads same risers falle
   };
 }
 
--- both links of an edge are made no worse, where they are
-module _ {W : Type 0} (starts places : List ℕ) (leaving entering : List W) (packed : ArePackedBothWays starts places leaving entering)
-    (i : ℕ) (low : i < length (rows_between starts (links_of places leaving))) where
-  pub edge_improved : {V : Type 0} (C : Composition V W) → IsOrder C.no_worse → (j : ℕ) (e : Edge W) →
-      j < length (row_of (rows_between starts (links_of places leaving)) i) →
-      get_or (row_of (heads_in (rows_between starts (links_of places leaving))) i) j 0 ≡ e.place →
-      (a b : W) → a ≡ get_or leaving (get_or starts i 0 + j) a → b ≡ get_or entering (get_or starts i 0 + j) b →
-      AreEdgesImproved C (record { leaving = rows_between starts (links_of places leaving); entering = rows_between starts (links_of places entering) }) i e
-      (record {
-        leaving = rows_between starts (links_of places (set leaving (get_or starts i 0 + j) (better_walk C a e.leaving)));
-        entering = rows_between starts (links_of places (set entering (get_or starts i 0 + j) (better_walk C b e.entering)));
-      })
-  edge_improved C ordered j e index head a b is_a is_b =
-      let s = get_or starts i 0 in
-      let k = s + j in
-      let lt = row_inside starts places leaving entering packed i low in
-      let n = risers_of_row starts places leaving entering packed i low in
-      let m = fallers_of_row starts places leaving entering packed i low in
-      let le = row_ends starts places leaving entering packed i low in
-      let inside : k < length places = omega (arith, index, n, le) in
-      let index_falls : j < length (row_of (rows_between starts (links_of places entering)) i) = omega (arith, index, n, m) in
-      let falls = packed_falls starts places leaving entering packed i low in
-      let l = packed.fields.leaving_count in
-      let f = packed.fields.entering_count in
-      let P = get_or places k 0 in
-      let is_P : P ≡ get_or places k P = get_or_default places k 0 P inside in
-      let row = row_of (rows_between starts (links_of places leaving)) i in
-      let d : Link W = record { place = P; walk = a } in
-      let riser : get_or row j d ≡ d = riser_at starts places leaving entering packed i low j P a d index is_P is_a in
-      let to : P ≡ e.place =
-      sym (ap (λ (q : Link W). q.place) riser) ∙ sym (get_or-map (λ (q : Link W). q.place) row j d 0 index)
-      ∙ ap (λ (r : List ℕ). get_or r j 0) (sym (heads_row (rows_between starts (links_of places leaving)) i)) ∙ head in
-      let is_e : e.place ≡ get_or places k e.place = sym to ∙ get_or_default places k 0 e.place inside in
-      let old_a : Link W = record { place = P; walk = a } in
-      let old_b : Link W = record { place = P; walk = b } in
-      let read_a : old_a ≡ get_or (links_of places leaving) k old_a = sym (link_at places leaving k P a old_a l inside is_P is_a) in
-      let read_b : old_b ≡ get_or (links_of places entering) k old_b = sym (link_at places entering k P b old_b f inside is_P is_b) in
-      let new_a : Link W = record { place = e.place; walk = better_walk C a e.leaving } in
-      let new_b : Link W = record { place = e.place; walk = better_walk C b e.entering } in
-      let links_a = links-set places leaving k e.place (better_walk C a e.leaving) l inside is_e in
-      let links_b = links-set places entering k e.place (better_walk C b e.entering) f inside is_e in
-      let one = set_improved starts (links_of places leaving) packed.packed i lt j index new_a C ordered (rising e) old_a read_a to refl in
-      let two = set_improved starts (links_of places entering) falls i lt j index_falls new_b C ordered (falling e) old_b read_b to refl in
-      record {
-        leaving = subst (λ (q : List (Link W)). AreImproved C (rows_between starts (links_of places leaving)) i (rising e) (rows_between starts q)) (sym links_a) one;
-        entering = subst (λ (q : List (Link W)). AreImproved C (rows_between starts (links_of places entering)) i (falling e) (rows_between starts q)) (sym links_b) two;
-      }
+-- the walk of a link in packed rows is made no worse, if s is where its row begins
+pub walk_improved : {V W : Type 0} (starts places : List ℕ) (walks : List W) (n : length walks ≡ length places) → ArePacked starts places →
+    (i : ℕ) → i + 1 < length starts → (s : ℕ) → s ≡ get_or starts i 0 → (j : ℕ) → j < length (row_of (rows_between starts (links_of places walks)) i) →
+    s + j < length places → (C : Composition V W) → IsOrder C.no_worse → (k : Link W) → k.place ≡ get_or places (s + j) k.place →
+    (a : W) → a ≡ get_or walks (s + j) a → (c : W) → c ≡ better_walk C a k.walk →
+    AreImproved C (rows_between starts (links_of places walks)) i k (rows_between starts (links_of places (set walks (s + j) c)))
+walk_improved {W = W} starts places walks n packed i lt s start j low inside C ordered k to a is_a c is_c =
+    let links = links_of places walks in
+    let old : Link W = record { place = k.place; walk = a } in
+    let new : Link W = record { place = k.place; walk = better_walk C a k.walk } in
+    let read : old ≡ get_or links (s + j) old = sym (link_at places walks (s + j) k.place a old n inside to is_a) in
+    subst (λ (q : List (Link W)). AreImproved C (rows_between starts links) i k (rows_between starts q))
+    (ap (λ (q : ℕ). set links (q + j) new) (sym start) ∙ sym (links-set places walks (s + j) k.place (better_walk C a k.walk) n inside to)
+    ∙ ap (λ (w : W). links_of places (set walks (s + j) w)) (sym is_c))
+    (set_improved starts links (packed_links starts places walks n packed) i lt j low new C ordered k old
+    (read ∙ ap (λ (q : ℕ). get_or links (q + j) old) start) refl refl)
+
+-- so are both links of an edge
+pub edge_improved : {V W : Type 0} {starts places : List ℕ} {leaving entering : List W} (packed : ArePackedBothWays starts places leaving entering)
+    {rows : LinkRows W} (view : packed_rows starts places leaving entering ≡ rows) (i : ℕ) → i < length rows.leaving →
+    (s : ℕ) → s ≡ get_or starts i s → (j : ℕ) → j < length (row_of rows.leaving i) →
+    (C : Composition V W) → IsOrder C.no_worse → (e : Edge W) → get_or (row_of (heads_in rows.leaving) i) j 0 ≡ e.place →
+    (a b : W) → a ≡ get_or leaving (s + j) a → b ≡ get_or entering (s + j) b → (c d : W) → c ≡ better_walk C a e.leaving → d ≡ better_walk C b e.entering →
+    AreEdgesImproved C rows i e (packed_rows starts places (set leaving (s + j) c) (set entering (s + j) d))
+edge_improved {V} {W} {starts} {places} {leaving} {entering} packed {rows} view i inside s begins j index C ordered e head a b is_a is_b c d is_c is_d =
+    let l = packed.fields.leaving_count in
+    let f = packed.fields.entering_count in
+    let lt = row_inside packed view i inside in
+    let start = start_is packed view i inside s begins in
+    let low : s + j < length places = riser_inside packed view i inside s begins j index in
+    let P = get_or places (s + j) 0 in
+    let old : Link W = record { place = P; walk = a } in
+    let riser : get_or (row_of rows.leaving i) j old ≡ old =
+    riser_at packed view i inside s begins j index P a old (get_or_default places (s + j) 0 P low) is_a in
+    let to : P ≡ e.place = sym (head_at rows.leaving i j old index riser) ∙ head in
+    let is_e : e.place ≡ get_or places (s + j) e.place = sym to ∙ get_or_default places (s + j) 0 e.place low in
+    let rises : j < length (row_of (rows_between starts (links_of places leaving)) i) = subst (λ (r : LinkRows W). j < length (row_of r.leaving i)) (sym view) index in
+    let falls : j < length (row_of (rows_between starts (links_of places entering)) i) =
+    omega (arith, rises, row_count starts (links_of places leaving) (packed_links starts places leaving l packed.packed) i lt,
+    row_count starts (links_of places entering) (packed_links starts places entering f packed.packed) i lt) in
+    record {
+      leaving = subst (λ (r : LinkRows W). AreImproved C r.leaving i (rising e) (rows_between starts (links_of places (set leaving (s + j) c)))) view
+          (walk_improved starts places leaving l packed.packed i lt s start j rises low C ordered (rising e) is_e a is_a c is_c);
+      entering = subst (λ (r : LinkRows W). AreImproved C r.entering i (falling e) (rows_between starts (links_of places (set entering (s + j) d)))) view
+          (walk_improved starts places entering f packed.packed i lt s start j falls low C ordered (falling e) is_e b is_b d is_d);
+    }

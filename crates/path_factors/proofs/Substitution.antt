@@ -28,8 +28,7 @@ module _ {V W : Type 0} (A : Algebra V) (lawful : IsLawful A) (C : Composition V
   pub value_along : (u v : ℕ) (x z : V) (a : W) → IsWalkValue A g sources u x → IsWorthOfWalk A C g u v a →
       C.apply x a ≡ Some z → IsWalkValue A g sources v z
   value_along u v x z a w worth e =
-      let is = walk_value_is_value A lawful g roads sources u x w in
-      let on = worth x z is e in (
+      let on = worth x z (walk_value_is_value A lawful g roads sources u x w) e in (
         w.0 ++ on.0,
         (w.1.0, w.1.1, IsWalk-append g w.1.0 w.0 u on.0 v w.1.2 on.1),
         Extends-append A g A.origin w.0 x on.0 z w.2 on.2,
@@ -45,9 +44,8 @@ module _ {V W : Type 0} (A : Algebra V) (lawful : IsLawful A) (C : Composition V
       | inl same ↦ forward.values i x low same
       | inr down ↦
           let from = factor.links.falling down.place i down.walk down.falls in
-          let above = from.0 in
           value_along (vertex_at F down.place) (vertex_at F i) down.value x down.walk
-          (values_within d down.place down.value (omega (arith, far, above)) from.1 down.label)
+          (values_within d down.place down.value (omega (arith, far, from.0)) from.1 down.label)
           (factor.links.sound down.place i down.walk (inr down.falls)) down.extends
     ]
 
@@ -78,15 +76,13 @@ module _ {V W : Type 0} (A : Algebra V) (lawful : IsLawful A) (C : Composition V
               (kept.0, kept.1, lawful.ordered.transitive kept.0 first.0 t kept.2 first.2)
           | inr from ↦
               let z = from.place in
-              let places = factor.links.falling z x from.walk from.falls in
-              let is = is_value z from.value places.1 from.label in
+              let is = is_value z from.value (factor.links.falling z x from.walk from.falls).1 from.label in
               elim (cases_eq z y) [
                 | inl same ↦
-                    let falls = composes.never_better from.value from.walk u is from.extends in
                     let on = composes.never_better u a t (composes.apply_is_value from.value from.walk u is from.extends) f in (
                       from.value,
                       subst (λ (i : ℕ). at labels i ≡ Some from.value) same from.label,
-                      lawful.ordered.transitive from.value u t falls on,
+                      lawful.ordered.transitive from.value u t (composes.never_better from.value from.walk u is from.extends) on,
                     )
                 | inr other ↦
                     let whole : C.apply from.value (C.compose from.walk a) ≡ Some t =
@@ -99,8 +95,7 @@ module _ {V W : Type 0} (A : Algebra V) (lawful : IsLawful A) (C : Composition V
     value_anywhere i x e = elim (cases_lt i g.vertices) [
       | inl low ↦ is_value i x low e
       | inr past ↦
-          let n = backward.count in
-          let bad : None ≡ Some x = sym (get_or_past labels i None (omega (arith, past, n))) ∙ e in
+          let bad : None ≡ Some x = sym (get_or_past labels i None (omega (arith, past, backward.count))) ∙ e in
           absurd (cc)
     ]
 
@@ -123,8 +118,7 @@ module _ {V W : Type 0} (A : Algebra V) (lawful : IsLawful A) (C : Composition V
               | inl is ↦
                   passes_up x y a (subst (λ (v : ℕ). AreStable A C F (v + 1) labels) (sym is) above) rises
               | inr other ↦
-                  let up = (factor.links.rising x y a rises).0 in
-                  above.passes x y a (omega (arith, high, other)) (omega (arith, high, other, up)) (inl rises)
+                  above.passes x y a (omega (arith, high, other)) (omega (arith, high, other, (factor.links.rising x y a rises).0)) (inl rises)
             ]
           ];
         }

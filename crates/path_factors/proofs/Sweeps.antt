@@ -25,8 +25,7 @@ module _ {V W : Type 0} (A : Algebra V) (lawful : IsLawful A) (C : Composition V
       values = λ i x low e.
           let only = origins.only_there i x e in
           let s = only.1.0 in
-          let place = factor.ordering.place s (all_inside g sources inside s only.1.1) in
-          let ends : s ≡ vertex_at F i = sym place.1 ∙ ap (vertex_at F) only.1.2 in
+          let ends : s ≡ vertex_at F i = sym (factor.ordering.place s (all_inside g sources inside s only.1.1)).1 ∙ ap (vertex_at F) only.1.2 in
           ([], (s, only.1.1, ends), only.0);
       at_sources = λ s c. (A.origin, origins.at_sources s c, same_no_worse A.no_worse lawful.ordered A.origin);
       up = λ x y a less rises. absurd (omega arith);
@@ -38,9 +37,7 @@ module _ {V W : Type 0} (A : Algebra V) (lawful : IsLawful A) (C : Composition V
 
       inside : (q : Link W) → Contains (row_of F.leaving k) q → q.place < length labels
       inside q h =
-          let r = risen q h in
-          let n = done.count in
-          omega (arith, r.1, n)
+          omega (arith, (risen q h).1, done.count)
 
       module _ (v : V) (e : at labels k ≡ Some v) where
         abbrev next : List (Option V)
@@ -51,8 +48,7 @@ module _ {V W : Type 0} (A : Algebra V) (lawful : IsLawful A) (C : Composition V
 
         keeps : (i : ℕ) (x : V) → HasNoWorse A (at labels i) x → HasNoWorse A (at next i) x
         keeps i x h =
-            let kept = offered_keeps A lawful C v (row_of F.leaving k) labels inside i h.0 h.1 in
-            no_worse_on A lawful (at next i) h.0 x kept h.2
+            no_worse_on A lawful (at next i) h.0 x (offered_keeps A lawful C v (row_of F.leaving k) labels inside i h.0 h.1) h.2
 
         offers : IsForwardTo A C g F sources (k + 1) next
         offers = record {
@@ -60,10 +56,9 @@ module _ {V W : Type 0} (A : Algebra V) (lawful : IsLawful A) (C : Composition V
           values = λ i x in_i f. elim (offered_is_one A lawful C v (row_of F.leaving k) labels inside i x f) [
             | inl old ↦ done.values i x in_i old
             | inr by ↦
-                let worth = factor.links.sound k by.0.place by.0.walk (inl by.1) in
                 subst (λ (j : ℕ). IsWalkValue A g sources (vertex_at F j) x) by.2
                 (value_along A lawful C composes g roads sources (vertex_at F k) (vertex_at F by.0.place) v x by.0.walk
-                (done.values k v low e) worth by.3)
+                (done.values k v low e) (factor.links.sound k by.0.place by.0.walk (inl by.1)) by.3)
           ];
           at_sources = λ s c. keeps (place_of F s) A.origin (done.at_sources s c);
           up = λ x y a less rises. λ u z f h. elim (cases_lt x k) [
@@ -121,18 +116,16 @@ module _ {V W : Type 0} (A : Algebra V) (lawful : IsLawful A) (C : Composition V
     best_stays b labels later i l m stays is best = record {
       kept = λ x e. subst (λ (o : Option V). HasNoWorse A o x) (sym is) (best.kept x e);
       down = λ x a falls. λ u z f h.
-          let above = (factor.links.falling x i a falls).0 in
-          subst (λ (o : Option V). HasNoWorse A o z) (sym is) (best.down x a falls u z (sym (stays x above) ∙ f) h);
+          subst (λ (o : Option V). HasNoWorse A o z) (sym is) (best.down x a falls u z (sym (stays x ((factor.links.falling x i a falls).0)) ∙ f) h);
       given = λ z e. elim (best.given z (sym is ∙ e)) [
         | inl old ↦ inl old
         | inr from ↦
-            let above = (factor.links.falling from.place i from.walk from.falls).0 in
             inr (record {
               place = from.place;
               walk = from.walk;
               falls = from.falls;
               value = from.value;
-              label = stays from.place above ∙ from.label;
+              label = stays from.place (factor.links.falling from.place i from.walk from.falls).0 ∙ from.label;
               extends = from.extends;
             })
       ];
@@ -173,8 +166,7 @@ module _ {V W : Type 0} (A : Algebra V) (lawful : IsLawful A) (C : Composition V
         below = λ i less. others i (λ e. omega (arith, less, e)) ∙ done.below i (omega (arith, less));
         best = λ i high in_i. elim (cases_eq i k) [
           | inl is ↦
-              let n = done.count in
-              let here : at after k ≡ best = get_or-set_same labels k best None (omega (arith, low, n)) in
+              let here : at after k ≡ best = get_or-set_same labels k best None (omega (arith, low, done.count)) in
               let was : at labels k ≡ at before k = done.below k (omega arith) in
               let now : IsBestDown A C F (at labels k) after k (at after k) =
               best_stays (at labels k) labels after k best (at after k) (λ x more. others x (λ e. omega (arith, more, e))) here

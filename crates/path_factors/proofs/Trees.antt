@@ -19,19 +19,13 @@ module _ (n : ℕ) (heads : List (List ℕ)) (are : AreHeads n heads) where
     | inl none ↦ elim other.one [
       | inl also ↦ omega (arith, none, also)
       | inr up ↦
-          let le = one.least q up in
-          let r = are.rising v q up in
-          absurd (omega (arith, le, none, r.1))
+          absurd (omega (arith, one.least q up, none, (are.rising v q up).1))
     ]
     | inr up ↦ elim other.one [
       | inl none ↦
-          let le = other.least p up in
-          let r = are.rising v p up in
-          absurd (omega (arith, le, none, r.1))
+          absurd (omega (arith, other.least p up, none, (are.rising v p up).1))
       | inr also ↦
-          let le = one.least q also in
-          let ge = other.least p up in
-          omega (arith, le, ge)
+          omega (arith, one.least q also, other.least p up)
     ]
   ]
 

@@ -1,6 +1,6 @@
 -- The heads of each place: the greater places to which it has an edge. Which these are depends on
 -- the order alone.
-use Rattle.std.specs.Prelude.{◌≡◌, ℕ, ◌-◌, ◌<◌, ◌≤◌, List, length, map, Contains, slice_index}
+use Rattle.std.specs.Prelude.{◌≡◌, ℕ, ◌-◌, ◌<◌, ◌≤◌, List, length, map, Contains, Option, None, Some, slice_index}
 use Rattle.std.specs.List.Sorted.{IsStrictlyIncreasing}
 use Rattle.road_graph.specs.GraphData.{GraphData, HasArc, arc_of}
 use Rattle.path_factors.specs.declared.link.Link.{Link}
@@ -13,6 +13,11 @@ IsHead heads v y = Contains (row_of heads v) y
 -- the heads of rows of links
 abbrev pub heads_in : {W : Type 0} → List (List (Link W)) → List (List ℕ)
 heads_in rows = map (λ row. map (λ k. k.place) row) rows
+
+-- heads that are kept, or else those of rows of links
+abbrev pub heads_or : {W : Type 0} → Option (List (List ℕ)) → List (List (Link W)) → List (List ℕ)
+heads_or (Some heads) rows = heads
+heads_or None rows = heads_in rows
 
 -- the heads of n places: each is greater than its place, those of a place ascend, and two of them
 -- have an edge

@@ -1,6 +1,7 @@
 -- Rows one after the other in one list, with a list of where each begins.
 use Rattle.std.specs.Prelude.{◌≡◌, ℕ, ◌+◌, ◌-◌, ◌<◌, ◌≤◌, List, [], ◌∷◌, length, slice_index, slice_range}
 use Rattle.path_factors.specs.declared.link.Link.{Link}
+use Rattle.path_factors.specs.Edges.{LinkRows}
 
 -- links from their places and worths
 abbrev pub links_of : {W : Type 0} → List ℕ → List W → List (Link W)
@@ -29,4 +30,9 @@ pub record AreFields {W : Type 0} (places : List ℕ) (leaving entering : List W
 -- links both ways, row after row
 pub record ArePackedBothWays {W : Type 0} (starts places : List ℕ) (leaving entering : List W) : Type 0 where
   pub fields : AreFields places leaving entering
-  pub packed : ArePacked starts (links_of places leaving)
+  pub packed : ArePacked starts places
+
+-- these rows
+abbrev pub packed_rows : {W : Type 0} → List ℕ → List ℕ → List W → List W → LinkRows W
+packed_rows starts places leaving entering =
+    record { leaving = rows_between starts (links_of places leaving); entering = rows_between starts (links_of places entering) }

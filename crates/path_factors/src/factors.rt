@@ -1,9 +1,9 @@
 //! A graph that is factored.
-ghost use Rattle.std.specs.Prelude.{◌<◌, ◌≤◌};
+ghost use Rattle.std.specs.Prelude.{◌≡◌, ◌<◌, ◌≤◌};
 ghost use Rattle.road_graph.specs.GraphData.{IsGraph};
 ghost use Rattle.path_algebra.specs.Algebra.{IsLawful};
 ghost use Rattle.path_algebra.specs.Composition.{IsComposition};
-ghost use Rattle.path_factors.specs.Factors.{IsFactor};
+ghost use Rattle.path_factors.specs.Factors.{IsFactor, row_of};
 ghost use Rattle.path_factors.specs.Heads.{IsOutline};
 ghost use Rattle.path_factors.specs.Tree.{AreAtHeads, IsTreeParent};
 
@@ -28,22 +28,23 @@ pub struct Factors<A: ComposingAlgebra> {
     pub(crate) order: Arc<Snapshot<Order>>,
     /// The place of each vertex.
     pub(crate) places: Vec<u32>,
-    /// The greater places with which each place has an edge.
-    pub(crate) heads: Heads,
+    /// The greater places with which each place has an edge; none if each edge is left.
+    pub(crate) heads: Option<Heads>,
     /// For each place the links to greater places and from them that are left.
     pub(crate) rows: PackedRows<A::Walk>,
 }
 
 impl<A: ComposingAlgebra> Model for Factors<A> {
     ghost use Rattle.std.specs.Arc.{arc_value};
+    ghost use Rattle.path_factors.specs.Heads.{heads_or};
     ghost use Rattle.path_factors.specs.State.{FactorState};
     ghost use Rattle.path_factors.specs.Tree.{IsFactored};
 
     ghost Value = { FactorState A A.Walk };
 
-    ghost view = { λ f. record { algebra = f.algebra; roads = f.graph.value; factor = record { order = (arc_value f.order).value.vertices.items; places = f.places.items; leaving = f.rows.leaving; entering = f.rows.entering }; heads = f.heads } };
+    ghost view = { λ f. record { algebra = f.algebra; roads = f.graph.value; factor = record { order = (arc_value f.order).value.vertices.items; places = f.places.items; leaving = f.rows.leaving; entering = f.rows.entering }; heads = heads_or f.heads f.rows.leaving } };
 
-    ghost invariant = { λ f. IsFactored (A.meaning f.algebra) (A.walks f.algebra) f.graph.value (record { order = (arc_value f.order).value.vertices.items; places = f.places.items; leaving = f.rows.leaving; entering = f.rows.entering }) f.heads };
+    ghost invariant = { λ f. IsFactored (A.meaning f.algebra) (A.walks f.algebra) f.graph.value (record { order = (arc_value f.order).value.vertices.items; places = f.places.items; leaving = f.rows.leaving; entering = f.rows.entering }) (heads_or f.heads f.rows.leaving) };
 }
 
 impl<A: ComposingAlgebra> Factors<A> {
@@ -61,6 +62,18 @@ impl<A: ComposingAlgebra> Factors<A> {
         composition_holds(self.algebra);
     }
 
+    /// The greater places with which a place has an edge.
+    pub(crate) fn heads(&self, i: usize) -> &[u32]
+        requires { i < self.now.roads.vertices }
+        ensures { result.now ≡ row_of self.now.heads i }
+    {
+        self.holds();
+        match &self.heads {
+            Some(heads) => heads.row(i),
+            None => self.rows.heads(i),
+        }
+    }
+
     /// The least place to which a place has an edge; how many places there are if it has none.
     pub(crate) fn parent(&self, i: usize) -> usize
         requires { i < self.now.roads.vertices }
@@ -68,7 +81,8 @@ impl<A: ComposingAlgebra> Factors<A> {
         ensures above { i < result }
         ensures inside { result ≤ self.now.roads.vertices }
     {
-        let heads = self.heads.row(i);
+        self.holds();
+        let heads = self.heads(i);
         if 0 < heads.len() {
             heads[0] as usize
         } else {

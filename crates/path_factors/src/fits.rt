@@ -28,9 +28,9 @@ impl<A: ComposingAlgebra> Factors<A> {
     {
         self.holds();
         if x < y {
-            is_listed(self.heads.row(x), y as u32)
+            is_listed(self.heads(x), y as u32)
         } else if y < x {
-            is_listed(self.heads.row(y), x as u32)
+            is_listed(self.heads(y), x as u32)
         } else {
             true
         }

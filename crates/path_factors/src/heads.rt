@@ -38,15 +38,15 @@ pub(crate) fn row_between<'a>(starts: &[u32], places: &'a [u32], i: usize) -> &'
 }
 
 impl Heads {
-    /// No rows, with room for those of n places.
-    pub(crate) fn new(alloc: Global, n: usize) -> Result<Self, Memory>
+    /// No rows, with room for those of n places and so many heads.
+    pub(crate) fn new(alloc: Global, n: usize, heads: usize) -> Result<Self, Memory>
         ensures { IfOk result (λ heads. heads ≡ []) }
     {
         let mut starts: Vec<u32> = Vec::with_capacity(alloc, n.saturating_add(1))?;
         starts.push(0).map_err(AllocError::from)?;
         Ok(Heads {
             starts,
-            places: Vec::new(alloc),
+            places: Vec::with_capacity(alloc, heads)?,
         })
     }
 
@@ -61,15 +61,6 @@ impl Heads {
             return Err(Memory);
         };
         starts.push(end).map_err(AllocError::from)?;
-        Ok(Heads { starts, places })
-    }
-
-    /// The same rows.
-    pub(crate) fn copy(&self, alloc: Global) -> Result<Self, Memory>
-        ensures { IfOk result (λ heads. heads ≡ self.now) }
-    {
-        let starts = self.starts.to_vec(alloc)?;
-        let places = self.places.to_vec(alloc)?;
         Ok(Heads { starts, places })
     }
 

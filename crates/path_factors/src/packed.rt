@@ -164,7 +164,8 @@ impl<W: Copy> PackedRows<W> {
         ensures leaving { result ≡ length (row_of self.now.leaving i) }
         ensures entering { result ≡ length (row_of self.now.entering i) }
     {
-        self.starts[i + 1] as usize - self.starts[i] as usize
+        let _ = self.len();
+        self.heads(i).len()
     }
 
     /// One of the links to greater places.

@@ -120,7 +120,7 @@ impl<'g, A: ComposingAlgebra> Weighing<'g, A> {
     }
 
     /// Marks edges of a place that do for all.
-    fn mark(&self, marks: &mut Vec<bool>, v: usize, links: Links) -> Result<(), Memory>
+    fn mark(&self, marks: &mut Vec<bool>, v: usize) -> Result<(), Memory>
         requires { v < self.now.roads.vertices }
         ensures marks { OnOk result
             (length marks.new.items ≡ length (row_of self.now.factor.leaving v)) }
@@ -130,9 +130,6 @@ impl<'g, A: ComposingAlgebra> Weighing<'g, A> {
         let count = self.count(v);
         marks.clear();
         marks.resize(count, true)?;
-        if let Links::All = links {
-            return Ok(());
-        }
         for i in 0..count {
             self.choose_after(marks, v, i);
         }
@@ -140,7 +137,7 @@ impl<'g, A: ComposingAlgebra> Weighing<'g, A> {
     }
 
     /// The marked edges of all places.
-    fn thinned(&self, alloc: Global, links: Links) -> Result<PackedRows<A::Walk>, Memory>
+    fn thinned(&self, alloc: Global) -> Result<PackedRows<A::Walk>, Memory>
         ensures { IfOk result (λ rows. AreThinTo (A.meaning self.now.algebra)
             (A.walks self.now.algebra) self.now.factor self.now.roads.vertices rows) }
     {
@@ -150,7 +147,7 @@ impl<'g, A: ComposingAlgebra> Weighing<'g, A> {
         let mut marks: Vec<bool> = Vec::new(alloc);
         let mut rows = PackedRows::new(alloc, n, self.rows.edges())?;
         for v in 0..n {
-            self.mark(&mut marks, v, links)?;
+            self.mark(&mut marks, v)?;
             rows = rows.push_marked(&self.rows, v, &marks)?;
         }
         Ok(rows)
@@ -167,13 +164,19 @@ impl<'g, A: ComposingAlgebra> Weighing<'g, A> {
     {
         self.holds();
         laws_hold(self.algebra);
-        let rows = self.thinned(alloc, links)?;
+        let (heads, rows) = match links {
+            Links::All => (None, self.rows),
+            Links::Needed => {
+                let rows = self.thinned(alloc)?;
+                (Some(self.rows.into_heads()), rows)
+            }
+        };
         Ok(Factors {
             algebra: self.algebra,
             graph: Snapshot::of(self.graph),
             order: self.order,
             places: self.places,
-            heads: self.rows.into_heads(),
+            heads,
             rows,
         })
     }

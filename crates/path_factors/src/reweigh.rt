@@ -8,6 +8,7 @@ ghost use Rattle.path_factors.specs.Heads.{IsOutline, heads_in};
 ghost use Rattle.path_factors.specs.Reweighing.{Fits, IsReason, JoinsNoOthers};
 
 use crate::factors::Factors;
+use crate::heads::Heads;
 use crate::packed::PackedRows;
 use crate::prune::Links;
 use crate::weighing::Weighing;
@@ -83,6 +84,22 @@ impl<'g, A: ComposingAlgebra> Weighing<'g, A> {
 }
 
 impl<A: ComposingAlgebra> Factors<A> {
+    /// The heads of all places once more.
+    fn copied_heads(&self, alloc: Global) -> Result<Heads, Memory>
+        ensures { IfOk result (λ heads. heads ≡ self.now.heads) }
+    {
+        self.holds();
+        let count = match &self.heads {
+            Some(kept) => kept.places.len(),
+            None => self.rows.edges(),
+        };
+        let mut heads = Heads::new(alloc, self.places.len(), count)?;
+        for i in 0..self.places.len() {
+            heads = heads.push(self.heads(i))?;
+        }
+        Ok(heads)
+    }
+
     /// The factor of another graph, by the same order and over the same links: in a fraction of the
     /// time of `by_order`. Weights may change, and arcs may go, come back or have others beside them.
     /// The order is shared, and places and links are copied. The only other error is `Memory`.
@@ -109,7 +126,7 @@ impl<A: ComposingAlgebra> Factors<A> {
         }
         let order = Arc::try_clone(&self.order)?;
         let places = self.places.to_vec(alloc)?;
-        let heads = self.heads.copy(alloc)?;
+        let heads = self.copied_heads(alloc)?;
         let rows = PackedRows::blank(alloc, heads, algebra.no_walk())?;
         let factors = Weighing::weigh(algebra, graph, order, places, rows).prune(
             alloc,

@@ -1,5 +1,5 @@
 //! Best values by substitution.
-ghost use Rattle.std.specs.Prelude.{◌≡◌, ℕ, ◌<◌, List, All, IfOk, length, map};
+ghost use Rattle.std.specs.Prelude.{◌≡◌, ℕ, ◌<◌, List, All, IfOk, IfSome, IsSome, IsTrue, None, false, length, map};
 ghost use Rattle.road_graph.specs.GraphData.{HasVertex};
 ghost use Rattle.path_algebra.specs.Walks.{AreBest, label_of};
 ghost use Rattle.path_algebra.specs.Composition.{applied};
@@ -10,6 +10,7 @@ use crate::better::{better, offer};
 use crate::factors::Factors;
 use crate::link::Link;
 use path_algebra::{ComposingAlgebra, Labels};
+use path_plain::{Halt, Stop};
 use road_graph::{Memory, Vertex};
 use std::alloc::{AllocError, Global};
 
@@ -99,63 +100,86 @@ impl<A: ComposingAlgebra> Factors<A> {
         Ok(labels)
     }
 
-    /// Forward substitution: each place, in ascending order, offers its label along its links.
-    fn sweep_up(&self, labels: &mut [Option<A::Value>])
+    /// Forward substitution: each place, in ascending order, offers its label along its links. False
+    /// if the stop was set before the end, as in each sweep.
+    fn sweep_up(&self, labels: &mut [Option<A::Value>], stop: &Option<Stop>) -> bool
         requires { length labels.old ≡ self.now.roads.vertices }
-        ensures { (sources : List ℕ) →
+        ensures stopped { result ≡ false → IsSome stop.now }
+        ensures forward { IsTrue result → (sources : List ℕ) →
             IsForwardTo (A.meaning self.now.algebra) (A.walks self.now.algebra) self.now.roads self.now.factor sources 0 labels.old →
             IsForward (A.meaning self.now.algebra) (A.walks self.now.algebra) self.now.roads self.now.factor sources labels.new }
     {
         self.holds();
+        let mut halt = Halt::by(stop);
         for i in 0..labels.len() {
+            if halt.is_due() {
+                return false;
+            }
             self.offer_up(labels, i);
         }
+        true
     }
 
     /// Back substitution: each place, in descending order, gets the best of its label and of what
     /// its links bring.
-    fn sweep_down(&self, labels: &mut [Option<A::Value>])
+    fn sweep_down(&self, labels: &mut [Option<A::Value>], stop: &Option<Stop>) -> bool
         requires { length labels.old ≡ self.now.roads.vertices }
-        ensures { IsBackward (A.meaning self.now.algebra) (A.walks self.now.algebra) self.now.roads
+        ensures stopped { result ≡ false → IsSome stop.now }
+        ensures backward { IsTrue result → IsBackward (A.meaning self.now.algebra) (A.walks self.now.algebra) self.now.roads
             self.now.factor labels.old labels.new }
     {
         self.holds();
+        let mut halt = Halt::by(stop);
         for i in (0..labels.len()).rev() {
+            if halt.is_due() {
+                return false;
+            }
             labels[i] = self.best_down(labels, i);
         }
+        true
     }
 
     /// Both sweeps.
-    fn substitute(&self, labels: &mut [Option<A::Value>])
+    fn substitute(&self, labels: &mut [Option<A::Value>], stop: &Option<Stop>) -> bool
         requires { length labels.old ≡ self.now.roads.vertices }
+        ensures stopped { result ≡ false → IsSome stop.now }
         ensures count { length labels.new ≡ self.now.roads.vertices }
-        ensures labels { (sources : List ℕ) →
+        ensures labels { IsTrue result → (sources : List ℕ) →
             IsForwardTo (A.meaning self.now.algebra) (A.walks self.now.algebra) self.now.roads self.now.factor sources 0 labels.old →
             AreSubstituted (A.meaning self.now.algebra) (A.walks self.now.algebra) self.now.roads self.now.factor sources labels.new }
     {
-        self.sweep_up(labels);
-        self.sweep_down(labels);
+        if !self.sweep_up(labels, stop) {
+            return false;
+        }
+        self.sweep_down(labels, stop)
     }
 
-    /// Labels by vertex, from labels by place.
+    /// Labels by vertex, from labels by place; none if the stop was set before the end.
     fn by_vertex(
         &self,
         alloc: Global,
         labels: &[Option<A::Value>],
-    ) -> Result<Labels<A::Value>, Memory>
+        stop: &Option<Stop>,
+    ) -> Result<Option<Labels<A::Value>>, Memory>
         requires { length labels.now ≡ self.now.roads.vertices }
-        ensures count { IfOk result (λ found. length found ≡ self.now.roads.vertices) }
-        ensures labels { IfOk result (λ found. (v : ℕ) → HasVertex self.now.roads v →
-            label_of found v ≡ at labels.now (place_of self.now.factor v)) }
+        ensures stopped { IfOk result (λ found. found ≡ None → IsSome stop.now) }
+        ensures count { IfOk result (λ found. IfSome found (λ found.
+            length found ≡ self.now.roads.vertices)) }
+        ensures labels { IfOk result (λ found. IfSome found (λ found. (v : ℕ) →
+            HasVertex self.now.roads v → label_of found v ≡ at labels.now (place_of self.now.factor v))) }
     {
         self.holds();
+        let mut halt = Halt::by(stop);
         let mut found = Vec::with_capacity(alloc, self.places.len())?;
         for place in &self.places {
+            if halt.is_due() {
+                return Ok(None);
+            }
             found
                 .push(label_at(labels, *place))
                 .map_err(AllocError::from)?;
         }
-        Ok(Labels::from_vec(found))
+        Ok(Some(Labels::from_vec(found)))
     }
 
     /// The best value of each vertex over all walks from some source of the list, and none if no
@@ -165,10 +189,32 @@ impl<A: ComposingAlgebra> Factors<A> {
         ensures { IfOk result (λ labels. AreBest (A.meaning self.now.algebra) self.now.roads
             sources.now labels) }
     {
+        match self.solve_unless(alloc, sources, &None)? {
+            Some(labels) => Ok(labels),
+            None => unreachable!(),
+        }
+    }
+
+    /// The same, or none if the stop is set before: it is looked at once in a thousand places.
+    pub fn solve_unless(
+        &self,
+        alloc: Global,
+        sources: &[Vertex],
+        stop: &Option<Stop>,
+    ) -> Result<Option<Labels<A::Value>>, Memory>
+        requires { All (HasVertex self.now.roads) sources.now }
+        ensures best { IfOk result (λ found. IfSome found (λ labels. AreBest
+            (A.meaning self.now.algebra) self.now.roads sources.now labels)) }
+        ensures stopped { IfOk result (λ found. found ≡ None → IsSome stop.now) }
+    {
         self.holds();
         let mut labels = self.at_sources(alloc, sources)?;
-        self.substitute(&mut labels);
-        let found = self.by_vertex(alloc, &labels)?;
-        Ok(found)
+        if !self.substitute(&mut labels, stop) {
+            return Ok(None);
+        }
+        let Some(found) = self.by_vertex(alloc, &labels, stop)? else {
+            return Ok(None);
+        };
+        Ok(Some(found))
     }
 }

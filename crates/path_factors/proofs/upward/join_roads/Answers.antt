@@ -28,17 +28,15 @@ bounds-places-road-inside c =
 
 pub join-requires-clause-first : goal.join-requires-clause-first
 join-requires-clause-first c =
-    let here = c.requires.places.1.place c.args.tail c.requires.tail in
-    omega (arith, here.0, c.loop-road.invariant.more.lists, c.requires.lists)
+    omega (arith, (c.requires.places.1.place c.args.tail c.requires.tail).0, c.loop-road.invariant.more.lists, c.requires.lists)
 
 pub join-requires-clause-second : goal.join-requires-clause-second
 join-requires-clause-second c =
     let inside = road_inside c.args.graph.now c.holds.ensures c.args.tail c.roads_from-road-items.result.now c.roads_from-road-items.ensures
     c.loop-road.road-index c.road-item.result c.loop-road-test.true c.road-item.is in
-    let there = c.requires.places.1.place c.road-item.result.head inside in
     let e : c.road.inside.0.0.0 ≡ c.road-item.result.head = λ i. (c.road.view_is i).head in
     let same = ap (λ (k : ℕ). get_or c.args.places.now (k - 1) 0) e in
-    omega (arith, there.0, same, c.loop-road.invariant.more.lists, c.requires.lists)
+    omega (arith, (c.requires.places.1.place c.road-item.result.head inside).0, same, c.loop-road.invariant.more.lists, c.requires.lists)
 
 pub loop-road-preserved : goal.loop-road-preserved
 loop-road-preserved c =

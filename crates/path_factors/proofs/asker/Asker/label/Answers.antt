@@ -27,18 +27,15 @@ invariant_of-self g c =
 pub find_listed-requires-clause-list : goal.find_listed-requires-clause-list
 find_listed-requires-clause-list g c κs within =
     let f = c.args.factors.now in
-    let s = c.self.inside in
-    let asked = s.asked.items in
+    let asked = c.self.inside.asked.items in
     let listed = c.in_ok-list_unknown.ensures.listed in
     let m = c.len-known.result in
     let size : m ≡ length asked = grind (arith, common_steps) in
     let all : c.deref-2.result.now ≡ c.list_unknown.new.asked.items = grind (arith, common_steps) in
-    let D = all ∙ listed.1 in
-    let n = length-append asked listed.0 in
     let part : take (length c.deref-2.result.now - m) (drop m c.deref-2.result.now) ≡ listed.0 =
-    ap (λ (d : List ℕ). take (length d - m) (drop m d)) D
+    ap (λ (d : List ℕ). take (length d - m) (drop m d)) (all ∙ listed.1)
     ∙ ap (λ (l : List ℕ). take (length (asked ++ listed.0) - m) l) (drop_at asked listed.0 m (sym size))
-    ∙ take_all (length (asked ++ listed.0) - m) listed.0 (omega (arith, n, size)) in
+    ∙ take_all (length (asked ++ listed.0) - m) listed.0 (omega (arith, length-append asked listed.0, size)) in
     let known : c.deref.result.now ≡ c.deref_mut-2.result.now = grind (arith, common_steps) in
     subst (λ (l : List ℕ). AreAllUnknownUp f.heads f.roads.vertices c.deref_mut-2.result.now c.place-t.result l) (sym part)
     (subst (λ (k : List Bool). AreAllUnknownUp f.heads f.roads.vertices k c.place-t.result listed.0) known listed.2)
@@ -63,12 +60,10 @@ invariant_of-self-2 g c =
     let m = c.len-known.result in
     let size : m ≡ length asked = grind (arith, common_steps) in
     let all : c.deref-2.result.now ≡ c.list_unknown.new.asked.items = grind (arith, common_steps) in
-    let D = all ∙ listed.1 in
-    let n = length-append asked listed.0 in
     let part : take (length c.deref-2.result.now - m) (drop m c.deref-2.result.now) ≡ listed.0 =
-    ap (λ (d : List ℕ). take (length d - m) (drop m d)) D
+    ap (λ (d : List ℕ). take (length d - m) (drop m d)) (all ∙ listed.1)
     ∙ ap (λ (l : List ℕ). take (length (asked ++ listed.0) - m) l) (drop_at asked listed.0 m (sym size))
-    ∙ take_all (length (asked ++ listed.0) - m) listed.0 (omega (arith, n, size)) in
+    ∙ take_all (length (asked ++ listed.0) - m) listed.0 (omega (arith, length-append asked listed.0, size)) in
     let read : c.deref.result.now ≡ s.known.items = grind (arith, common_steps) in
     let labels : c.deref_mut.result.now ≡ s.labels.items = grind (arith, common_steps) in
     let known : c.deref_mut-2.result.now ≡ s.known.items = grind (arith, common_steps) in
@@ -99,12 +94,10 @@ returns-clause-best g c =
     let m = c.len-known.result in
     let size : m ≡ length asked = grind (arith, common_steps) in
     let all : c.deref-2.result.now ≡ c.list_unknown.new.asked.items = grind (arith, common_steps) in
-    let D = all ∙ listed.1 in
-    let n = length-append asked listed.0 in
     let part : take (length c.deref-2.result.now - m) (drop m c.deref-2.result.now) ≡ listed.0 =
-    ap (λ (d : List ℕ). take (length d - m) (drop m d)) D
+    ap (λ (d : List ℕ). take (length d - m) (drop m d)) (all ∙ listed.1)
     ∙ ap (λ (l : List ℕ). take (length (asked ++ listed.0) - m) l) (drop_at asked listed.0 m (sym size))
-    ∙ take_all (length (asked ++ listed.0) - m) listed.0 (omega (arith, n, size)) in
+    ∙ take_all (length (asked ++ listed.0) - m) listed.0 (omega (arith, length-append asked listed.0, size)) in
     let read : c.deref.result.now ≡ s.known.items = grind (arith, common_steps) in
     let labels : c.deref_mut.result.now ≡ s.labels.items = grind (arith, common_steps) in
     let known : c.deref_mut-2.result.now ≡ s.known.items = grind (arith, common_steps) in

@@ -8,7 +8,6 @@ use Rattle.path_factors.proofs.asker.Asker.new.Goals as goal
 pub invariant_of-result : goal.invariant_of-result
 invariant_of-result g c =
     let f = c.args.factors.now in
-    let A = g.A.PathAlgebra.meaning f.algebra in
     let C = g.A.ComposingAlgebra.walks f.algebra in
     let G = f.roads in
     let F = f.factor in
@@ -18,7 +17,6 @@ invariant_of-result g c =
     let labels : c.in_ok-labels.labels.items ≡ replicate c.len-n.result None = grind (arith, common_steps) in
     let known : c.in_ok-known.known.items ≡ replicate c.len-n.result false = grind (arith, common_steps) in
     let asked : c.in_ok-asked.asked.items ≡ [] = grind (arith, common_steps) in
-    let made = asking_none A holds.lawful C holds.composes G holds.roads F holds.factor f.heads holds.outline.are in
     subst (λ (s : FactorState g.row.A.Denot g.row.A-Walk.Denot). IsAsking (g.A.PathAlgebra.meaning s.algebra) (g.A.ComposingAlgebra.walks s.algebra) s.roads s.factor s.heads
     [] c.in_ok-labels.labels.items c.in_ok-known.known.items c.in_ok-asked.asked.items) (sym c.of.ensures)
-    (rw (labels, known, asked, n) made)
+    (rw (labels, known, asked, n) (asking_none (g.A.PathAlgebra.meaning f.algebra) holds.lawful C holds.composes G holds.roads F holds.factor f.heads holds.outline.are))

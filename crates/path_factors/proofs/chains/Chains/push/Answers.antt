@@ -19,8 +19,7 @@ returns-clause-has c =
     pushed ∙ ap (λ (n : ℕ). items ++ record { value = value; next = n } ∷ []) next in
     let whole : c.in-Ok.item ≡ length c.push.new.self.items = grind (arith, common_steps) in
     let n = length-append items (record { value = value; next = get_or firsts list 0 } ∷ []) in
-    let size = ap length all in
-    let item : c.in-Ok.item ≡ length items + 1 = omega (arith, whole, size, n) in
+    let item : c.in-Ok.item ≡ length items + 1 = omega (arith, whole, ap length all, n) in
     let before : ChainData = record { firsts = firsts; items = items } in
     subst (λ (l : List Item). HasValue (record { firsts = set firsts list c.in-Ok.item; items = l }) list value) (sym all)
     (subst (λ (k : ℕ). HasValue (record { firsts = set firsts list k; items = items ++ record { value = value; next = get_or firsts list 0 } ∷ [] }) list value) (sym item)
@@ -39,8 +38,7 @@ returns-clause-more c = λ m small.
     pushed ∙ ap (λ (n : ℕ). items ++ record { value = value; next = n } ∷ []) next in
     let whole : c.in-Ok.item ≡ length c.push.new.self.items = grind (arith, common_steps) in
     let n = length-append items (record { value = value; next = get_or firsts list 0 } ∷ []) in
-    let size = ap length all in
-    let item : c.in-Ok.item ≡ length items + 1 = omega (arith, whole, size, n) in
+    let item : c.in-Ok.item ≡ length items + 1 = omega (arith, whole, ap length all, n) in
     let before : ChainData = record { firsts = firsts; items = items } in
     subst (λ (d : ChainData). IsMore m d (record { firsts = set firsts list c.in-Ok.item; items = c.push.new.self.items })) c.self.view_is
     (subst (λ (l : List Item). IsMore m before (record { firsts = set firsts list c.in-Ok.item; items = l })) (sym all)

@@ -7,12 +7,11 @@ use Rattle.path_factors.proofs.factors.Factors.at_sources.Goals as goal
 
 pub loop-s-init : goal.loop-s-init
 loop-s-init g c =
-    let A = g.A.PathAlgebra.meaning c.args.self.now.algebra in
     let ordering = c.holds.ensures.factor.ordering in
     let places : length c.self.inside.places.items ≡ length c.args.self.now.factor.places = λ i. length (c.self.view_is i).factor.places in
     let made : c.in_ok-labels.labels.items ≡ replicate c.len.result None = grind (arith, common_steps) in
     let n : c.len.result ≡ c.args.self.now.roads.vertices = omega (arith, places, ordering.places_count, c.len.ensures) in
-    origins_none A c.args.self.now.roads c.args.self.now.factor ordering c.in_ok-labels.labels.items
+    origins_none (g.A.PathAlgebra.meaning c.args.self.now.algebra) c.args.self.now.roads c.args.self.now.factor ordering c.in_ok-labels.labels.items
     (ap length made ∙ length-replicate c.len.result None ∙ n)
     (λ i. ap (λ (l : List (Option g.row.A-Value.Denot)). at l i) made ∙ at_none c.len.result i)
 

@@ -1,6 +1,11 @@
 use Rattle.std.proofs.Common.{◌≡◌, map, take}
+use Rattle.std.specs.Prelude.{IsSome}
+use Rattle.path_plain.specs.Halting.{CanHalt}
 use Rattle.path_factors.specs.Substituting.{at}
 use Rattle.path_factors.proofs.factors.Factors.by_vertex.Given as goal
 
 abbrev pub invariant-loop-place : goal.invariant-loop-place
-invariant-loop-place g l = l.found.items ≡ map (at l.labels) (take l.place-index l.place-items)
+invariant-loop-place g l = record {
+  halt : CanHalt l.halt → IsSome l.stop;
+  found : l.found.items ≡ map (at l.labels) (take l.place-index l.place-items);
+}

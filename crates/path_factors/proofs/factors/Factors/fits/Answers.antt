@@ -16,7 +16,6 @@ returns-clause-fits g c =
 pub returns-then-not-has_edges-clause-others : goal.returns-then-not-has_edges-clause-others
 returns-then-not-has_edges-clause-others g c = λ over.
     let S = c.args.self.now in
-    let all = has_old_edges S.roads S.factor S.heads c.holds.ensures.outline c.args.graph.now over in
-    let yes : IsTrue c.has_edges.result = c.has_edges.ensures.1 all in
+    let yes : IsTrue c.has_edges.result = c.has_edges.ensures.1 (has_old_edges S.roads S.factor S.heads c.holds.ensures.outline c.args.graph.now over) in
     let no = c.if-not-has_edges.true in
     absurd (cc)

@@ -32,8 +32,7 @@ pub loop-road-preserved : goal.loop-road-preserved
 loop-road-preserved g c =
     let F = c.args.self.now.factor in
     let Has : ℕ → ℕ → Type 0 = IsHead c.args.self.now.heads in
-    let both = c.is_joined.ensures.0 c.if-not-is_joined.false in
-    let here = subst (λ (p : ℕ). IsJoined Has c.place-from.result p) c.place-to.ensures.place both in
+    let here = subst (λ (p : ℕ). IsJoined Has c.place-from.result p) c.place-to.ensures.place (c.is_joined.ensures.0 c.if-not-is_joined.false) in
     let joined = subst (λ (p : ℕ). IsJoined Has p (place_of F c.road-item.result.head)) c.place-from.ensures.place here in
     roads_more Has F.places c.args.tail c.roads_from-road-items.result.now c.loop-road.road-index c.road-item.result c.loop-road.invariant
     c.loop-road-test.true c.road-item.is joined

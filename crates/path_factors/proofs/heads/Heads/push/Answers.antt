@@ -10,9 +10,7 @@ returns c =
     let places = c.self.inside.places.items in
     let row = c.args.row.now in
     let all : c.extend_from_slice.new.self.items ≡ places ++ row = grind (arith, common_steps) in
-    let n = length-append places row in
-    let size = ap length all in
     let whole : c.in-Ok.end ≡ length c.extend_from_slice.new.self.items = grind (arith, common_steps) in
-    let end : c.in-Ok.end ≡ length places + length row = omega (arith, whole, size, n) in
+    let end : c.in-Ok.end ≡ length places + length row = omega (arith, whole, ap length all, length-append places row) in
     let ends : c.push.new.self.items ≡ starts ++ c.in-Ok.end ∷ [] = grind (arith, common_steps) in
     rw (ends, all, end) (packed_more starts places row c.self.invariant ∙ ap (λ (h : List (List ℕ)). h ++ row ∷ []) c.self.view_is)

@@ -4,7 +4,5 @@ use Rattle.path_factors.proofs.heads.Heads.row.Goals as goal
 
 pub row_between-requires-clause-inside : goal.row_between-requires-clause-inside
 row_between-requires-clause-inside c =
-    let n = rows_count c.self.inside.starts.items c.self.inside.places.items in
-    let m = ap length c.self.view_is in
     let same = ap length c.deref.ensures.value in
-    omega (arith, n, m, same, c.self.invariant.some, c.requires)
+    omega (arith, rows_count c.self.inside.starts.items c.self.inside.places.items, ap length c.self.view_is, same, c.self.invariant.some, c.requires)

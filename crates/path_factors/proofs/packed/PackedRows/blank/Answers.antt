@@ -1,19 +1,18 @@
 use Rattle.std.proofs.Common.{◌≡◌, ◌∙◌, length, ap, sym, arith}
 use Rattle.path_factors.specs.Packing.{links_of}
 use Rattle.path_factors.proofs.HeadRows.{heads_packed}
-use Rattle.path_factors.proofs.Packing.{links_count, packed_as, rows_count}
+use Rattle.path_factors.proofs.Packing.{rows_count}
 use Rattle.path_factors.proofs.Setting.{blank}
 use Rattle.path_factors.proofs.packed.PackedRows.blank.Goals as goal
 
 pub invariant_of-result : goal.invariant_of-result
 invariant_of-result g c =
-    let starts = c.heads.inside.starts.items in
-    let places = c.heads.inside.places.items in
-    let n : length c.in_ok-leaving.leaving.items ≡ length places = omega (arith, c.in_ok-leaving.ensures.count, c.len-count.ensures) in
-    let m : length c.in_ok-entering.entering.items ≡ length places = omega (arith, c.in_ok-entering.ensures.count, c.len-count.ensures) in
     record {
-      fields = record { leaving_count = n; entering_count = m };
-      packed = packed_as starts places (links_of places c.in_ok-leaving.leaving.items) (links_count places c.in_ok-leaving.leaving.items n) c.heads.invariant;
+      fields = record {
+        leaving_count = omega (arith, c.in_ok-leaving.ensures.count, c.len-count.ensures);
+        entering_count = omega (arith, c.in_ok-entering.ensures.count, c.len-count.ensures);
+      };
+      packed = c.heads.invariant;
     }
 
 pub returns-clause-count : goal.returns-clause-count

@@ -1,27 +1,17 @@
-use Rattle.std.proofs.Common.{◌<◌, ◌∙◌, List, ℕ, length, ap, arith, sym, subst}
+use Rattle.std.proofs.Common.{◌∙◌, List, ℕ, length, ap, arith, sym}
 use Rattle.path_factors.specs.Edges.{LinkRows}
 use Rattle.path_factors.specs.Factors.{row_of}
 use Rattle.path_factors.specs.Heads.{heads_in}
-use Rattle.path_factors.specs.Packing.{ArePacked, links_of, rows_between}
+use Rattle.path_factors.specs.Packing.{rows_between}
 use Rattle.path_factors.proofs.HeadRows.{heads_packed}
-use Rattle.path_factors.proofs.Packing.{links_count, packed_as, row_inside}
+use Rattle.path_factors.proofs.Packing.{row_inside}
 use Rattle.path_factors.proofs.packed.PackedRows.heads.Goals as goal
 
 pub row_between-requires-clause-packed : goal.row_between-requires-clause-packed
-row_between-requires-clause-packed g c =
-    let s = c.self.inside in
-    let n = links_count s.places.items s.leaving.items c.self.invariant.fields.leaving_count in
-    let packed = packed_as s.starts.items (links_of s.places.items s.leaving.items) s.places.items (sym n) c.self.invariant.packed in
-    subst (λ (l : List ℕ). ArePacked l c.deref-2.result.now) (sym c.deref.ensures.value)
-    (subst (λ (l : List ℕ). ArePacked s.starts.items l) (sym c.deref-2.ensures.value) packed)
+row_between-requires-clause-packed g c = rw (c.deref.ensures.value, c.deref-2.ensures.value) c.self.invariant.packed
 
 pub row_between-requires-clause-inside : goal.row_between-requires-clause-inside
-row_between-requires-clause-inside g c =
-    let s = c.self.inside in
-    let low = subst (λ (l : LinkRows g.row.W.Denot). c.args.i < length l.leaving) (sym c.self.view_is) c.requires in
-    let lt = row_inside s.starts.items s.places.items s.leaving.items s.entering.items c.self.invariant c.args.i low in
-    let n = ap length c.deref.ensures.value in
-    omega (arith, lt, n)
+row_between-requires-clause-inside g c = omega (arith, row_inside c.self.invariant c.self.view_is c.args.i c.requires, ap length c.deref.ensures.value)
 
 pub returns : goal.returns
 returns g c =

@@ -12,16 +12,14 @@ overflow_sub-result g c = let some = c.self.invariant.packed.some in omega (arit
 pub returns-clause-count : goal.returns-clause-count
 returns-clause-count g c =
     let s = c.self.inside in
-    let n = rows_count s.starts.items (links_of s.places.items s.leaving.items) in
     let m = ap (λ (l : LinkRows g.row.W.Denot). length l.leaving) c.self.view_is in
-    omega (arith, n, m, c.len.ensures)
+    omega (arith, rows_count s.starts.items (links_of s.places.items s.leaving.items), m, c.len.ensures)
 
 pub returns-clause-entering : goal.returns-clause-entering
 returns-clause-entering g c =
     let s = c.self.inside in
-    let n = rows_count s.starts.items (links_of s.places.items s.entering.items) in
     let m = ap (λ (l : LinkRows g.row.W.Denot). length l.entering) c.self.view_is in
-    omega (arith, n, m, c.len.ensures)
+    omega (arith, rows_count s.starts.items (links_of s.places.items s.entering.items), m, c.len.ensures)
 
 pub returns-clause-heads : goal.returns-clause-heads
 returns-clause-heads g c =

@@ -7,7 +7,7 @@ use Rattle.path_factors.specs.Factors.{row_of}
 use Rattle.path_factors.specs.Packing.{links_of}
 use Rattle.path_factors.specs.Pruning.{marked}
 use Rattle.path_factors.proofs.HeadRows.{head_at, row_heads_count}
-use Rattle.path_factors.proofs.Packing.{links_count, links-push, packed_as, pushed}
+use Rattle.path_factors.proofs.Packing.{links_count, links-push, packed_as, packed_links, pushed}
 use Rattle.path_factors.proofs.Pruning.{marked_more, marked_same}
 use Rattle.path_factors.proofs.packed.PackedRows.push_marked.Goals as goal
 use Rattle.path_factors.proofs.packed.PackedRows.push_marked.Goals.{then-is_marked+in_ok-put, else-is_marked}
@@ -21,10 +21,8 @@ loop-j-init g c = record {
 
 pub faller-faller-requires-clause-link : goal.faller-faller-requires-clause-link
 faller-faller-requires-clause-link g c =
-    let n = row_heads_count c.args.whole.now.leaving c.args.v in
-    let m = row_heads_count c.args.whole.now.entering c.args.v in
     let same = ap (λ (h : List (List ℕ)). length (row_of h c.args.v)) c.len.ensures.heads in
-    omega (arith, n, m, same, c.requires.marks, c.loop-j-test.true)
+    omega (arith, row_heads_count c.args.whole.now.leaving c.args.v, row_heads_count c.args.whole.now.entering c.args.v, same, c.requires.marks, c.loop-j-test.true)
 
 pub loop-j-preserved : goal.loop-j-preserved
 loop-j-preserved g c =
@@ -40,10 +38,8 @@ loop-j-preserved g c =
     let now = c.if-is_marked in
     let inv = c.loop-j.invariant in
     let lt : j < length up = omega (arith, c.requires.marks, c.loop-j-test.true) in
-    let n = row_heads_count c.args.whole.now.leaving v in
-    let k = row_heads_count c.args.whole.now.entering v in
     let same = ap (λ (h : List (List ℕ)). length (row_of h v)) c.len.ensures.heads in
-    let also : j < length down = omega (arith, lt, n, k, same) in
+    let also : j < length down = omega (arith, lt, row_heads_count c.args.whole.now.leaving v, row_heads_count c.args.whole.now.entering v, same) in
     elim c.if-is_marked.branch [
       | then-is_marked+in_ok-put w ↦
           let places : now.places.items ≡ old.places.items ++ l.place ∷ [] = grind (arith, common_steps) in
@@ -93,8 +89,8 @@ invariant_of-result g c =
     let ends : c.push.new.self.items ≡ s.starts.items ++ c.in-Ok.end ∷ [] = grind (arith, common_steps) in
     record {
       fields = c.loop-j.invariant.fields;
-      packed = rw ends (pushed s.starts.items (links_of s.places.items s.leaving.items) row (links_of places c.loop-j.leaving.items) c.in-Ok.end
-          c.self.invariant.packed c.loop-j.invariant.rise (whole ∙ sym n)).0;
+      packed = rw ends (packed_as _ _ places (sym n) (pushed s.starts.items (links_of s.places.items s.leaving.items) row (links_of places c.loop-j.leaving.items) c.in-Ok.end
+          (packed_links s.starts.items s.places.items s.leaving.items c.self.invariant.fields.leaving_count c.self.invariant.packed) c.loop-j.invariant.rise (whole ∙ sym n)).0);
     }
 
 pub returns-clause-leaving : goal.returns-clause-leaving
@@ -107,18 +103,14 @@ returns-clause-leaving g c =
     let ends : c.push.new.self.items ≡ s.starts.items ++ c.in-Ok.end ∷ [] = grind (arith, common_steps) in
     let all : take c.loop-j.j up ≡ up = take_all c.loop-j.j up (omega (arith, c.requires.marks, c.loop-j-test.false)) in
     rw ends ((pushed s.starts.items (links_of s.places.items s.leaving.items) (marked (take c.loop-j.j up) c.args.marks.now) (links_of places c.loop-j.leaving.items) c.in-Ok.end
-    c.self.invariant.packed c.loop-j.invariant.rise (whole ∙ sym n)).1
+    (packed_links s.starts.items s.places.items s.leaving.items c.self.invariant.fields.leaving_count c.self.invariant.packed) c.loop-j.invariant.rise (whole ∙ sym n)).1
     ∙ (λ i. (c.self.view_is i).leaving ++ marked (all i) c.args.marks.now ∷ []))
 
 pub returns-clause-entering : goal.returns-clause-entering
 returns-clause-entering g c =
     let s = c.self.inside in
-    let f = c.self.invariant.fields in
     let places = c.loop-j.places.items in
     let down = row_of c.args.whole.now.entering c.args.v in
-    let n = links_count places c.loop-j.entering.items c.loop-j.invariant.fields.entering_count in
-    let p = links_count s.places.items s.leaving.items f.leaving_count in
-    let q = links_count s.places.items s.entering.items f.entering_count in
     let whole : c.in-Ok.end ≡ length places = grind (arith, common_steps) in
     let ends : c.push.new.self.items ≡ s.starts.items ++ c.in-Ok.end ∷ [] = grind (arith, common_steps) in
     let up_count = row_heads_count c.args.whole.now.leaving c.args.v in
@@ -126,6 +118,6 @@ returns-clause-entering g c =
     let same = ap (λ (h : List (List ℕ)). length (row_of h c.args.v)) c.len.ensures.heads in
     let all : take c.loop-j.j down ≡ down = take_all c.loop-j.j down (omega (arith, c.requires.marks, c.loop-j-test.false, up_count, down_count, same)) in
     rw ends ((pushed s.starts.items (links_of s.places.items s.entering.items) (marked (take c.loop-j.j down) c.args.marks.now) (links_of places c.loop-j.entering.items) c.in-Ok.end
-    (packed_as s.starts.items (links_of s.places.items s.leaving.items) (links_of s.places.items s.entering.items) (omega (arith, p, q)) c.self.invariant.packed)
-    c.loop-j.invariant.fall (whole ∙ sym n)).1
+    (packed_links s.starts.items s.places.items s.entering.items c.self.invariant.fields.entering_count c.self.invariant.packed)
+    c.loop-j.invariant.fall (whole ∙ sym (links_count places c.loop-j.entering.items c.loop-j.invariant.fields.entering_count))).1
     ∙ (λ i. (c.self.view_is i).entering ++ marked (all i) c.args.marks.now ∷ []))

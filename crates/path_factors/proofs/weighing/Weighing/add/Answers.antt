@@ -55,6 +55,5 @@ connect-requires-clause-back g c κs within =
 pub connect-requires-clause-joined : goal.connect-requires-clause-joined
 connect-requires-clause-joined g c κs within =
     let heads = heads_in c.args.self.now.factor.leaving in
-    let from = place_of c.args.self.now.factor c.args.tail in
     subst (λ p. IsJoined (IsHead heads) p c.place-2.result) (sym c.place.ensures.place)
-    (subst (λ p. IsJoined (IsHead heads) from p) (sym c.place-2.ensures.place) c.requires.joined)
+    (subst (λ p. IsJoined (IsHead heads) (place_of c.args.self.now.factor c.args.tail) p) (sym c.place-2.ensures.place) c.requires.joined)

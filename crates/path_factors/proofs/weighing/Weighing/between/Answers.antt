@@ -8,17 +8,13 @@ pub bounds-row-i : goal.bounds-row-i
 bounds-row-i g c =
     let v = c.args.v in
     let row : c.heads-row.result.now ≡ row_of (heads_in c.args.self.now.factor.leaving) v = c.heads-row.ensures ∙ (λ k. row_of (heads_in (c.self.view_is k).factor.leaving) v) in
-    let n = row_heads_count c.args.self.now.factor.leaving v in
-    let m = ap length row in
-    omega (arith, n, m, c.requires.after, c.requires.edge)
+    omega (arith, row_heads_count c.args.self.now.factor.leaving v, ap length row, c.requires.after, c.requires.edge)
 
 pub bounds-row-j : goal.bounds-row-j
 bounds-row-j g c =
     let v = c.args.v in
     let row : c.heads-row.result.now ≡ row_of (heads_in c.args.self.now.factor.leaving) v = c.heads-row.ensures ∙ (λ k. row_of (heads_in (c.self.view_is k).factor.leaving) v) in
-    let n = row_heads_count c.args.self.now.factor.leaving v in
-    let m = ap length row in
-    omega (arith, n, m, c.requires.edge)
+    omega (arith, row_heads_count c.args.self.now.factor.leaving v, ap length row, c.requires.edge)
 
 pub heads-requires : goal.heads-requires
 heads-requires g c =
@@ -29,9 +25,8 @@ heads-requires g c =
     let x = ap (λ (l : List ℕ). get_or l c.args.i 0) row in
     let k = row_heads_count S.factor.leaving v in
     let r = near_inside S.roads.vertices H c.holds.ensures.outline.are v c.args.i c.args.j c.requires.after (omega (arith, k, c.requires.edge)) in
-    let n = c.self.invariant.0.links.leaving_count in
     let same : c.self.inside.graph.now.vertices ≡ S.roads.vertices = (λ i. (c.self.view_is i).roads.vertices) in
-    omega (arith, n, same, r, x)
+    omega (arith, c.self.invariant.0.links.leaving_count, same, r, x)
 
 pub seek-requires : goal.seek-requires
 seek-requires g c =

@@ -15,12 +15,10 @@ edge-end-requires-clause-place g c κs within =
 pub edge-end-requires-clause-edge : goal.edge-end-requires-clause-edge
 edge-end-requires-clause-edge g c κs within =
     let F = c.args.self.now.factor in
-    let H = heads_in F.leaving in
     let e = c.edge-first.result in
     let x = head_at F.leaving c.args.v c.args.i (rising e) c.edge-first.ensures.leaving_inside c.edge-first.ensures.rises in
-    let n = row_heads_count F.leaving e.place in
-    let m = ap (λ z. length (row_of H z)) x in
-    omega (arith, n, m, c.requires.index)
+    let m = ap (λ z. length (row_of (heads_in F.leaving) z)) x in
+    omega (arith, row_heads_count F.leaving e.place, m, c.requires.index)
 
 pub unmark-requires-clause-there : goal.unmark-requires-clause-there
 unmark-requires-clause-there g c κs within =

@@ -13,8 +13,7 @@ returns g c =
     let R = c.riser-riser.result in
     let E = c.faller-faller.result in
     let f : Link g.row.A-Walk.Denot = record { place = R.place; walk = E.walk } in
-    let n = aligned_count F c.holds.ensures.aligned v in
-    let low : j < length (row_of F.entering v) = omega (arith, n, c.requires.edge) in
+    let low : j < length (row_of F.entering v) = omega (arith, aligned_count F c.holds.ensures.aligned v, c.requires.edge) in
     let leaving : c.self.inside.rows.leaving ≡ F.leaving = λ i. (c.self.view_is i).factor.leaving in
     let entering : c.self.inside.rows.entering ≡ F.entering = λ i. (c.self.view_is i).factor.entering in
     let up : R ≡ get_or (row_of F.leaving v) j R =

@@ -7,7 +7,6 @@ use Rattle.path_factors.proofs.weighing.Weighing.eliminate.Goals as goal
 
 pub loop-i-preserved : goal.loop-i-preserved
 loop-i-preserved g c =
-    let C = g.A.ComposingAlgebra.walks c.args.self.now.algebra in
     let v = c.args.v in
     let i = c.loop-i.i in
     let F = c.args.self.now.factor in
@@ -24,7 +23,7 @@ loop-i-preserved g c =
         roads = c.pass.ensures.same.roads ∙ c.loop-i.invariant.same.roads;
         heads = c.pass.ensures.same.heads ∙ c.loop-i.invariant.same.heads;
       };
-      eliminated = eliminated_more C c.holds.ensures.composes.ordered v F G H i done improves joined;
+      eliminated = eliminated_more (g.A.ComposingAlgebra.walks c.args.self.now.algebra) c.holds.ensures.composes.ordered v F G H i done improves joined;
     }
 
 pub returns-clause-closed : goal.returns-clause-closed

@@ -8,7 +8,6 @@ pub loop-v-preserved : goal.loop-v-preserved
 loop-v-preserved g c =
     let C = g.A.ComposingAlgebra.walks c.args.self.now.algebra in
     let k = c.loop-v.v in
-    let F = c.args.self.now.factor in
     let G = c.loop-v.self.factor in
     let H = c.eliminate.new.self.factor in
     let alg = c.loop-v.invariant.same.algebra in
@@ -20,7 +19,7 @@ loop-v-preserved g c =
         roads = c.eliminate.ensures.same.roads ∙ c.loop-v.invariant.same.roads;
         heads = c.eliminate.ensures.same.heads ∙ c.loop-v.invariant.same.heads;
       };
-      eliminated = eliminated_to_more C c.holds.ensures.composes.ordered F G H k c.loop-v.invariant.eliminated improves closed;
+      eliminated = eliminated_to_more C c.holds.ensures.composes.ordered c.args.self.now.factor G H k c.loop-v.invariant.eliminated improves closed;
     }
 
 pub returns-clause-closed : goal.returns-clause-closed

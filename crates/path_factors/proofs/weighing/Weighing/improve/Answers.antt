@@ -12,9 +12,8 @@ use Rattle.path_factors.proofs.weighing.Weighing.improve.Goals as goal
 pub improve-requires-clause-index : goal.improve-requires-clause-index
 improve-requires-clause-index g c =
     let s = c.self.inside in
-    let n = row_heads_count s.rows.leaving c.args.x in
     let lt = subst (λ (s : FactorState g.row.A.Denot g.row.A-Walk.Denot). c.args.j < length (row_of (heads_in s.factor.leaving) c.args.x)) (sym c.self.view_is) c.requires.index in
-    omega (arith, n, lt)
+    omega (arith, row_heads_count s.rows.leaving c.args.x, lt)
 
 pub improve-requires-clause-head : goal.improve-requires-clause-head
 improve-requires-clause-head g c κs within =
@@ -23,20 +22,18 @@ improve-requires-clause-head g c κs within =
 pub invariant_of-self : goal.invariant_of-self
 invariant_of-self g c =
     let s = c.self.inside in
-    let A = g.A.PathAlgebra.meaning s.algebra in
     let C = g.A.ComposingAlgebra.walks s.algebra in
     let G = s.graph.now in
     let x = c.args.x in
     let e = c.args.edge in
-    let heads = heads_in s.rows.leaving in
     let leaving = subst (λ (s : FactorState g.row.A.Denot g.row.A-Walk.Denot). IsWorthOfWalk (g.A.PathAlgebra.meaning s.algebra) (g.A.ComposingAlgebra.walks s.algebra) s.roads (vertex_at s.factor x) (vertex_at s.factor e.place) e.leaving)
     (sym c.self.view_is) c.requires.leaving in
     let entering = subst (λ (s : FactorState g.row.A.Denot g.row.A-Walk.Denot). IsWorthOfWalk (g.A.PathAlgebra.meaning s.algebra) (g.A.ComposingAlgebra.walks s.algebra) s.roads (vertex_at s.factor e.place) (vertex_at s.factor x) e.entering)
     (sym c.self.view_is) c.requires.entering in
     let index = subst (λ (s : FactorState g.row.A.Denot g.row.A-Walk.Denot). c.args.j < length (row_of (heads_in s.factor.leaving) x)) (sym c.self.view_is) c.requires.index in
     let is = subst (λ (s : FactorState g.row.A.Denot g.row.A-Walk.Denot). get_or (row_of (heads_in s.factor.leaving) x) c.args.j 0 ≡ e.place) (sym c.self.view_is) c.requires.head in
-    let rises = c.self.invariant.1.are.rising x e.place (c.args.j, index, get_or_default (row_of heads x) c.args.j e.place 0 index ∙ is) in (
-      both_begun C c.composition_holds.ensures.ordered A G _ c.self.invariant.0 x e.place e.leaving e.entering leaving entering
+    let rises = c.self.invariant.1.are.rising x e.place (c.args.j, index, get_or_default (row_of (heads_in s.rows.leaving) x) c.args.j e.place 0 index ∙ is) in (
+      both_begun C c.composition_holds.ensures.ordered (g.A.PathAlgebra.meaning s.algebra) G _ c.self.invariant.0 x e.place e.leaving e.entering leaving entering
           rises.0 rises.1 c.improve.new.self c.improve.ensures.improved,
       subst (λ h. IsOutline G s.places.items h) (sym c.improve.ensures.heads) c.self.invariant.1,
     )
@@ -44,20 +41,18 @@ invariant_of-self g c =
 pub returns-clause-improves : goal.returns-clause-improves
 returns-clause-improves g c = λ low below.
     let s = c.self.inside in
-    let A = g.A.PathAlgebra.meaning s.algebra in
     let C = g.A.ComposingAlgebra.walks s.algebra in
     let G = s.graph.now in
     let x = c.args.x in
     let e = c.args.edge in
-    let heads = heads_in s.rows.leaving in
     let leaving = subst (λ (s : FactorState g.row.A.Denot g.row.A-Walk.Denot). IsWorthOfWalk (g.A.PathAlgebra.meaning s.algebra) (g.A.ComposingAlgebra.walks s.algebra) s.roads (vertex_at s.factor x) (vertex_at s.factor e.place) e.leaving)
     (sym c.self.view_is) c.requires.leaving in
     let entering = subst (λ (s : FactorState g.row.A.Denot g.row.A-Walk.Denot). IsWorthOfWalk (g.A.PathAlgebra.meaning s.algebra) (g.A.ComposingAlgebra.walks s.algebra) s.roads (vertex_at s.factor e.place) (vertex_at s.factor x) e.entering)
     (sym c.self.view_is) c.requires.entering in
     let index = subst (λ (s : FactorState g.row.A.Denot g.row.A-Walk.Denot). c.args.j < length (row_of (heads_in s.factor.leaving) x)) (sym c.self.view_is) c.requires.index in
     let is = subst (λ (s : FactorState g.row.A.Denot g.row.A-Walk.Denot). get_or (row_of (heads_in s.factor.leaving) x) c.args.j 0 ≡ e.place) (sym c.self.view_is) c.requires.head in
-    let rises = c.self.invariant.1.are.rising x e.place (c.args.j, index, get_or_default (row_of heads x) c.args.j e.place 0 index ∙ is) in
+    let rises = c.self.invariant.1.are.rising x e.place (c.args.j, index, get_or_default (row_of (heads_in s.rows.leaving) x) c.args.j e.place 0 index ∙ is) in
     subst (λ (s : FactorState g.row.A.Denot g.row.A-Walk.Denot). Improves (g.A.ComposingAlgebra.walks s.algebra) low s.factor
     (record { order = (arc_value c.self.inside.order).value.vertices.items; places = c.self.inside.places.items; leaving = c.improve.new.self.leaving; entering = c.improve.new.self.entering })) c.self.view_is
-    (both_improve C c.composition_holds.ensures.ordered A G _ c.self.invariant.0 x e.place e.leaving e.entering leaving entering
+    (both_improve C c.composition_holds.ensures.ordered (g.A.PathAlgebra.meaning s.algebra) G _ c.self.invariant.0 x e.place e.leaving e.entering leaving entering
     rises.0 rises.1 c.improve.new.self c.improve.ensures.improved low below)

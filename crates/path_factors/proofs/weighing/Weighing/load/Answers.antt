@@ -8,7 +8,6 @@ use Rattle.path_factors.proofs.weighing.Weighing.load.Goals as goal
 pub loop-i-preserved : goal.loop-i-preserved
 loop-i-preserved g c =
     let C = g.A.ComposingAlgebra.walks c.args.self.now.algebra in
-    let F = c.args.self.now.factor in
     let G = c.loop-i.self.factor in
     let H = c.load_from.new.self.factor in
     let k = c.loop-i.i in
@@ -27,7 +26,7 @@ loop-i-preserved g c =
         roads = c.load_from.ensures.same.roads ∙ roads;
         heads = c.load_from.ensures.same.heads ∙ c.loop-i.invariant.same.heads;
       };
-      loaded = loaded_to_more C c.holds.ensures.composes.ordered c.args.self.now.roads F G H k c.loop-i.invariant.loaded improves more;
+      loaded = loaded_to_more C c.holds.ensures.composes.ordered c.args.self.now.roads c.args.self.now.factor G H k c.loop-i.invariant.loaded improves more;
     }
 
 pub returns-clause-covers : goal.returns-clause-covers

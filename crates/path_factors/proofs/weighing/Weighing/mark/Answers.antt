@@ -14,9 +14,8 @@ loop-i-preserved g c =
     let S = c.args.self.now in
     let read : c.deref_mut.result.now ≡ c.loop-i.marks.items = grind (arith, common_steps) in
     let marks = c.choose_after.new.marks in
-    let size = c.choose_after.ensures.marks ∙ ap length read in
     let put : take c.loop-i.marks.len (marks ++ drop (length marks) c.loop-i.marks.items) ≡ marks = grind (arith, common_steps) in
     record {
-      marks = ap length put ∙ size ∙ c.loop-i.invariant.marks;
+      marks = ap length put ∙ (c.choose_after.ensures.marks ∙ ap length read) ∙ c.loop-i.invariant.marks;
       serve = subst (λ (l : List Bool). DoForAll (g.A.PathAlgebra.meaning S.algebra) (g.A.ComposingAlgebra.walks S.algebra) S.factor c.args.v l) (sym put) c.choose_after.ensures.serve;
     }

@@ -9,11 +9,10 @@ use Rattle.path_factors.proofs.weighing.Weighing.pass.Goals as goal
 
 pub loop-j-init : goal.loop-j-init
 loop-j-init g c =
-    let C = g.A.ComposingAlgebra.walks c.args.self.now.algebra in
     record {
       same = record { algebra = λ i. c.args.self.now.algebra; roads = λ i. c.args.self.now.roads; heads = λ i. heads_in c.args.self.now.factor.leaving };
       after = omega arith;
-      passed = passed_none C c.holds.ensures.composes.ordered c.args.v c.args.i c.args.self.now.factor;
+      passed = passed_none (g.A.ComposingAlgebra.walks c.args.self.now.algebra) c.holds.ensures.composes.ordered c.args.v c.args.i c.args.self.now.factor;
       ahead = λ p m from low inside is. omega arith;
     }
 
@@ -45,8 +44,7 @@ loop-j-preserved g c =
 
 pub returns-clause-joined : goal.returns-clause-joined
 returns-clause-joined g c = λ j e f less at also.
-    let low = also.leaving_inside in
-    c.loop-j.invariant.passed.joined j e f less (omega (arith, low, c.loop-j-test.false, c.count-count.ensures)) at also
+    c.loop-j.invariant.passed.joined j e f less (omega (arith, also.leaving_inside, c.loop-j-test.false, c.count-count.ensures)) at also
 
 pub between-q-requires-clause-ahead : goal.between-q-requires-clause-ahead
 between-q-requires-clause-ahead g c κs within =

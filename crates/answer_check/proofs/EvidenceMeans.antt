@@ -140,13 +140,8 @@ module _ {V : Type 0} (A : Algebra V) (lawful : IsLawful A) where
             subst (λ (k : ℕ). test k near z ≡ false) b.tail_is here
 
       before_walk : (s : Reason) → reason_number s < 6 → IsRefuted A g lines v None s → ⊥
-      before_walk Mismatch lt h = h
-      before_walk NotBest lt h = h
-      before_walk NoParent lt h = h
-      before_walk OtherHops lt h = h
-      before_walk LesserParent lt h = h
       before_walk HasWalk lt h = omega (arith, lt)
-      before_walk OtherRoute lt h = h
+      before_walk s lt h = h
 
       -- where an arc offers a value, an unreached line is refused
       pub walk_judged : list_any (λ road. is_there (candidate A lines road)) roads ≡ true → IsFirstReason (IsRightLine A g lines v None) (IsRefuted A g lines v None) (Some HasWalk)
@@ -181,13 +176,11 @@ module _ {V : Type 0} (A : Algebra V) (lawful : IsLawful A) where
         -- the reasons below a number, where those that could come first do not hold
         no_earlier : (n : ℕ) → n ≤ 5 → (2 < n → Refuted NotBest → ⊥) → (3 < n → Refuted NoParent → ⊥) → (4 < n → Refuted OtherHops → ⊥) →
             (s : Reason) → reason_number s < n → Refuted s → ⊥
-        no_earlier n few f2 f3 f4 Mismatch lt h = h
         no_earlier n few f2 f3 f4 NotBest lt h = f2 lt h
         no_earlier n few f2 f3 f4 NoParent lt h = f3 lt h
         no_earlier n few f2 f3 f4 OtherHops lt h = f4 lt h
         no_earlier n few f2 f3 f4 LesserParent lt h = omega (arith, few, lt)
-        no_earlier n few f2 f3 f4 HasWalk lt h = h
-        no_earlier n few f2 f3 f4 OtherRoute lt h = h
+        no_earlier n few f2 f3 f4 s lt h = h
 
         same_value : (x : V) → IsCodeOf A r.code x → x ≡ y
         same_value x h = code_of_one A lawful r.code x y h code

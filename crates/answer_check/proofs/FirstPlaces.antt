@@ -27,12 +27,6 @@ module _ {V : Type 0} (A : Algebra V) (lawful : IsLawful A) (g : GraphData) (lin
 
   pub not_refused : (v : ℕ) (l : Option Reached) (reason : Reason) → IsRightLine A g lines v l → IsRefuted A g lines v l reason → ⊥
   not_refused v None HasWalk right h = right h.0 h.1 h.2 h.3
-  not_refused v None Mismatch right h = h
-  not_refused v None NotBest right h = h
-  not_refused v None NoParent right h = h
-  not_refused v None OtherHops right h = h
-  not_refused v None LesserParent right h = h
-  not_refused v None OtherRoute right h = h
   not_refused v (Some r) NotBest sup h =
       let b = h.2 in
       let same = code_of_one A lawful r.code sup.value h.0 sup.code_is h.1 in
@@ -47,28 +41,16 @@ module _ {V : Type 0} (A : Algebra V) (lawful : IsLawful A) (g : GraphData) (lin
   not_refused v (Some r) LesserParent sup h =
       let most = sup.not_lesser h.0 h.1 (gives_support h.0 v h.1 r sup h.2) h.4 in
       let less = h.3 in omega (arith, most, less)
-  not_refused v (Some r) Mismatch sup h = h
-  not_refused v (Some r) HasWalk sup h = h
-  not_refused v (Some r) OtherRoute sup h = h
+  not_refused v l reason right h = h
 
   module _ (sources : List ℕ) (v : ℕ) where
     by_source : (reason : Reason) → Contains sources v → label_of lines v ≡ source_line A → IsLineRefused A g sources lines v reason → ⊥
     by_source Mismatch s e h = h.1 e
-    by_source NotBest s e h = h.0 s
-    by_source NoParent s e h = h.0 s
-    by_source OtherHops s e h = h.0 s
-    by_source LesserParent s e h = h.0 s
-    by_source HasWalk s e h = h.0 s
-    by_source OtherRoute s e h = h.0 s
+    by_source reason s e h = h.0 s
 
     by_others : (reason : Reason) → (Contains sources v → ⊥) → IsRightLine A g lines v (label_of lines v) → IsLineRefused A g sources lines v reason → ⊥
     by_others Mismatch n right h = n h.0
-    by_others NotBest n right h = not_refused v (label_of lines v) NotBest right h.1
-    by_others NoParent n right h = not_refused v (label_of lines v) NoParent right h.1
-    by_others OtherHops n right h = not_refused v (label_of lines v) OtherHops right h.1
-    by_others LesserParent n right h = not_refused v (label_of lines v) LesserParent right h.1
-    by_others HasWalk n right h = not_refused v (label_of lines v) HasWalk right h.1
-    by_others OtherRoute n right h = not_refused v (label_of lines v) OtherRoute right h.1
+    by_others reason n right h = not_refused v (label_of lines v) reason right h.1
 
     pub certified_not_refused : IsCertifiedAt A g sources lines v → (reason : Reason) → IsLineRefused A g sources lines v reason → ⊥
     certified_not_refused (inl s) reason h = by_source reason s.0 s.1 h
@@ -99,10 +81,9 @@ module _ (R : ℕ → Bool → Type 0) where
 
   first_from : (a n : ℕ) (bs : List Bool) → n < 2 ^ 64 → AllZip R (range_with_len a n) bs → IsFirstNumber n (λ k. R (a + k)) (first_true bs)
   first_from a zero [] short z = λ k lt. absurd (omega (arith, lt))
-  first_from a zero (b ∷ bs) short z = absurd z
-  first_from a (suc n) [] short z = absurd z
   first_from a (suc n) (true ∷ bs) short z = (omega arith, at_start a true z.0, λ k lt. absurd (omega (arith, lt)))
   first_from a (suc n) (false ∷ bs) short z = one_later a n (first_true bs) (omega (arith, short)) z.0 (first_from (a + 1) n bs (omega (arith, short)) z.1)
+  first_from a n bs short z = absurd z
 
   from_zero : (k : ℕ) (b : Bool) → R (0 + k) b → R k b
   from_zero k b h = let same : 0 + k ≡ k = omega arith in subst (λ (x : ℕ). R x b) same h
@@ -117,13 +98,8 @@ module _ (R : ℕ → Bool → Type 0) where
 module _ {V : Type 0} (A : Algebra V) (lawful : IsLawful A) (g : GraphData) (lines : List (Option Reached)) where
   pub marked_not_refused : (v : ℕ) (b : Bool) (r : Reason) → IsMarkedRight A g lines v b → IsMarkedRefused A g lines v b r → ⊥
   marked_not_refused v true Mismatch e h = h e
-  marked_not_refused v true NotBest e h = h
-  marked_not_refused v true NoParent e h = h
-  marked_not_refused v true OtherHops e h = h
-  marked_not_refused v true LesserParent e h = h
-  marked_not_refused v true HasWalk e h = h
-  marked_not_refused v true OtherRoute e h = h
   marked_not_refused v false r right h = not_refused A lawful g lines v (label_of lines v) r right h
+  marked_not_refused v b r e h = h
 
   module _ (marks : List Bool) (i : ℕ) (before : (k : ℕ) → k < i → TellsRefused A g lines marks (k + 1) false) where
     -- the first reason at the first vertex is the first place
@@ -156,35 +132,15 @@ module _ {V : Type 0} (A : Algebra V) (lawful : IsLawful A) (g : GraphData) (lin
   module _ (sources : List ℕ) (v : ℕ) where
     refused_by_mark : (b : Bool) (r : Reason) → (b ≡ true → Contains sources v) → (Contains sources v → b ≡ true) → IsMarkedRefused A g lines v b r → IsLineRefused A g sources lines v r
     refused_by_mark true Mismatch is of h = (is refl, h)
-    refused_by_mark true NotBest is of h = absurd h
-    refused_by_mark true NoParent is of h = absurd h
-    refused_by_mark true OtherHops is of h = absurd h
-    refused_by_mark true LesserParent is of h = absurd h
-    refused_by_mark true HasWalk is of h = absurd h
-    refused_by_mark true OtherRoute is of h = absurd h
     refused_by_mark false Mismatch is of h = absurd (no_mismatch v (label_of lines v) h)
-    refused_by_mark false NotBest is of h = (λ s. let bad : false ≡ true = of s in cc, h)
-    refused_by_mark false NoParent is of h = (λ s. let bad : false ≡ true = of s in cc, h)
-    refused_by_mark false OtherHops is of h = (λ s. let bad : false ≡ true = of s in cc, h)
-    refused_by_mark false LesserParent is of h = (λ s. let bad : false ≡ true = of s in cc, h)
-    refused_by_mark false HasWalk is of h = (λ s. let bad : false ≡ true = of s in cc, h)
-    refused_by_mark false OtherRoute is of h = (λ s. let bad : false ≡ true = of s in cc, h)
+    refused_by_mark true reason is of h = absurd h
+    refused_by_mark false reason is of h = (λ s. let bad : false ≡ true = of s in cc, h)
 
     marked_by_refused : (b : Bool) (r : Reason) → (b ≡ true → Contains sources v) → (Contains sources v → b ≡ true) → IsLineRefused A g sources lines v r → IsMarkedRefused A g lines v b r
     marked_by_refused true Mismatch is of h = h.1
-    marked_by_refused true NotBest is of h = h.0 (is refl)
-    marked_by_refused true NoParent is of h = h.0 (is refl)
-    marked_by_refused true OtherHops is of h = h.0 (is refl)
-    marked_by_refused true LesserParent is of h = h.0 (is refl)
-    marked_by_refused true HasWalk is of h = h.0 (is refl)
-    marked_by_refused true OtherRoute is of h = h.0 (is refl)
     marked_by_refused false Mismatch is of h = let bad : false ≡ true = of h.0 in absurd (cc)
-    marked_by_refused false NotBest is of h = h.1
-    marked_by_refused false NoParent is of h = h.1
-    marked_by_refused false OtherHops is of h = h.1
-    marked_by_refused false LesserParent is of h = h.1
-    marked_by_refused false HasWalk is of h = h.1
-    marked_by_refused false OtherRoute is of h = h.1
+    marked_by_refused true reason is of h = h.0 (is refl)
+    marked_by_refused false reason is of h = h.1
 
     certified_by_mark : (b : Bool) → (b ≡ true → Contains sources v) → (Contains sources v → b ≡ true) → IsMarkedRight A g lines v b → IsCertifiedAt A g sources lines v
     certified_by_mark true is of h = inl (is refl, h)

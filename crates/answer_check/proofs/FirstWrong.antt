@@ -92,12 +92,7 @@ module _ {V : Type 0} (A : Algebra V) (g : GraphData) where
   names_answer (FromSource s) (SourceAnswer r lines) h = (h.0, h.1.count)
   names_answer (BetweenPair s u) (PairAnswer r v found) h = (h.0, h.1)
   names_answer (FromSources ss) (SourcesAnswer rs lines) h = (h.0, h.1.count)
-  names_answer (FromSource s) (PairAnswer r u found) h = h
-  names_answer (FromSource s) (SourcesAnswer rs lines) h = h
-  names_answer (BetweenPair s u) (SourceAnswer r lines) h = h
-  names_answer (BetweenPair s u) (SourcesAnswer rs lines) h = h
-  names_answer (FromSources ss) (SourceAnswer r lines) h = h
-  names_answer (FromSources ss) (PairAnswer r u found) h = h
+  names_answer q t h = h
 
   -- the right answers to the questions up to a number
   abbrev pub AreRightUpTo : List Question → List AnswerData → ℕ → Type 0
@@ -111,12 +106,7 @@ module _ {V : Type 0} (A : Algebra V) (g : GraphData) where
     not_refused_at (BetweenPair s u) (PairAnswer k w found) asks right v r h = pair_not_refused A lawful g s u found r right.2 h.1
     not_refused_at (FromSources ss) (SourcesAnswer rs lines) asks right v r h =
         certified_not_refused A lawful g lines ss v ((lines_are_certified A lawful g roads ss (all_inside g ss asks) lines right.1).each v h.0) r h.1
-    not_refused_at (FromSource s) (PairAnswer k u found) asks right v r h = h
-    not_refused_at (FromSource s) (SourcesAnswer rs lines) asks right v r h = h
-    not_refused_at (BetweenPair s u) (SourceAnswer k lines) asks right v r h = h
-    not_refused_at (BetweenPair s u) (SourcesAnswer rs lines) asks right v r h = h
-    not_refused_at (FromSources ss) (SourceAnswer k lines) asks right v r h = h
-    not_refused_at (FromSources ss) (PairAnswer k u found) asks right v r h = h
+    not_refused_at q t asks right v r h = h
 
     -- nothing is wrong in the right answer
     not_wrong : (q : Question) (t : AnswerData) → AsksOf g q → IsAnswer A g q t → (v : ℕ) (r : Reason) → IsWrongIn A g q t v r → ⊥

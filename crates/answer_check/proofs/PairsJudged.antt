@@ -15,19 +15,10 @@ module _ {V : Type 0} (A : Algebra V) (lawful : IsLawful A) (g : GraphData) (s t
   -- nothing speaks against the right answer
   pub pair_not_refused : (found : Option FoundData) (r : Reason) → IsPairAnswer A g s t found → IsPairRefused A g s t found r → ⊥
   pair_not_refused None HasWalk right h = right h.0 h.1
-  pair_not_refused None Mismatch right h = h
-  pair_not_refused None NotBest right h = h
-  pair_not_refused None NoParent right h = h
-  pair_not_refused None OtherHops right h = h
-  pair_not_refused None LesserParent right h = h
-  pair_not_refused None OtherRoute right h = h
   pair_not_refused (Some f) NotBest right h = h right.code
   pair_not_refused (Some f) OtherHops right h = h right.hops
   pair_not_refused (Some f) OtherRoute right h = h right.route
-  pair_not_refused (Some f) Mismatch right h = h
-  pair_not_refused (Some f) NoParent right h = h
-  pair_not_refused (Some f) LesserParent right h = h
-  pair_not_refused (Some f) HasWalk right h = h
+  pair_not_refused found r right h = h
 
   -- something is told where no walk has a value
   pub told_without_walk : (f : FoundData) → IsUnreached A g (s ∷ []) t → IsFirstReason (IsPairAnswer A g s t (Some f)) (IsPairRefused A g s t (Some f)) (Some NotBest)
@@ -37,29 +28,20 @@ module _ {V : Type 0} (A : Algebra V) (lawful : IsLawful A) (g : GraphData) (s t
       before NotBest lt h = omega (arith, lt)
       before OtherHops lt h = omega (arith, lt)
       before OtherRoute lt h = omega (arith, lt)
-      before Mismatch lt h = h
-      before NoParent lt h = h
-      before LesserParent lt h = h
-      before HasWalk lt h = h
+      before r lt h = h
 
   module _ (right : FoundData) (is : IsFoundBetween A g s t right) where
     refused : (f : FoundData) (r : Reason) → IsOther right f r → IsPairRefused A g s t (Some f) r
     refused f NotBest h = λ k. h (code_once A lawful g (s ∷ []) t f.code right.code k is.code)
     refused f OtherHops h = λ k. h (hops_once A lawful g (s ∷ []) t f.hops right.hops k is.hops)
     refused f OtherRoute h = λ k. h (route_once A lawful g s t f.route right.route k is.route)
-    refused f Mismatch h = h
-    refused f NoParent h = h
-    refused f LesserParent h = h
-    refused f HasWalk h = h
+    refused f r h = h
 
     other : (f : FoundData) (r : Reason) → IsPairRefused A g s t (Some f) r → IsOther right f r
     other f NotBest h = λ e. h (subst (IsBestCode A g (s ∷ []) t) (sym e) is.code)
     other f OtherHops h = λ e. h (subst (AreHops A g (s ∷ []) t) (sym e) is.hops)
     other f OtherRoute h = λ e. h (subst (IsRouteBetween A g s t) (sym e) is.route)
-    other f Mismatch h = h
-    other f NoParent h = h
-    other f LesserParent h = h
-    other f HasWalk h = h
+    other f r h = h
 
     -- the first difference is the first reason
     pub pair_judged : (f : FoundData) (o : Option Reason) → IsFirstReason (f ≡ right) (IsOther right f) o →

@@ -1,5 +1,6 @@
 -- Lines that are certified are the right answer, and the right answer is certified.
-use Rattle.std.proofs.Common.{◌≡◌, ℕ, zero, suc, ◌+◌, ◌-◌, ◌≤◌, ◌⊎◌, inl, inr, List, [], ◌∷◌, ◌++◌, length, map, get_or, refl, ap, sym, ◌∙◌, subst, arith, Option, Some, None}
+use Rattle.std.proofs.Common.{◌≡◌, ℕ, zero, suc, ◌+◌, ◌-◌, ◌<◌, ◌≤◌, ◌⊎◌, inl, inr, List, [], ◌∷◌, ◌++◌, length, map, refl, ap, sym, ◌∙◌, subst, arith, Option, Some, None}
+use Rattle.std.proofs.Math.ListN.{get_or-map}
 use Rattle.std.proofs.lemmas.List.{length-append, length-map}
 use Rattle.std.proofs.lemmas.List.Elements.{All-nil, All-cons, All-head, All-tail, All-append}
 use Rattle.std.proofs.lemmas.Bool.{cases_eq}
@@ -21,13 +22,10 @@ abbrev value_told : {V : Type 0} → Algebra V → Option Reached → Option V
 value_told A None = None
 value_told A (Some r) = A.value_of r.code
 
-label_of-map : {X Y : Type 0} (f : Option X → Option Y) (xs : List (Option X)) (v : ℕ) → f None ≡ None → label_of (map f xs) v ≡ f (label_of xs v)
-label_of-map {X} {Y} f xs v none = at xs (v - 1)
-  where
-    at : (ys : List (Option X)) (k : ℕ) → get_or (map f ys) k None ≡ f (get_or ys k None)
-    at [] k = sym none
-    at (y ∷ ys) zero = refl
-    at (y ∷ ys) (suc k) = at ys k
+-- what an arc offers to its head
+pub arc_offers : {V : Type 0} (A : Algebra V) (g : GraphData) (lines : List (Option Reached)) (a : ℕ) (near : Reached) (x z : V) → HasArc g a → label_of lines (arc_of g a).tail ≡ Some near →
+    IsCodeOf A near.code x → A.extend x (arc_of g a).weight ≡ Some z → Offers A g lines (arc_of g a).tail (arc_of g a).head near z
+arc_offers A g lines a near x z h line code f = record { arc = a; is_arc = h; tail_is = refl; head_is = refl; value = x; line_is = line; code_is = code; extends = f }
 
 module _ {V : Type 0} (A : Algebra V) (lawful : IsLawful A) where
   -- a number is the code of one value alone
@@ -59,14 +57,12 @@ module _ {V : Type 0} (A : Algebra V) (lawful : IsLawful A) where
 
     -- a walk of tight arcs goes on by a tight arc
     tight_more : (u k a : ℕ) → IsTightWalk A g sources u k → IsTight A g sources a → (arc_of g a).tail ≡ u → IsTightWalk A g sources (arc_of g a).head (k + 1)
-    tight_more u k a w t e =
-        let n = length-append w.0 (a ∷ []) in
-        let l = w.3 in (
-          w.0 ++ a ∷ [],
-          (w.1.0, w.1.1, IsWalk-snoc g w.1.0 w.0 u a w.1.2 t.arc e),
-          All-append (IsTight A g sources) w.0 (a ∷ []) w.2 (All-cons (IsTight A g sources) a [] t (All-nil (IsTight A g sources))),
-          omega (arith, n, l),
-        )
+    tight_more u k a w t e = (
+      w.0 ++ a ∷ [],
+      (w.1.0, w.1.1, IsWalk-snoc g w.1.0 w.0 u a w.1.2 t.arc e),
+      All-append (IsTight A g sources) w.0 (a ∷ []) w.2 (All-cons (IsTight A g sources) a [] t (All-nil (IsTight A g sources))),
+      omega (arith, length-append w.0 (a ∷ []), w.3),
+    )
 
     -- an arc that offers the best value of its head is tight, where its tail's line says the best
     -- value
@@ -88,16 +84,8 @@ module _ {V : Type 0} (A : Algebra V) (lawful : IsLawful A) where
     tight_offers a near x y t line e best_u best_v =
         let from : t.tail ≡ x = best_is_one A lawful g roads sources (arc_of g a).tail t.tail x t.tail_best best_u in
         let to : t.head ≡ y = best_is_one A lawful g roads sources (arc_of g a).head t.head y t.head_best best_v in
-        record {
-          arc = a;
-          is_arc = t.arc;
-          tail_is = refl;
-          head_is = refl;
-          value = x;
-          line_is = line;
-          code_is = walk_has_code (arc_of g a).tail near.code x best_u.attained e;
-          extends = ap (λ (q : V). A.extend q (arc_of g a).weight) (sym from) ∙ t.extends ∙ ap (λ (q : V). Some q) to;
-        }
+        arc_offers A g lines a near x y t.arc line (walk_has_code (arc_of g a).tail near.code x best_u.attained e)
+        (ap (λ (q : V). A.extend q (arc_of g a).weight) (sym from) ∙ t.extends ∙ ap (λ (q : V). Some q) to)
 
     source_walk : (v k : ℕ) → Contains sources v → k ≡ 0 → IsTightWalk A g sources v k
     source_walk v k h e = ([], (v, h, refl), All-nil (IsTight A g sources), sym e)
@@ -112,39 +100,31 @@ module _ {V : Type 0} (A : Algebra V) (lawful : IsLawful A) where
           let same = same_some (label_of lines v) r (record { code = A.code A.origin; hops = 0; parent = 0 }) e is in
           (A.origin, origin_walk v h, ap (λ (q : Reached). q.code) same)
 
-      supported : (v : ℕ) (r : Reached) (l : Option Reached) → l ≡ Some r → IsRightLine A g lines v l → IsSupported A g lines v r
-      supported v r None e h = let bad : None ≡ Some r = e in cc
-      supported v r (Some q) e h = let same = same_some (Some q) q r refl e in subst (λ (t : Reached). IsSupported A g lines v t) same h
-
       support_at : (v : ℕ) (r : Reached) → label_of lines v ≡ Some r → IsCertifiedAt A g sources lines v →
           (Contains sources v × (label_of lines v ≡ source_line A)) ⊎ ((Contains sources v → ⊥) × IsSupported A g lines v r)
-      support_at v r e h = elim h [ inl s ↦ inl s | inr n ↦ inr (n.0, supported v r (label_of lines v) e n.1) ]
+      support_at v r e h = elim h [ inl s ↦ inl s | inr n ↦ inr (n.0, subst (IsRightLine A g lines v) e n.1) ]
 
       -- along parents hops grow less, down to a source
-      tells_by_hops : (n v : ℕ) (r : Reached) → HasVertex g v → label_of lines v ≡ Some r → r.hops ≤ n → TellsWalk v r
-      tells_by_hops zero v r in_v e few = elim (support_at v r e (certified.each v in_v)) [
-        | inl s ↦ source_tells v r s.0 e s.1
-        | inr h ↦ let one = h.1.hops_are in absurd (omega (arith, one, few))
-      ]
+      tells_by_hops : (n v : ℕ) (r : Reached) → HasVertex g v → label_of lines v ≡ Some r → r.hops < n → TellsWalk v r
+      tells_by_hops zero v r in_v e few = absurd (omega (arith, few))
       tells_by_hops (suc n) v r in_v e few = elim (support_at v r e (certified.each v in_v)) [
         | inl s ↦ source_tells v r s.0 e s.1
         | inr h ↦
             let sup = h.1 in
-            let one = sup.hops_are in
             let from = sup.from_parent in
-            let w = tells_by_hops n r.parent sup.near (tail_in r.parent v sup.near sup.value from) from.line_is (omega (arith, one, few)) in
+            let w = tells_by_hops n r.parent sup.near (tail_in r.parent v sup.near sup.value from) from.line_is (omega (arith, sup.hops_are, few)) in
             (sup.value, offers_walk r.parent v sup.near w.0 sup.value w.1 w.2 from, sup.code_is.1)
       ]
 
       tells : (v : ℕ) (r : Reached) → HasVertex g v → label_of lines v ≡ Some r → TellsWalk v r
-      tells v r in_v e = tells_by_hops r.hops v r in_v e (omega arith)
+      tells v r in_v e = tells_by_hops (r.hops + 1) v r in_v e (omega arith)
 
       -- the values that the lines tell, as labels
       abbrev labels : List (Option V)
       labels = map (value_told A) lines
 
       label_is : (v : ℕ) → label_of labels v ≡ value_told A (label_of lines v)
-      label_is v = label_of-map (value_told A) lines v refl
+      label_is v = get_or-map (value_told A) lines (v - 1) None
 
       label_told : (v : ℕ) (r : Reached) (x : V) → label_of lines v ≡ Some r → IsCodeOf A r.code x → label_of labels v ≡ Some x
       label_told v r x e h = label_is v ∙ ap (value_told A) e ∙ value_of_code_of r.code x h
@@ -181,7 +161,7 @@ module _ {V : Type 0} (A : Algebra V) (lawful : IsLawful A) where
       head_label v u near x z in_v b w l e (inl s) = (A.origin, origin_label v s.1, origin_best v z w)
       head_label v u near x z in_v b w None e (inr n) = absurd (let none : IsRightLine A g lines v None = subst (IsRightLine A g lines v) e n.1 in none u near z b)
       head_label v u near x z in_v b w (Some r) e (inr n) =
-          let sup = supported v r (label_of lines v) e n.1 in
+          let sup : IsSupported A g lines v r = subst (IsRightLine A g lines v) e n.1 in
           (sup.value, label_told v r sup.value e sup.code_is, sup.not_beaten u near z b)
 
       not_improving : (a : ℕ) → HasArc g a → (x z : V) → label_of labels (arc_of g a).tail ≡ Some x → A.extend x (arc_of g a).weight ≡ Some z →
@@ -189,18 +169,8 @@ module _ {V : Type 0} (A : Algebra V) (lawful : IsLawful A) where
       not_improving a h x z e f =
           let ends = roads.ends a h in
           let t = told_at (arc_of g a).tail x ends.0 e in
-          let b : Offers A g lines (arc_of g a).tail (arc_of g a).head t.0 z = record {
-            arc = a;
-            is_arc = h;
-            tail_is = refl;
-            head_is = refl;
-            value = x;
-            line_is = t.1;
-            code_is = walk_has_code (arc_of g a).tail t.0.code x t.2 t.3;
-            extends = f;
-          } in
-          head_label (arc_of g a).head (arc_of g a).tail t.0 x z ends.1 b (IsWalkValue-extend A g sources (arc_of g a).tail a x z t.2 h refl f)
-          (label_of lines (arc_of g a).head) refl (certified.each (arc_of g a).head ends.1)
+          head_label (arc_of g a).head (arc_of g a).tail t.0 x z ends.1 (arc_offers A g lines a t.0 x z h t.1 (walk_has_code (arc_of g a).tail t.0.code x t.2 t.3) f)
+          (IsWalkValue-extend A g sources (arc_of g a).tail a x z t.2 h refl f) (label_of lines (arc_of g a).head) refl (certified.each (arc_of g a).head ends.1)
 
       best : AreBest A g sources labels
       best = labels_are_best A lawful g roads sources labels (λ v x in_v e. (told_at v x in_v e).2) not_improving in_s
@@ -243,11 +213,8 @@ module _ {V : Type 0} (A : Algebra V) (lawful : IsLawful A) where
           (ap (λ (q : Reached). q.hops) same, ap (λ (q : Reached). q.parent) same)
 
       -- along parents leads a walk of tight arcs, as long as the hops tell
-      tight_by_hops : (n v : ℕ) (r : Reached) → HasVertex g v → label_of lines v ≡ Some r → r.hops ≤ n → IsTightWalk A g sources v r.hops
-      tight_by_hops zero v r in_v e few = elim (support_at v r e (certified.each v in_v)) [
-        | inl s ↦ source_walk v r.hops s.0 (source_hops v r e s.1).0
-        | inr h ↦ let one = h.1.hops_are in absurd (omega (arith, one, few))
-      ]
+      tight_by_hops : (n v : ℕ) (r : Reached) → HasVertex g v → label_of lines v ≡ Some r → r.hops < n → IsTightWalk A g sources v r.hops
+      tight_by_hops zero v r in_v e few = absurd (omega (arith, few))
       tight_by_hops (suc n) v r in_v e few = elim (support_at v r e (certified.each v in_v)) [
         | inl s ↦ source_walk v r.hops s.0 (source_hops v r e s.1).0
         | inr h ↦
@@ -271,7 +238,7 @@ module _ {V : Type 0} (A : Algebra V) (lawful : IsLawful A) where
             line.0,
             line.1,
             elim (support_at v line.0 line.1 (certified.each v ends.1)) [
-              | inl s ↦ let z = (source_hops v line.0 line.1 s.1).0 in omega (arith, z)
+              | inl s ↦ omega (arith, (source_hops v line.0 line.1 s.1).0)
               | inr h ↦
                   let sup = h.1 in
                   let same = best_is_one A lawful g roads sources v t.head sup.value t.head_best (support_best v line.0 ends.1 line.1 sup) in
@@ -286,17 +253,16 @@ module _ {V : Type 0} (A : Algebra V) (lawful : IsLawful A) where
           let hops = ap (λ (q : Reached). q.hops) same in omega (arith, hops)
       hops_along u (a ∷ p) v near r w all e f =
           let next = one_more a near (All-head (IsTight A g sources) a p all) (ap (label_of lines) w.1 ∙ e) in
-          let rest = hops_along (arc_of g a).head p v next.0 r w.2 (All-tail (IsTight A g sources) a p all) next.1 f in
-          let one = next.2 in omega (arith, rest, one)
+          omega (arith, hops_along (arc_of g a).head p v next.0 r w.2 (All-tail (IsTight A g sources) a p all) next.1 f, next.2)
 
       hops_least : (v : ℕ) (r : Reached) → label_of lines v ≡ Some r → (j : ℕ) → IsTightWalk A g sources v j → r.hops ≤ j
       hops_least v r e j w =
           let s = w.1.0 in
           let b = hops_along s w.0 v (record { code = A.code A.origin; hops = 0; parent = 0 }) r w.1.2 w.2 (source_is s w.1.1) e in
-          let l = w.3 in omega (arith, b, l)
+          omega (arith, b, w.3)
 
       hops_are : (v : ℕ) (r : Reached) → HasVertex g v → label_of lines v ≡ Some r → AreHops A g sources v r.hops
-      hops_are v r in_v e = record { attained = tight_by_hops r.hops v r in_v e (omega arith); least = hops_least v r e }
+      hops_are v r in_v e = record { attained = tight_by_hops (r.hops + 1) v r in_v e (omega arith); least = hops_least v r e }
 
       parent_is : (v : ℕ) (r : Reached) → HasVertex g v → label_of lines v ≡ Some r → (Contains sources v → ⊥) → IsSupported A g lines v r → IsParent A g sources v r.parent
       parent_is v r in_v e no_source sup = record {
@@ -311,23 +277,18 @@ module _ {V : Type 0} (A : Algebra V) (lawful : IsLawful A) where
               (sup.near.hops, hops_are r.parent sup.near (tail_in r.parent v sup.near sup.value from) from.line_is, subst (λ (k : ℕ). AreHops A g sources v k) (sym one) (hops_are v r in_v e)),
             );
         least = λ t n.
-            let a = n.0 in
-            let tight = n.1 in
+            let (a, tight, at, to, k) = n in
             let ends = roads.ends a tight.arc in
             let line = line_of_best (arc_of g a).tail tight.tail ends.0 tight.tail_best in
             let b : Offers A g lines (arc_of g a).tail (arc_of g a).head line.0 tight.head = tight_offers a line.0 tight.tail tight.head tight line.1 line.2 tight.tail_best tight.head_best in
-            let c : Offers A g lines t v line.0 tight.head = subst (λ (k : ℕ). Offers A g lines t k line.0 tight.head) n.3
-            (subst (λ (k : ℕ). Offers A g lines k (arc_of g a).head line.0 tight.head) n.2 b) in
-            let head_best : IsBest A g sources v tight.head = subst (λ (k : ℕ). IsBest A g sources k tight.head) n.3 tight.head_best in
+            let c : Offers A g lines t v line.0 tight.head = subst (λ (u : ℕ). Offers A g lines t u line.0 tight.head) to
+            (subst (λ (u : ℕ). Offers A g lines u (arc_of g a).head line.0 tight.head) at b) in
+            let head_best : IsBest A g sources v tight.head = subst (λ (u : ℕ). IsBest A g sources u tight.head) to tight.head_best in
             let same = best_is_one A lawful g roads sources v tight.head sup.value head_best (support_best v r in_v e sup) in
-            let at_tail : AreHops A g sources t line.0.hops = subst (λ (k : ℕ). AreHops A g sources k line.0.hops) n.2 (hops_are (arc_of g a).tail line.0 ends.0 line.1) in
-            let k = n.4 in
-            let low = k.1.least line.0.hops at_tail.attained in
-            let high = at_tail.least k.0 k.1.attained in
+            let at_tail : AreHops A g sources t line.0.hops = subst (λ (u : ℕ). AreHops A g sources u line.0.hops) at (hops_are (arc_of g a).tail line.0 ends.0 line.1) in
             let mine = hops_are v r in_v e in
-            let below = k.2.least r.hops mine.attained in
-            let above = mine.least (k.0 + 1) k.2.attained in
-            sup.not_lesser t line.0 (subst (λ (y : V). Offers A g lines t v line.0 y) same c) (omega (arith, low, high, below, above));
+            sup.not_lesser t line.0 (subst (λ (y : V). Offers A g lines t v line.0 y) same c)
+            (omega (arith, k.1.least line.0.hops at_tail.attained, at_tail.least k.0 k.1.attained, k.2.least r.hops mine.attained, mine.least (k.0 + 1) k.2.attained));
       }
 
       line_is_right : (v : ℕ) → HasVertex g v → (l : Option Reached) → label_of lines v ≡ l → IsVertexLine A g sources v l
@@ -366,11 +327,7 @@ module _ {V : Type 0} (A : Algebra V) (lawful : IsLawful A) where
       line_reached v x in_v w (Some r) e = (r, e, line_at v r in_v e)
 
       same_line : (r : Reached) (c h p : ℕ) → r.code ≡ c → r.hops ≡ h → r.parent ≡ p → r ≡ record { code = c; hops = h; parent = p }
-      same_line r c h p a b d =
-          let f : ℕ → Reached = λ x. record { code = x; hops = r.hops; parent = r.parent } in
-          let k : ℕ → Reached = λ x. record { code = c; hops = x; parent = r.parent } in
-          let m : ℕ → Reached = λ x. record { code = c; hops = h; parent = x } in
-          ap f a ∙ ap k b ∙ ap m d
+      same_line r c h p a b d = λ i. record { code = a i; hops = b i; parent = d i }
 
       source_certified : (v : ℕ) → HasVertex g v → Contains sources v → label_of lines v ≡ source_line A
       source_certified v in_v h =
@@ -378,29 +335,21 @@ module _ {V : Type 0} (A : Algebra V) (lawful : IsLawful A) where
           let r = l.0 in
           let best = l.2.code.1 in
           let value : l.2.code.0 ≡ A.origin = lawful.ordered.antisymmetric l.2.code.0 A.origin (best.least A.origin (origin_walk v h)) (origin_best v l.2.code.0 best.attained) in
-          let few = l.2.hops.least 0 (source_walk v 0 h refl) in
           let none : r.parent ≡ 0 = elim l.2.parent [ inl p ↦ p.1 | inr p ↦ absurd (p.no_source h) ] in
-          l.1 ∙ ap (λ (q : Reached). Some q) (same_line r (A.code A.origin) 0 0 (l.2.code.2 ∙ ap A.code value) (omega (arith, few)) none)
+          l.1 ∙ ap (λ (q : Reached). Some q) (same_line r (A.code A.origin) 0 0 (l.2.code.2 ∙ ap A.code value) (omega (arith, l.2.hops.least 0 (source_walk v 0 h refl))) none)
 
       -- the value of v is offered by the parent, with one hop less
       from_parent : (v : ℕ) (r : Reached) → IsReachedLine A g sources v r → (x : V) → IsBest A g sources v x → IsParent A g sources v r.parent →
           (near : Reached) × Offers A g lines r.parent v near x × (near.hops + 1 ≡ r.hops)
       from_parent v r line x best p =
-          let n = p.nearer in
-          let a = n.0 in
-          let tight = n.1 in
+          let (a, tight, at, to, k) = p.nearer in
           let ends = roads.ends a tight.arc in
           let l = line_reached (arc_of g a).tail tight.tail ends.0 tight.tail_best.attained (label_of lines (arc_of g a).tail) refl in
-          let head_best : IsBest A g sources (arc_of g a).head x = subst (λ (k : ℕ). IsBest A g sources k x) (sym n.3) best in
+          let head_best : IsBest A g sources (arc_of g a).head x = subst (λ (k : ℕ). IsBest A g sources k x) (sym to) best in
           let b = tight_offers a l.0 l.2.code.0 x tight l.1 l.2.code.2 l.2.code.1 head_best in
-          let c : Offers A g lines r.parent v l.0 x = subst (λ (k : ℕ). Offers A g lines r.parent k l.0 x) n.3 (subst (λ (k : ℕ). Offers A g lines k (arc_of g a).head l.0 x) n.2 b) in
-          let at_tail : AreHops A g sources r.parent l.0.hops = subst (λ (k : ℕ). AreHops A g sources k l.0.hops) n.2 l.2.hops in
-          let k = n.4 in
-          let low = k.1.least l.0.hops at_tail.attained in
-          let high = at_tail.least k.0 k.1.attained in
-          let below = k.2.least r.hops line.hops.attained in
-          let above = line.hops.least (k.0 + 1) k.2.attained in
-          (l.0, c, omega (arith, low, high, below, above))
+          let c : Offers A g lines r.parent v l.0 x = subst (λ (u : ℕ). Offers A g lines r.parent u l.0 x) to (subst (λ (u : ℕ). Offers A g lines u (arc_of g a).head l.0 x) at b) in
+          let at_tail : AreHops A g sources r.parent l.0.hops = subst (λ (u : ℕ). AreHops A g sources u l.0.hops) at l.2.hops in
+          (l.0, c, omega (arith, k.1.least l.0.hops at_tail.attained, at_tail.least k.0 k.1.attained, k.2.least r.hops line.hops.attained, line.hops.least (k.0 + 1) k.2.attained))
 
       line_supported : (v : ℕ) (r : Reached) → HasVertex g v → label_of lines v ≡ Some r → IsParent A g sources v r.parent → IsSupported A g lines v r
       line_supported v r in_v e p =

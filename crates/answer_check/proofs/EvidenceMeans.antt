@@ -1,6 +1,7 @@
 -- What the evidence of all arcs into a vertex means: the line is right, or the evidence gives the
 -- first reason against it.
 use Rattle.std.proofs.Common.{◌≡◌, ℕ, ◌+◌, ◌<◌, ◌≤◌, ◌^◌, inl, inr, Bool, true, false, not, ◌&&◌, ◌||◌, nat_eq, nat_lt, List, [], ◌∷◌, get_or, map, refl, ap, sym, ◌∙◌, subst, arith, Option, Some, None}
+use Rattle.std.proofs.lemmas.Grind.{common_steps}
 use Rattle.std.specs.Prelude.{IsTrue, Contains}
 use Rattle.std.specs.List.{list_any}
 use Rattle.std.proofs.Common.{eqb-true, eq-eqb}
@@ -19,7 +20,7 @@ use Rattle.answer_check.specs.declared.verdict.Reason.TheVariants.{Mismatch, Not
 use Rattle.answer_check.specs.Reasons.{IsCodeOf, Offers, Gives, IsRefuted, IsFirstReason, reason_number}
 use Rattle.answer_check.specs.Certificates.{IsSupported, IsRightLine}
 use Rattle.answer_check.specs.Evidence.{decoded, extended, beside, candidate_from, candidate, is_same, passes, all_evidence, reason_by, is_there}
-use Rattle.answer_check.proofs.Certified.{code_of_one}
+use Rattle.answer_check.proofs.Certified.{code_of_one, arc_offers}
 
 -- an arc as it is seen from its head
 abbrev seen : GraphData → ℕ → OutRoad
@@ -39,13 +40,7 @@ any_found p [] h = absurd (let bad : false ≡ true = h in cc)
 any_found p (x ∷ xs) h = found_at_head p x xs (p x) refl h (any_found p xs)
 
 any_missed : (p : ℕ → Bool) (xs : List ℕ) → list_any p xs ≡ false → (a : ℕ) → Contains xs a → p a ≡ false
-any_missed p xs h a c = at (p a) refl
-  where
-    at : (b : Bool) → p a ≡ b → p a ≡ false
-    at false e = e
-    at true e =
-        let hit : p (get_or xs c.0 a) ≡ true = ap p c.2 ∙ e in
-        let bad : true ≡ false = sym (list_any_at p xs c.0 a c.1 hit) ∙ h in cc
+any_missed p xs h a c = false_from_ne_true (p a) (λ e. let bad : true ≡ false = sym (list_any_at p xs c.0 a c.1 (ap p c.2 ∙ e)) ∙ h in cc)
 
 not_both : (a b : Bool) → (a && b) ≡ false → a ≡ true → b ≡ false
 not_both true b h e = h
@@ -53,11 +48,7 @@ not_both false b h e = let bad : false ≡ true = e in absurd (cc)
 
 module _ {V : Type 0} (A : Algebra V) (lawful : IsLawful A) where
   pub decoded_is : (c : ℕ) (x : V) → decoded A c ≡ Some x → IsCodeOf A c x
-  decoded_is c x h = at (nat_lt c (2 ^ 64)) refl
-    where
-      at : (b : Bool) → nat_lt c (2 ^ 64) ≡ b → IsCodeOf A c x
-      at true e = lawful.code_of_value c x (ltb-true c (2 ^ 64) e) (rw e at h)
-      at false e = let none : None ≡ Some x = rw e at h in absurd (cc)
+  decoded_is c x h = grind (arith, common_steps, ltb-true, lawful.code_of_value)
 
   pub is_decoded : (c : ℕ) (x : V) → IsCodeOf A c x → decoded A c ≡ Some x
   is_decoded c x h =
@@ -65,12 +56,7 @@ module _ {V : Type 0} (A : Algebra V) (lawful : IsLawful A) where
       rw small (ap A.value_of h.1 ∙ lawful.value_of_code x h.0)
 
   same_both : (y z : V) → is_same A.no_worse y z ≡ true → y ≡ z
-  same_both y z h = at (A.no_worse y z) (A.no_worse z y) refl refl
-    where
-      at : (b c : Bool) → A.no_worse y z ≡ b → A.no_worse z y ≡ c → y ≡ z
-      at true true e f = lawful.ordered.antisymmetric y z e f
-      at true false e f = let bad : false ≡ true = rw (e, f) at h in absurd (cc)
-      at false c e f = let bad : false ≡ true = rw e at h in absurd (cc)
+  same_both y z h = grind (arith, common_steps, lawful.ordered.antisymmetric)
 
   same_itself : (y : V) → is_same A.no_worse y y ≡ true
   same_itself y = let e = same_no_worse A.no_worse lawful.ordered y in rw e refl
@@ -79,35 +65,10 @@ module _ {V : Type 0} (A : Algebra V) (lawful : IsLawful A) where
     offers_by : (a : ℕ) → HasArc g a → (b : Reached × V) (l : Option Reached) → label_of lines (arc_of g a).tail ≡ l → candidate_from A l (arc_of g a).weight ≡ Some b →
         Offers A g lines (arc_of g a).tail (arc_of g a).head b.0 b.1
     offers_by a h b None e f = let bad : None ≡ Some b = f in absurd (cc)
-    offers_by a h b (Some near) e f = by_value (decoded A near.code) refl f
-      where
-        by_extension : (x : V) → decoded A near.code ≡ Some x → (o : Option V) → A.extend x (arc_of g a).weight ≡ o → beside near o ≡ Some b →
-            Offers A g lines (arc_of g a).tail (arc_of g a).head b.0 b.1
-        by_extension x d None ex q = let bad : None ≡ Some b = q in absurd (cc)
-        by_extension x d (Some z) ex q =
-            let pair : Some (near, z) ≡ Some b = q in
-            let both : (near, z) ≡ b = same_some (Some (near, z)) (near, z) b refl pair in
-            subst (λ (p : Reached × V). Offers A g lines (arc_of g a).tail (arc_of g a).head p.0 p.1) both (record {
-              arc = a;
-              is_arc = h;
-              tail_is = refl;
-              head_is = refl;
-              value = x;
-              line_is = e;
-              code_is = decoded_is near.code x d;
-              extends = ex;
-            })
-
-        by_value : (o : Option V) → decoded A near.code ≡ o → beside near (extended A o (arc_of g a).weight) ≡ Some b → Offers A g lines (arc_of g a).tail (arc_of g a).head b.0 b.1
-        by_value None d q = let bad : None ≡ Some b = q in absurd (cc)
-        by_value (Some x) d q = by_extension x d (A.extend x (arc_of g a).weight) refl q
+    offers_by a h b (Some near) e f = grind (arith, common_steps, arc_offers, decoded_is)
 
     offers_candidate : (u v : ℕ) (near : Reached) (z : V) → (b : Offers A g lines u v near z) → candidate A lines (seen g b.arc) ≡ Some (near, z)
-    offers_candidate u v near z b =
-        let line : label_of lines (arc_of g b.arc).tail ≡ Some near = ap (label_of lines) b.tail_is ∙ b.line_is in
-        let value = is_decoded near.code b.value b.code_is in
-        let ex = b.extends in
-        rw (line, value, ex) refl
+    offers_candidate u v near z b = grind (arith, common_steps, is_decoded, b.tail_is, b.line_is, b.code_is, b.extends)
 
     module _ (v : ℕ) (roads : List OutRoad) (into : ListsRoadsInto g v roads) where
       module _ (test : ℕ → Reached → V → Bool) where
@@ -248,8 +209,7 @@ module _ {V : Type 0} (A : Algebra V) (lawful : IsLawful A) where
         same_hops : shown.astray ≡ false → shown.nearer ≡ false → Refuted OtherHops → ⊥
         same_hops h k (inl o) = o.2 (hops_of_parent h o.0 o.1)
         same_hops h k (inr o) =
-            let few = none_nearer k o.0 o.1 (gives_value o.0 o.1 o.2) in
-            let less = o.3 in omega (arith, few, less)
+            omega (arith, none_nearer k o.0 o.1 (gives_value o.0 o.1 o.2), o.3)
 
         has_lesser : shown.lesser ≡ true → Refuted LesserParent
         has_lesser h =

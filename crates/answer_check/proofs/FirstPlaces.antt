@@ -1,6 +1,7 @@
 -- The first place that a pass over marked lines finds is the first where the answer is wrong; where
 -- it finds none, the answer is right.
 use Rattle.std.proofs.Common.{◌≡◌, ℕ, ◌+◌, inl, inr, List, ap, ◌∙◌, subst, arith, Option, Some, None, zero, suc, ◌-◌, ◌<◌, ◌≤◌, ◌^◌, min, Bool, true, false, [], ◌∷◌, length, refl, sym}
+use Rattle.std.proofs.lemmas.Grind.{common_steps}
 use Rattle.std.specs.Prelude.{IsTrue, Contains, ◌↔◌, option_map}
 use Rattle.road_graph.specs.GraphData.{GraphData, IsGraph, HasVertex}
 use Rattle.road_graph.proofs.Lists.{same_some}
@@ -36,11 +37,9 @@ module _ {V : Type 0} (A : Algebra V) (lawful : IsLawful A) (g : GraphData) (lin
       let same : h.0 ≡ sup.near = same_some (label_of lines r.parent) h.0 sup.near h.1.2.line_is sup.from_parent.line_is in
       h.2 (ap (λ (q : Reached). q.hops + 1) same ∙ sup.hops_are)
   not_refused v (Some r) OtherHops sup (inr h) =
-      let few = sup.not_nearer h.0 h.1 (gives_support h.0 v h.1 r sup h.2) in
-      let less = h.3 in omega (arith, few, less)
+      omega (arith, sup.not_nearer h.0 h.1 (gives_support h.0 v h.1 r sup h.2), h.3)
   not_refused v (Some r) LesserParent sup h =
-      let most = sup.not_lesser h.0 h.1 (gives_support h.0 v h.1 r sup h.2) h.4 in
-      let less = h.3 in omega (arith, most, less)
+      omega (arith, sup.not_lesser h.0 h.1 (gives_support h.0 v h.1 r sup h.2) h.4, h.3)
   not_refused v l reason right h = h
 
   module _ (sources : List ℕ) (v : ℕ) where
@@ -106,11 +105,7 @@ module _ {V : Type 0} (A : Algebra V) (lawful : IsLawful A) (g : GraphData) (lin
     pub first_there : (v : ℕ) (reason : Reason) → v ≡ i + 1 →
         ((s : Reason) → reason_number s < reason_number reason → IsMarkedRefused A g lines v (is_marked marks v) s → ⊥) →
         (u : ℕ) (r : Reason) → IsEarlier u r v reason → HasVertex g u × IsMarkedRefused A g lines u (is_marked marks u) r → ⊥
-    first_there v reason is first u r (inl less) h =
-        let low = h.0.0 in
-        let back : (u - 1) + 1 ≡ u = omega (arith, low) in
-        let right : IsMarkedRight A g lines u (is_marked marks u) = subst (λ (w : ℕ). IsMarkedRight A g lines w (is_marked marks w)) back (before (u - 1) (omega (arith, low, less, is))) in
-        marked_not_refused u (is_marked marks u) r right h.1
+    first_there v reason is first u r (inl less) h = grind (arith, common_steps, marked_not_refused)
     first_there v reason is first u r (inr same) h =
         first r same.1 (subst (λ (w : ℕ). IsMarkedRefused A g lines w (is_marked marks w) r) same.0 h.1)
 

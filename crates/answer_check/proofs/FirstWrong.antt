@@ -1,6 +1,7 @@
 -- The first place of the first answer that is wrong is the first place of the list; a list that is
 -- wrong nowhere is right.
 use Rattle.std.proofs.Common.{◌≡◌, ℕ, zero, suc, ◌+◌, ◌-◌, ◌<◌, ◌≤◌, ◌⊎◌, inl, inr, List, [], ◌∷◌, length, map, get_or, refl, ap, sym, ◌∙◌, subst, arith, Option, Some, None}
+use Rattle.std.proofs.lemmas.Grind.{common_steps}
 use Rattle.std.specs.Prelude.{◌↔◌, All, slice_get}
 use Rattle.std.proofs.lemmas.List.Elements.{All-head, All-tail, All-cons, All-nil}
 use Rattle.std.proofs.lemmas.Option.{slice_get_within, slice_get-get_or}
@@ -38,7 +39,7 @@ number_above OtherRoute = omega arith
 
 none_earlier : (v : ℕ) (r : Reason) → IsEarlier v r 0 Mismatch → ⊥
 none_earlier v r (inl h) = omega (arith, h)
-none_earlier v r (inr h) = let a = number_above r in let b = h.1 in omega (arith, a, b)
+none_earlier v r (inr h) = omega (arith, number_above r, h.1)
 
 -- the question asks of the graph's vertices
 abbrev pub AsksOf : GraphData → Question → Type 0
@@ -121,13 +122,7 @@ module _ {V : Type 0} (A : Algebra V) (g : GraphData) where
 
     pub one_right_more : (qs : List Question) (ts : List AnswerData) (n : ℕ) (q : Question) (t : AnswerData) → AreRightUpTo qs ts n → slice_get qs n ≡ Some q →
         slice_get ts n ≡ Some t → IsAnswer A g q t → AreRightUpTo qs ts (n + 1)
-    one_right_more qs ts n q t before e f right k lt =
-        right_more qs ts n before (λ p u gp gu. subst (λ (z : AnswerData). IsAnswer A g p z) (same_some (slice_get ts n) t u f gu)
-        (subst (λ (z : Question). IsAnswer A g z t) (same_some (slice_get qs n) q p e gp) right))
-        k lt (omega (arith, lt)) (last_or_before k n (omega (arith, lt)))
-      where
-        last_or_before : (k n : ℕ) → k ≤ n → (k ≡ n) ⊎ (k < n)
-        last_or_before k n le = grind (arith)
+    one_right_more qs ts n q t before e f right k lt = grind (arith, common_steps, right_more, same_some)
 
     are_answers : (qs : List Question) (ts : List AnswerData) → length ts ≡ length qs →
         ((k : ℕ) (q : Question) (t : AnswerData) → slice_get qs k ≡ Some q → slice_get ts k ≡ Some t → IsAnswer A g q t) → AreAnswers A g qs ts
@@ -138,12 +133,7 @@ module _ {V : Type 0} (A : Algebra V) (g : GraphData) where
 
     -- all answers are right, and the header is
     pub list_is_right : (asked : Asked) (told : AnswerList) → HasHeader A g asked told → AreRightUpTo asked.questions told.list (length told.list) → IsAnswerList A g asked told
-    list_is_right asked told header all = record {
-      name_is = header.name_is;
-      kind_is = header.kind_is;
-      n_is = header.n_is;
-      answers = are_answers asked.questions told.list header.count (λ k q t e f. all k (slice_get_within told.list k t f) q t e f);
-    }
+    list_is_right asked told header all = grind (arith, common_steps, are_answers, slice_get_within)
 
     answer_at : (qs : List Question) (ts : List AnswerData) → AreAnswers A g qs ts → (k : ℕ) (q : Question) (t : AnswerData) → slice_get qs k ≡ Some q → slice_get ts k ≡ Some t → IsAnswer A g q t
     answer_at [] ts h k q t e f = let bad : None ≡ Some q = e in absurd (cc)
@@ -196,9 +186,8 @@ module _ {V : Type 0} (A : Algebra V) (g : GraphData) where
               | inl k ↦ k.3 header
               | inr k ↦ elim earlier [
                 | inl less ↦
-                    let low = k.0 in
                     let x = k.1 in
-                    not_wrong x.0 x.1 (asks (n - 1) x.0 x.2) (before (n - 1) (omega (arith, low, less)) x.0 x.1 x.2 x.3) u r x.4
+                    not_wrong x.0 x.1 (asks (n - 1) x.0 x.2) (before (n - 1) (omega (arith, k.0, less)) x.0 x.1 x.2 x.3) u r x.4
                 | inr same ↦
                     let x = k.1 in
                     let at : n - 1 ≡ i = omega (arith, same.0) in

@@ -1,5 +1,6 @@
 -- One source more is marked.
 use Rattle.std.proofs.Common.{◌≡◌, ℕ, ◌+◌, ◌-◌, ◌<◌, ◌≤◌, inl, inr, Bool, true, false, List, [], ◌∷◌, ◌++◌, length, get_or, set, take, ap, sym, ◌∙◌, subst, arith, get_or-set_same, get_or-set_other}
+use Rattle.std.proofs.lemmas.Grind.{common_steps}
 use Rattle.std.specs.Prelude.{IsTrue, Contains, ◌↔◌}
 use Rattle.std.proofs.lemmas.Bool.{cases_eq}
 use Rattle.std.proofs.lemmas.List.{take_more}
@@ -23,14 +24,7 @@ module _ (n : ℕ) (sources : List ℕ) (marks : List Bool) (s : ℕ) (count : l
       λ t. subst (λ (k : ℕ). Contains (sources ++ s ∷ []) k) (sym same) (Contains-push sources s),
       λ h. subst (λ (k : ℕ). is_marked (set marks (s - 1) true) k ≡ true) (sym same) at_source,
     )
-    | inr other ↦
-        let kept = elsewhere v (λ e. other (omega (arith, low, in_low, e))) in (
-          λ t. Contains-append_left sources (s ∷ []) v ((known v in_low in_high).0 (sym kept ∙ t)),
-          λ h. elim (Contains-push_cases sources s v h) [
-            | inl old ↦ kept ∙ (known v in_low in_high).1 old
-            | inr new ↦ absurd (other (sym new))
-          ],
-        )
+    | inr other ↦ grind (arith, common_steps, elsewhere)
   ]
 
 -- the source at place i of the list is marked too

@@ -1,5 +1,6 @@
 -- Answers are right up to a place if they are before the first run, and in each run up to there.
 use Rattle.std.proofs.Common.{◌≡◌, ℕ, ◌+◌, ◌<◌, ◌≤◌, ◌⊎◌, inl, inr, Bool, true, false, nat_lt, arith, subst, zero, suc}
+use Rattle.std.proofs.lemmas.Grind.{common_steps}
 use Rattle.std.proofs.lemmas.Bool.{ltb-false}
 use Rattle.road_graph.specs.GraphData.{GraphData}
 use Rattle.road_files.specs.Asked.{Asked}
@@ -24,17 +25,13 @@ module _ (R : ℕ → Type 0) where
   pub right_up_to : (r : Runs) (n : ℕ) → ((i : ℕ) → i < r.start → R i) → ((k : ℕ) → k < n → (i : ℕ) → run_start r k ≤ i → i < run_start r (k + 1) → R i) →
       (i : ℕ) → i < run_start r n → R i
   right_up_to r zero before runs = λ i lt. before i (omega (arith, lt))
-  right_up_to r (suc n) before runs =
-      let next : n + 1 ≡ suc n = omega arith in
-      let last : (i : ℕ) → run_start r n ≤ i → i < run_start r (suc n) → R i =
-      subst (λ (m : ℕ). (i : ℕ) → run_start r n ≤ i → i < run_start r m → R i) next (runs n (omega arith)) in
-      before_and_from (run_start r n) (run_start r (suc n)) (right_up_to r n before (λ k lt. runs k (omega (arith, lt)))) last
+  right_up_to r (suc n) before runs = grind (arith, common_steps, before_and_from, (right_up_to r n before))
 
 module _ {V : Type 0} (A : Algebra V) (g : GraphData) (asked : Asked) (told : AnswerList) (start : ℕ) where
   -- a run whose first suspect is not before its end is right
   pub told_before : (first end : ℕ) → TellsSuspectIn A g asked told start first false → (b : Bool) → nat_lt first end ≡ b → TellsSuspectIn A g asked told start end b
   told_before first end right true e = tt
-  told_before first end right false e = let after = ltb-false first end e in λ i low lt. right i low (omega (arith, lt, after))
+  told_before first end right false e = λ i low lt. right i low (omega (arith, lt, ltb-false first end e))
 
   -- one right answer more
   pub told_more : (i : ℕ) → TellsSuspectIn A g asked told start i false → TellsSuspect A g asked told i false → TellsSuspectIn A g asked told start (i + 1) false

@@ -30,9 +30,7 @@ returns-in-Some-clause-verdict g c =
     let i = c.loop-i.i in
     let header : HasHeader A graph asked told = c.has_header.ensures.0 (search rules) in
     let lt : i < length c.args.answers.now.list.items = search rules in
-    let count = header.count in
-    let n = length-map c.args.answers.now.list.items answer_data in
-    let q = question_at asked.questions i (omega (arith, lt, count, n)) in
+    let q = question_at asked.questions i (omega (arith, lt, header.count, length-map c.args.answers.now.list.items answer_data)) in
     let t = mapped_read answer_data c.args.answers.now.list.items i c.index.result.now c.index.ensures lt in
     let found : c.judge.result ≡ Ok (Some c.in-Some.place) = c.in_ok-place.was ∙ ap (λ (o : Option Place). Ok o) c.in-Some.is in
     answer_first A graph c.laws_hold.ensures.lawful c.holds.ensures asked told (asks_of graph c.args.questions.now c.requires) header i q.0
@@ -57,9 +55,7 @@ loop-i-preserved g c =
     let i = c.loop-i.i in
     let header : HasHeader A graph asked told = c.has_header.ensures.0 (search rules) in
     let lt : i < length c.args.answers.now.list.items = search rules in
-    let count = header.count in
-    let n = length-map c.args.answers.now.list.items answer_data in
-    let q = question_at asked.questions i (omega (arith, lt, count, n)) in
+    let q = question_at asked.questions i (omega (arith, lt, header.count, length-map c.args.answers.now.list.items answer_data)) in
     let t = mapped_read answer_data c.args.answers.now.list.items i c.index.result.now c.index.ensures lt in
     let none : c.judge.result ≡ Ok None = c.in_ok-place.was ∙ ap (λ (o : Option Place). Ok o) c.in_default.is in
     one_right_more A graph c.laws_hold.ensures.lawful c.holds.ensures asked.questions told.list i q.0 (answer_data c.index.result.now) c.loop-i.invariant q.1 t (rw none at (c.judge.ensures q.0 q.1))

@@ -14,9 +14,8 @@ pub position_first-requires-clause-items : goal.position_first-requires-clause-i
 position_first-requires-clause-items g c κs within =
     let ends = c.into_par_iter.ensures in
     let n = c.args.by_head.now.vertices in
-    let marks = c.requires.marks in
     let inside = nat_range-All (λ i. (length (g.L.VertexLines.list c.args.lines.now) ≡ n) × (length c.args.marks.now ≡ n) × (i < n)) 0 (length c.args.marks.now)
-    (λ i low high. (c.requires.count, c.requires.marks, omega (arith, high, marks))) in
+    (λ i low high. (c.requires.count, c.requires.marks, omega (arith, high, c.requires.marks))) in
     rw (ends.0, ends.1) (λ k d lt. (inside k d lt, search (sendable, crosses) depth 40))
 
 pub returns : goal.returns

@@ -24,6 +24,8 @@ pub struct Graph {
     handle: UnsafeCell<Handle>,
     /// The room for vertices with which a route is asked: the longest had it.
     room: Cell<usize>,
+    /// The room with which a near answer is asked: twice what the last one took.
+    near_room: Cell<usize>,
 }
 
 // SAFETY: a handle may go from one thread to another. It is not `Sync`, so that only one call at a time uses it.
@@ -32,7 +34,7 @@ unsafe impl Send for Graph {}
 impl Graph {
     /// A graph whose handle is still closed.
     fn closed() -> Graph {
-        Graph { handle: UnsafeCell::new(Handle::CLOSED), room: Cell::new(FEW) }
+        Graph { handle: UnsafeCell::new(Handle::CLOSED), room: Cell::new(FEW), near_room: Cell::new(FEW) }
     }
 
     /// The graph of vertices 1 to `vertices` and these arcs.
@@ -189,12 +191,13 @@ impl Graph {
     /// The vertices that are reached from the nearest of the sources, the best first, each with its label. It costs what it
     /// returns: less than a tree, if [`Algebra::Within`] reaches only a part of the graph.
     pub fn near(&self, algebra: Algebra, sources: &[u32]) -> Result<Vec<(u32, Label)>, Error> {
-        let mut count = FEW.min(self.vertices() as usize);
+        let mut count = self.near_room.get().min(self.vertices() as usize);
         loop {
             let (mut vertices, mut tree) = (vec![0; count], Tree::unreached(count));
             let status = self.near_into(algebra, sources, &mut vertices, &mut tree, &mut count);
             if status != NO_ROOM {
                 error::done(status)?;
+                self.near_room.set(FEW.max(2 * count));
                 vertices.truncate(count);
                 return Ok(vertices.into_iter().zip(tree.labels()).collect());
             }

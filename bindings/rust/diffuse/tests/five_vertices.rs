@@ -89,8 +89,11 @@ fn what_is_near() {
         assert_eq!(graph.factor(Algebra::Shortest), Ok(()));
     }
     let chain: Vec<Arc> = (1..5000).map(|v| arc(v, v + 1, 2)).collect();
-    let far = Graph::open(5000, &chain).unwrap().near(Algebra::Within(9000), &[1]).unwrap();
-    assert_eq!((far.len(), far[4500]), (4501, (4501, label(9000, 4500, Some(4500)))));
+    let graph = Graph::open(5000, &chain).unwrap();
+    for limit in [9000, 9000, 2, 9000] {
+        let (far, hops) = (graph.near(Algebra::Within(limit), &[1]).unwrap(), limit as u32 / 2);
+        assert_eq!((far.len(), far.last()), (hops as usize + 1, Some(&(hops + 1, label(limit, hops, Some(hops))))));
+    }
 }
 
 #[test]

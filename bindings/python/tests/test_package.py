@@ -107,6 +107,7 @@ class Package(unittest.TestCase):
             error = diffuse.WrongTree(4, 2) if name == "WrongTree" else diffuse.errors.refusal(status)
             self.assertEqual((type(error).__name__, error.status, error.http, error.as_dict()["status"]), (name, status, http, status))
             self.assertIn(words, str(error))
+            self.assertTrue(name == "WrongTree" or str(error).endswith("."), str(error))
             self.assertIs(diffuse.errors.BY_STATUS[status], getattr(diffuse, name))
         for number, (name, words) in REASONS.items():
             self.assertEqual(diffuse.Reason[name], number)

@@ -267,5 +267,5 @@ def refusal(status: int, message: str = "") -> DiffuseError:
     if kind is None:
         return DiffuseError(
             f"the library returned status {status}, which this package does not know")
-    return kind(message or (kind.__doc__ or "").split("\n")[0])
+    return kind(message or " ".join((kind.__doc__ or "").split()))
 

@@ -34,24 +34,27 @@ def version_of_header():
 
 
 class Release:
-    """The version, the time of the commit, and the proved program, library and server, as files in a room."""
+    """The version, the time of the commit, and the program, library and server, as files in a room."""
 
     def __init__(self, room, program, archive):
         self.room, self.version = room, version_of_header()
         self.commit, self.seconds = output_of("git", "log", "-1", "--format=%H %ct").split()
         self.settings = {**os.environ, "SOURCE_DATE_EPOCH": self.seconds, "LC_ALL": "C", "TZ": "UTC"}
-        self.program = self.proved(program, "crates/diffuse/out/diffuse", ["./demo"], TOP)
-        self.archive = self.proved(archive, "crates/diffuse_c/out/libdiffuse_c.a", ["rt", "lib"], TOP / "crates/diffuse_c")
+        self.origins = {}
+        self.program = self.built("program", program, "crates/diffuse/out/diffuse", ["./demo"], TOP)
+        self.archive = self.built("archive", archive, "crates/diffuse_c/out/libdiffuse_c.a", ["rt", "lib"], TOP / "crates/diffuse_c")
         self.prefix = room / "library"
         self.run("examples/c/install", self.prefix, self.archive, stdout=subprocess.DEVNULL)
         self.run("server/build", self.prefix, room, CXXFLAGS="-O2 -g0")
         self.server = room / "diffuse-server"
         self.run("strip", self.server)
 
-    def proved(self, given, usual, command, folder):
-        """A file that is given, or else the usual one, which a command proves and builds."""
+    def built(self, kind, given, usual, command, folder):
+        """A file that is given, or else the usual one, which a command proves and builds. Takes note of what is known of its proof."""
         if given:
+            self.origins[kind] = f"as given by --{kind}; whether it was proved is not known to ./package"
             return given.resolve()
+        self.origins[kind] = f"built by `{' '.join(command)}`, which builds only what it has proved"
         if not (TOP / usual).exists():
             subprocess.run(command, cwd=folder, check=True, stdin=subprocess.DEVNULL)
         return TOP / usual
@@ -100,14 +103,16 @@ def write_source(release, made):
 
 
 def write_proofs(release, made):
-    """What was proved: by which toolchain, from which commit, and what is trusted."""
+    """What is known of the proof of the program and the library: by which toolchain, from which commit, and what is trusted."""
     trusted = (TOP / "docs/THEOREM.md").read_text().partition("## What is trusted\n")[2].partition("\n## ")[0].strip()
     (made / "PROOFS").write_text(f"""diffuse {release.version}, of the commit {release.commit}
-proved and built by {output_of("rt", "version")}
+toolchain: {output_of("rt", "version")}
 
-sha256 of what was proved:
-{sum_of(release.program)}  diffuse
-{sum_of(release.archive)}  libdiffuse_c.a, of which libdiffuse.a, libdiffuse.so and the server are made
+sha256, and what is known of the proof:
+{sum_of(release.program)}  diffuse, {release.origins["program"]}
+{sum_of(release.archive)}  libdiffuse_c.a, {release.origins["archive"]}
+
+libdiffuse.a, libdiffuse.so and the server are made of libdiffuse_c.a. The server itself, and the packages for Python, are not proved.
 
 What is trusted (docs/THEOREM.md):
 

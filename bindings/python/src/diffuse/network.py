@@ -62,6 +62,11 @@ class Network:
     within 1,000 metres: a tuple, a list or a row of numpy with a longitude and a latitude, or with
     x and y.
 
+    What can't be used is refused by an `InputError` or a kind of it, such as `NotANumber`,
+    `OutOfRange`, `BadShape`, `NoAlgebra`, and `NoVertex` for a place that is not there. Any call
+    may end with `OutOfMemory`, and a question with `Stopped` once its `stop` is set. What is said
+    of a call is what it raises besides, or what a message names.
+
     Attributes
     ----------
     coordinates : Coordinates or None
@@ -154,7 +159,7 @@ class Network:
 
         Raises
         ------
-        InputError, NotANumber, OutOfRange, BadShape
+        InputError
             With file, line and column of the first fault.
         OSError
         """
@@ -185,7 +190,7 @@ class Network:
 
         Raises
         ------
-        InputError, NotANumber, OutOfRange, BadShape
+        InputError
             With the row, from 0 on, and the column of the first fault.
         """
         columns = Columns(
@@ -241,7 +246,7 @@ class Network:
         ------
         TextFault
             The first fault of the .gr text.
-        InputError, NotANumber, OutOfRange, BadShape
+        InputError
             The first fault of the .co text.
         OSError
         """
@@ -352,7 +357,6 @@ class Network:
             None is so near.
         InputError
             The network has no coordinates.
-        NotANumber, OutOfRange, BadShape
         """
         places, most = self._near(radius)
         with self._lock:
@@ -450,10 +454,6 @@ class Network:
             The cost.
         towards : bool
             Whether each arc is turned round.
-
-        Raises
-        ------
-        InputError, OutOfMemory
         """
         weights = self._cost(by).weights
         with self._lock:
@@ -481,7 +481,6 @@ class Network:
         ------
         NotFactored
             That does not pay, or the algebra has no factors; the graph is searched as before.
-        InputError, OutOfMemory
         """
         self.graph(by, towards).factor(self._algebra(algebra, by))
 
@@ -503,7 +502,7 @@ class Network:
 
         Raises
         ------
-        NoRoute, NoVertex, InputError, NoAlgebra, OutOfMemory, Stopped
+        NoRoute
         """
         kind, ends = self._algebra(algebra, by), (self.vertex(source), self.vertex(target))
         try:
@@ -532,9 +531,8 @@ class Network:
 
         Raises
         ------
-        BadShape, NoVertex
+        InputError
             With the number of the first pair that can't be used.
-        InputError, NoAlgebra, OutOfMemory, Stopped
         """
         kind, bound, graph = self._algebra(algebra, by), self._limit(by, limit), self.graph(by)
         ends: list[tuple[int, int]] = []
@@ -576,7 +574,7 @@ class Network:
 
         Raises
         ------
-        NoRoute, NoVertex, InputError, OutOfMemory, Stopped
+        NoRoute
         """
         return best_between(self, self._on_road(begin), self._on_road(end), by, stop)
 
@@ -602,10 +600,6 @@ class Network:
         towards : bool
             *To* the nearest source instead: who reaches me, and how. `reliable` then rounds from
             the source on too.
-
-        Raises
-        ------
-        NoVertex, InputError, NoAlgebra, OutOfMemory, Stopped
         """
         kind, begins = self._algebra(algebra, by), self._sources(sources)
         vertices = [self.vertex(name) for name in begins]
@@ -623,10 +617,6 @@ class Network:
         sources, targets : place, pair of coordinates, or a list of them
         by, algebra, limit, stop
             As of `route`.
-
-        Raises
-        ------
-        As `tree` does.
         """
         kind, scale = self._algebra(algebra, by), self._cost(by).scale
         begins, ends = self._sources(sources), self._sources(targets)
@@ -649,7 +639,6 @@ class Network:
         ------
         InputError
             There is no limit, one comes twice, or one is no number from 0 on.
-        NoVertex, OutOfMemory, Stopped
         """
         bounds, begins = self._limits(by, limits), self._sources(sources)
         most, vertices = self._limit(by, bounds[-1]), [self.vertex(name) for name in begins]
@@ -670,10 +659,6 @@ class Network:
             How many units of weight are 1 of the new cost.
         rounding : bool
             Takes sums to the nearest whole weight, a half upwards.
-
-        Raises
-        ------
-        InputError, OutOfRange
         """
         if not hasattr(parts, "items"):
             raise InputError("parts: costs with their factors are needed, as in "
@@ -704,11 +689,10 @@ class Network:
 
         Raises
         ------
-        InputError and its kinds
+        InputError
             With the row of the first number that can't be used.
         TooHeavy
             The weights are too great for factors.
-        OutOfMemory
         """
         like = like if like is not None or name not in self.costs else name
         if like is None and scale is None:
@@ -746,7 +730,7 @@ class Network:
         ------
         InputError
             There are no coordinates, or an answer can't be drawn.
-        NoVertex, OSError
+        OSError
         """
         return draw(self, path, answers, labels, title, width)
 
@@ -767,7 +751,6 @@ class Network:
         ------
         ImportError
             There is no matplotlib.
-        InputError
         """
         return plot(self, answers, ax)
 

@@ -573,6 +573,22 @@ static void ask_chain(struct diffuse_graph *of, enum diffuse_algebra by, enum di
 
 static struct diffuse_stop stop = DIFFUSE_CLOSED;
 
+/* Of two stops the one that a handle was given last stops it, and the other does not. */
+static void two_stops(void) {
+    struct diffuse_stop other = DIFFUSE_CLOSED;
+    IS(DIFFUSE_STATUS_DONE, diffuse_stop_new(&other));
+    IS(DIFFUSE_STATUS_DONE, diffuse_graph_stop_by(&graph, &stop));
+    IS(DIFFUSE_STATUS_DONE, diffuse_graph_stop_by(&graph, &other));
+    IS(DIFFUSE_STATUS_DONE, diffuse_stop_set(&stop));
+    ask_chain(&graph, DIFFUSE_ALGEBRA_SHORTEST, DIFFUSE_STATUS_DONE);
+    IS(DIFFUSE_STATUS_DONE, diffuse_stop_set(&other));
+    IS(DIFFUSE_STATUS_DONE, diffuse_stop_clear(&stop));
+    ask_chain(&graph, DIFFUSE_ALGEBRA_SHORTEST, DIFFUSE_STATUS_STOPPED);
+    IS(DIFFUSE_STATUS_DONE, diffuse_graph_stop_by(&graph, &stop));
+    ask_chain(&graph, DIFFUSE_ALGEBRA_SHORTEST, DIFFUSE_STATUS_DONE);
+    diffuse_stop_free(&other);
+}
+
 /* Asks for trees until one is stopped, on a thread of its own. */
 static void *ask_until_stopped(void *found) {
     enum diffuse_status status = DIFFUSE_STATUS_DONE;
@@ -613,6 +629,7 @@ static void stops(void) {
     ask_chain(&second, DIFFUSE_ALGEBRA_SHORTEST, DIFFUSE_STATUS_DONE);
     IS(DIFFUSE_STATUS_DONE, diffuse_graph_stop_by(&graph, &none));
     ask_chain(&graph, DIFFUSE_ALGEBRA_SHORTEST, DIFFUSE_STATUS_DONE);
+    two_stops();
     IS(DIFFUSE_STATUS_DONE, diffuse_graph_stop_by(&graph, &stop));
     IS(DIFFUSE_STATUS_DONE, diffuse_stop_clear(&stop));
     IS(0, pthread_create(&thread, NULL, ask_until_stopped, &found));

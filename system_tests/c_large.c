@@ -12,7 +12,7 @@ void *__real_realloc(void *, size_t);
 void *__wrap_malloc(size_t n) { return grown += n, __real_malloc(n); }
 void *__wrap_realloc(void *p, size_t n) { return grown += n, __real_realloc(p, n); }
 
-enum { N = 1100000, FAR = 20, FULL = 300 };
+enum { N = 1100000, FAR = 20, FARTHER = 2000, FULL = 300 };
 static struct diffuse_graph graph = DIFFUSE_CLOSED, second = DIFFUSE_CLOSED;
 static struct diffuse_stop stop = DIFFUSE_CLOSED;
 static struct diffuse_arc arcs[N];
@@ -109,8 +109,8 @@ static void factors(void) {
     diffuse_graph_close(&second);
 }
 
-/* What a near route, what is near and a row of a table grow the second time, and the rows of a table after its first: no list of all
-   vertices. A table without factors makes its lists once. */
+/* What a route, what is near and a row of a table grow the second time, and the rows of a table after its first: no list of all
+   vertices. A table without factors makes its lists once. The route is too far for the search that comes before factors. */
 static void kept_lists(int is_factored) {
     static const enum diffuse_algebra EACH[] = {DIFFUSE_ALGEBRA_SHORTEST, DIFFUSE_ALGEBRA_HOPS, DIFFUSE_ALGEBRA_WIDEST, DIFFUSE_ALGEBRA_RELIABLE};
     static const uint32_t ENDS[] = {1, 2, 3, 4, 5, 6, 7, 8, 9, 10}, TARGET = FAR;
@@ -121,7 +121,7 @@ static void kept_lists(int is_factored) {
         uint32_t hops;
         for (int run = 0; run < 2; run++) {
             grown = 0;
-            DONE(diffuse_graph_route(&graph, EACH[k], 0, 1, FAR, &code, &hops, vertices, N));
+            DONE(diffuse_graph_route(&graph, EACH[k], 0, 1, FARTHER, &code, &hops, vertices, N));
             grows[run][0] = grown, grown = 0;
             DONE(diffuse_graph_near(&graph, EACH[k], 0, &ONE, 1, vertices, N, NULL, 0, NULL, 0, NULL, 0, &count));
             grows[run][1] = grown, grown = 0;

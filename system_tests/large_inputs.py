@@ -118,4 +118,17 @@ def a_million_lines(room):
         yield f"an order: status {run.returncode}, {len(run.stdout)} bytes, {run.stderr!r}"
 
 
-CASES = (many_questions, many_judged, many_served, wide_groups, a_million_vertices, a_million_lines)
+def a_hub(room):
+    """Messages from a hub to three million vertices, and their signals: if each event looked at all arcs of its vertex, that would take hours. Under
+    `reach` there is one message along each arc, and the one that opens."""
+    last = 3_000_001
+    graph = room.file(f"p sp {last} {last - 1}\n" + "".join(f"a 1 {v} 0\n" for v in range(2, last + 1)))
+    words = ["solve", graph, room.file(f"p aux sp p2p 1\nq 1 {last}\n"), "--algebra", "reach", "--shards", "1", "--accounts", "hub.accounts"]
+    for order in ([], ["--best-first"]):
+        yield from ended(room, [*words, *order], f"p ans p2p 1 reach\nq 1 {last}\nd 0 1\nr 1 {last}\n")
+        counted = (room.folder / "hub.accounts").read_text()
+        if counted != f"p tally 1 reach\nt 1 1{f' {last}' * 4}\n":
+            yield f"a hub, {order}: {counted!r}"
+
+
+CASES = (many_questions, many_judged, many_served, wide_groups, a_million_vertices, a_million_lines, a_hub)

@@ -6,7 +6,7 @@ use Rattle.elimination_order.specs.declared.care.Care.{Care}
 use Rattle.elimination_order.specs.declared.ordered.FoundOrder.{FoundOrder}
 use Rattle.elimination_order.specs.declared.ordered.Ordered.{Ordered}
 
--- it is of all vertices of this graph, on which it was found by nested dissection with this care, or
+-- it is of all vertices of this graph, on which it was sought by nested dissection with this care, or
 -- without one by approximate minimum degree
 pub record IsFoundOn (g : GraphData) (c : Option Care) (found : FoundOrder) : Type 0 where
   pub graph : found.graph.value ≡ g

@@ -22,9 +22,7 @@ pub tail_fits : (g : GraphData) → IsGraph g → (y : ℕ) (found : Option (ℕ
     IfSome found (λ tail. tail.0 < 4294967295)
 tail_fits g roads y None h = h
 tail_fits g roads y (Some tail) h =
-    let few = roads.few_vertices in
-    let high = h.0.1 in
-    omega (arith, few, high)
+    omega (arith, roads.few_vertices, h.0.1)
 
 module _ {V : Type 0} (A : Algebra V) (g : GraphData) (roads : IsGraph g) (sources : List ℕ) (cost : ℕ → ℕ) (k : ℕ) (carry : CarryValues A g cost k sources)
     (number : ℕ → Option ℕ) (best : AreBestNumbers (counted cost k) g sources number) (t : Branches) (tree : IsTree A g sources t) where
@@ -125,10 +123,9 @@ module _ {V : Type 0} (A : Algebra V) (g : GraphData) (roads : IsGraph g) (sourc
       let same : h.0.0 ≡ on.first = same_some (number w) h.0.0 on.first h.0.1 on.is in
       let step = subst (λ (n : ℕ). IsCountedParent g cost k number w n u) same h.0.2 in
       let parent = parent_if_step w on.first on.inside on.is on.some u step in
-      let in_u = tail_inside w u parent.nearer in
       let x = tail_number w u parent.nearer in
       record {
-        inside = in_u;
+        inside = (tail_inside w u parent.nearer);
         first = x.0;
         is = x.1;
         some = x.2;

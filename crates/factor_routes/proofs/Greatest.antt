@@ -29,9 +29,7 @@ pub few_digits : (n m k : ℕ) → 2 ^ m ≤ 2 * n + 1 → n < 2 ^ k → m ≤ k
 few_digits n m k high below = elim (split m k) [
   | inl le ↦ le
   | inr more ↦
-      let power = pow_mono more in
-      let double = pow-succ' 2 k in
-      absurd (omega (arith, high, below, power, double))
+      absurd (omega (arith, high, below, pow_mono more, pow-succ' 2 k))
 ]
   where
     split : (m k : ℕ) → (m ≤ k) ⊎ (suc k ≤ m)
@@ -63,9 +61,7 @@ module _ (cost : ℕ → ℕ) where
   module _ (g : GraphData) where
     pub arc_bound : (a : ℕ) → HasArc g a → cost (arc_of g a).weight ≤ greatest_into cost (arc_of g a).head g.arcs
     arc_bound a has =
-        let low = has.0 in
-        let high = has.1 in
-        into_bound (arc_of g a).head g.arcs (a - 1) (record { tail = 0; head = 0; weight = 0 }) (omega (arith, low, high)) refl
+        into_bound (arc_of g a).head g.arcs (a - 1) (record { tail = 0; head = 0; weight = 0 }) (omega (arith, has.0, has.1)) refl
 
     pub bound_is_above : (v bound : ℕ) → ((a : ℕ) → HasArc g a → (arc_of g a).head ≡ v → cost (arc_of g a).weight ≤ bound) →
         greatest_into cost v g.arcs ≤ bound
@@ -84,9 +80,8 @@ module _ (cost : ℕ → ℕ) where
         All (λ a. cost (arc_of g a).weight ≤ greatest_of cost m (map (λ b. road_of (reversed_arc (arc_of g b))) numbers)) numbers
     row_bound m [] = All-nil (λ a. cost (arc_of g a).weight ≤ m)
     row_bound m (a ∷ numbers) =
-        let more = row_start (max m (cost (arc_of g a).weight)) numbers in
         All-cons (λ b. cost (arc_of g b).weight ≤ greatest_of cost m (map (λ c. road_of (reversed_arc (arc_of g c))) (a ∷ numbers))) a numbers
-        (omega (arith, more)) (row_bound (max m (cost (arc_of g a).weight)) numbers)
+        (omega (arith, row_start (max m (cost (arc_of g a).weight)) numbers)) (row_bound (max m (cost (arc_of g a).weight)) numbers)
 
     row_least : (m bound : ℕ) (numbers : List ℕ) → m ≤ bound → All (λ a. cost (arc_of g a).weight ≤ bound) numbers →
         greatest_of cost m (map (λ a. road_of (reversed_arc (arc_of g a))) numbers) ≤ bound
@@ -99,14 +94,13 @@ module _ (cost : ℕ → ℕ) where
     pub row_is_greatest : (v : ℕ) (roads : List OutRoad) → ListsRoadsInto g v roads → greatest_of cost 0 roads ≡ greatest_into cost v g.arcs
     row_is_greatest v roads lists =
         let numbers = lists.0 in
-        let is = lists.2 in
         let low : greatest_of cost 0 (map (λ a. road_of (reversed_arc (arc_of g a))) numbers) ≤ greatest_into cost v g.arcs =
         row_least 0 (greatest_into cost v g.arcs) numbers (omega arith) (λ k d lt. inside k d lt) in
         let high : greatest_into cost v g.arcs ≤ greatest_of cost 0 (map (λ a. road_of (reversed_arc (arc_of g a))) numbers) =
         bound_is_above v (greatest_of cost 0 (map (λ a. road_of (reversed_arc (arc_of g a))) numbers))
         (λ a has at. All-contains (λ b. cost (arc_of g b).weight ≤ greatest_of cost 0 (map (λ c. road_of (reversed_arc (arc_of g c))) numbers))
         numbers a (row_bound 0 numbers) ((lists.1 a).1 (has, at))) in
-        rw is (omega (arith, low, high))
+        rw lists.2 (omega (arith, low, high))
       where
         inside : (k d : ℕ) → k < length lists.0 → cost (arc_of g (slice_index_or lists.0 k d)).weight ≤ greatest_into cost v g.arcs
         inside k d lt =
@@ -118,9 +112,7 @@ module _ (cost : ℕ → ℕ) where
     sum_mono : (f h : ℕ → ℕ) (n : ℕ) → ((v : ℕ) → f v ≤ h v) → sum_to f n ≤ sum_to h n
     sum_mono f h zero le = omega arith
     sum_mono f h (suc n) le =
-        let one = le (suc n) in
-        let rest = sum_mono f h n le in
-        omega (arith, one, rest)
+        omega (arith, le (suc n), sum_mono f h n le)
 
     -- with room for their sum above the low bits, the numbers fit
     pub fits_above : (k : ℕ) → k ≤ 63 → g.vertices < 2 ^ k → sum_to (λ v. greatest_into cost v g.arcs) g.vertices < 2 ^ (63 - k) → CountsFit g cost k
@@ -130,9 +122,7 @@ module _ (cost : ℕ → ℕ) where
       few = enough;
       fits =
           let more : sum_to (λ v. greatest_into cost v g.arcs) g.vertices + 1 ≤ 2 ^ (63 - k) = omega (arith, room) in
-          let product = mul-le-mul_right (2 ^ k) more in
-          let all = whole k few in
-          omega (arith, product, all);
+          omega (arith, mul-le-mul_right (2 ^ k) more, whole k few);
     }
 
     -- if they fit for some number of low bits, they do for the least one
@@ -141,13 +131,10 @@ module _ (cost : ℕ → ℕ) where
     room_if_fits k bits fit few least =
         let s = sum_to (λ v. greatest_into cost v g.arcs) g.vertices in
         let below : s + 1 ≤ sum_to fit.heaviest g.vertices + 1 = let le = sum_mono (λ v. greatest_into cost v g.arcs) fit.heaviest g.vertices least_bounds in omega (arith, le) in
-        let fewer = mul-le-mul_left (s + 1) (pow_mono (least k fit.few)) in
         let more = mul-le-mul_right (2 ^ k) below in
-        let fits = fit.fits in
         let all = whole bits few in
-        let product : (s + 1) * 2 ^ bits ≤ 2 ^ (63 - bits) * 2 ^ bits = omega (arith, fewer, more, fits, all) in
-        let room = le_of_mul-le-mul_right product (pow_pos bits) in
-        omega (arith, room)
+        let product : (s + 1) * 2 ^ bits ≤ 2 ^ (63 - bits) * 2 ^ bits = omega (arith, mul-le-mul_left (s + 1) (pow_mono (least k fit.few)), more, fit.fits, all) in
+        omega (arith, le_of_mul-le-mul_right product (pow_pos bits))
       where
         least_bounds : (v : ℕ) → greatest_into cost v g.arcs ≤ fit.heaviest v
         least_bounds v = bound_is_above v (fit.heaviest v) (λ a has at. subst (λ (u : ℕ). cost (arc_of g a).weight ≤ fit.heaviest u) at (fit.costs a has))

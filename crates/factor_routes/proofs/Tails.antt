@@ -37,18 +37,14 @@ absent (Some y) x e f = cc
 pub number_is_small : (g : GraphData) → IsGraph g → (cost : ℕ → ℕ) (k : ℕ) (sources : List ℕ) (v x : ℕ) →
     IsBest (counted cost k) g sources v x → x < 2 ^ 63
 number_is_small g roads cost k sources v x best =
-    let value = walk_value_is_value (counted cost k) (counted_laws cost k) g roads sources v x best.attained in
-    let le = leb-true x (2 ^ 63 - 1) value in
-    omega (arith, le)
+    omega (arith, leb-true x (2 ^ 63 - 1) (walk_value_is_value (counted cost k) (counted_laws cost k) g roads sources v x best.attained))
 
 -- and so is what an arc adds, or 2^63 at most
 pub added_is_small : (c : Cost) (k w : ℕ) → k < 32 → w < 2 ^ 32 → counted_cost (cost_of c) k w ≤ 2 ^ 63
 added_is_small c k w few light =
     let le : cost_of c w ≤ 2 ^ 32 - 1 = cheap c in
-    let one = mul-le-mul_right (2 ^ k) le in
     let low : k ≤ 31 = omega (arith, few) in
-    let two = mul-le-mul_left (2 ^ 32 - 1) (pow_mono low) in
-    omega (arith, one, two)
+    omega (arith, mul-le-mul_right (2 ^ k) le, mul-le-mul_left (2 ^ 32 - 1) (pow_mono low))
   where
     cheap : (c : Cost) → cost_of c w ≤ 2 ^ 32 - 1
     cheap Weight = omega (arith, light)
@@ -213,8 +209,7 @@ module _ (g : GraphData) (roads : IsGraph g) (cost : ℕ → ℕ) (k : ℕ) (sou
           (u : ℕ) × IsCountedStepOf g cost k number v y u
       at None p h q = absurd (h y best.attained)
       at (Some j) None h q =
-          let least = leb-true y 0 (best.least 0 ([], (v, q, refl), refl)) in
-          let bad : ⊥ = omega (arith, least, some) in
+          let bad : ⊥ = omega (arith, leb-true y 0 (best.least 0 ([], (v, q, refl), refl)), some) in
           absurd bad
       at (Some j) (Some u) h q =
           let near = q.nearer in
@@ -265,16 +260,12 @@ module _ (g : GraphData) (cost : ℕ → ℕ) (k y : ℕ) (number : ℕ → Opti
         no_lesser = λ t e s f.
             let low = lesser_left s (add a) in
             let is : lesser least (add a) ≡ Some low.0 = ap (λ (o : Option (ℕ × ℕ)). lesser o (add a)) f ∙ low.1 in
-            let below = rest.no_lesser t e low.0 is in
-            let more = low.2 in
-            omega (arith, below, more);
+            omega (arith, rest.no_lesser t e low.0 is, low.2);
         all = λ t e. All-cons (λ b. (s : ℕ × ℕ) → add b ≡ Some s → t.0 ≤ s.0) a numbers
             (λ s f.
             let low = lesser_right least s in
             let is : lesser least (add a) ≡ Some low.0 = ap (λ (o : Option (ℕ × ℕ)). lesser least o) f ∙ low.1 in
-            let below = rest.no_lesser t e low.0 is in
-            let more = low.2 in
-            omega (arith, below, more))
+            omega (arith, rest.no_lesser t e low.0 is, low.2))
             (rest.all t e);
       }
 
@@ -335,8 +326,7 @@ module _ (g : GraphData) (cost : ℕ → ℕ) (k y : ℕ) (number : ℕ → Opti
                   let a = step_adds u s in
                   let low = All-contains (λ b. (r : ℕ × ℕ) → add b ≡ Some r → t.0 ≤ r.0) lists.0 s.2.0 (f.all t refl) a.0
                   ((arc_of g s.2.0).tail, s.0) a.1 in
-                  let same = a.2 in
-                  omega (arith, low, same);
+                  omega (arith, low, a.2);
             },
           )
     ]

@@ -110,20 +110,16 @@ module _ {V : Type 0} (A : Algebra V) (g : GraphData) (sources : List ℕ) where
     link_at v (Some k) (Some u) h q =
         let near = q.nearer in
         let in_u = subst (λ (n : ℕ). HasVertex g n) near.2 (roads.ends near.0 near.1.arc).0 in
-        let count = tree.hops_count in
         let w = subst (λ (n : ℕ). IsWalkValue A g sources n near.1.tail) near.2 near.1.tail_best.attained in
         let j = hops_some u (hops_of t u) refl (tree.hops u in_u) near.1.tail w in
-        let here = one_hops A g sources u j.0 near.4.0 j.2 near.4.1 in
         let next = one_hops A g sources v k (near.4.0 + 1) h near.4.2 in
-        let high = in_u.1 in
-        (in_u.0, omega (arith, high, count), (j.0, j.1, omega (arith, here, next)))
+        (in_u.0, omega (arith, in_u.1, tree.hops_count), (j.0, j.1, omega (arith, one_hops A g sources u j.0 near.4.0 j.2 near.4.1, next)))
 
     -- a tree is linked
     pub tree_linked : IsLinked t
     tree_linked = record {
       count = tree.parents_count ∙ sym tree.hops_count;
       links = λ v low high.
-          let count = tree.hops_count in
-          let in_v : HasVertex g v = (low, omega (arith, high, count)) in
+          let in_v : HasVertex g v = (low, omega (arith, high, tree.hops_count)) in
           link_at v (hops_of t v) (parent_of t v) (tree.hops v in_v) (tree.parents v in_v);
     }

@@ -1,5 +1,5 @@
 //! Best values of all vertices, with their hops and parents.
-ghost use Rattle.std.specs.Prelude.{◌≡◌, ℕ, ◌<◌, List, All, IfOk, IfSome, option_map};
+ghost use Rattle.std.specs.Prelude.{◌≡◌, ℕ, ◌<◌, List, All, IfOk, IfSome, IsSome, None, option_map};
 ghost use Rattle.road_graph.specs.GraphData.{HasVertex};
 ghost use Rattle.path_algebra.specs.Carried.{IsCarried};
 ghost use Rattle.path_algebra.specs.Counted.{cost_of};
@@ -11,7 +11,7 @@ ghost use Rattle.factor_routes.specs.Numbers.{numbers_of};
 use crate::findings::{Finding, Findings};
 use crate::road_factors::RoadFactors;
 use path_algebra::{Labels, PathAlgebra};
-use path_plain::best_values_exist;
+use path_plain::{Halt, Stop, best_values_exist};
 use road_graph::{InGraph, Memory, Vertex};
 use route_tree::{NumberSlot, Tree, trees_exist};
 use std::alloc::Global;
@@ -28,12 +28,19 @@ fn vertex_slot(tail: Option<(Vertex, u64)>) -> NumberSlot
 }
 
 impl RoadFactors {
-    /// The best number of each vertex.
-    fn numbers(&self, alloc: Global, sources: &[Vertex]) -> Result<Labels<u64>, Memory>
+    /// The best number of each vertex; none if the stop is set before.
+    fn numbers(
+        &self,
+        alloc: Global,
+        sources: &[Vertex],
+        stop: &Option<Stop>,
+    ) -> Result<Option<Labels<u64>>, Memory>
         requires { All (HasVertex self.now.roads) sources.now }
-        ensures { IfOk result (λ numbers. AreBest (numbers_of self.now) self.now.roads sources.now numbers) }
+        ensures best { IfOk result (λ found. IfSome found (λ numbers.
+            AreBest (numbers_of self.now) self.now.roads sources.now numbers)) }
+        ensures stopped { IfOk result (λ found. found ≡ None → IsSome stop.now) }
     {
-        self.factors.solve_by(alloc, sources)
+        self.factors.solve_unless(alloc, sources, stop)
     }
 
     /// What the best numbers say of a vertex.
@@ -94,13 +101,43 @@ impl RoadFactors {
         ensures labels { IfOk result (λ s. AreBest (A.meaning algebra) self.now.roads sources.now s.0) }
         ensures tree { IfOk result (λ s. IsTree (A.meaning algebra) self.now.roads sources.now s.1) }
     {
+        match self.solve_with_tree_unless(alloc, algebra, by_head, sources, &None)? {
+            Some(solved) => Ok(solved),
+            None => unreachable!(),
+        }
+    }
+
+    /// The same, or none if the stop is set before: it is looked at once in a thousand vertices.
+    pub fn solve_with_tree_unless<A: PathAlgebra>(
+        &self,
+        alloc: Global,
+        algebra: A,
+        by_head: &InGraph,
+        sources: &[Vertex],
+        stop: &Option<Stop>,
+    ) -> Result<Option<(Labels<A::Value>, Tree)>, Memory>
+        requires by_head { by_head.now ≡ self.now.roads }
+        requires carried { IsCarried (A.meaning algebra) (cost_of self.now.algebra.cost) }
+        requires sources { All (HasVertex self.now.roads) sources.now }
+        ensures labels { IfOk result (λ found. IfSome found (λ s.
+            AreBest (A.meaning algebra) self.now.roads sources.now s.0)) }
+        ensures tree { IfOk result (λ found. IfSome found (λ s.
+            IsTree (A.meaning algebra) self.now.roads sources.now s.1)) }
+        ensures stopped { IfOk result (λ found. found ≡ None → IsSome stop.now) }
+    {
         self.holds();
-        let mut numbers = self.numbers(alloc, sources)?;
+        let Some(mut numbers) = self.numbers(alloc, sources, stop)? else {
+            return Ok(None);
+        };
+        let mut halt = Halt::by(stop);
         let mut findings = Findings::new(alloc, by_head.vertices() as usize)?;
         for i in 0..by_head.vertices() {
+            if halt.is_due() {
+                return Ok(None);
+            }
             let finding = self.finding(algebra, by_head, &mut numbers, Vertex(i + 1))?;
             findings.push(finding)?;
         }
-        Ok(findings.into_labels_and_tree())
+        Ok(Some(findings.into_labels_and_tree()))
     }
 }

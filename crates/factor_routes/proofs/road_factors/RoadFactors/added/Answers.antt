@@ -5,6 +5,4 @@ use Rattle.factor_routes.proofs.road_factors.RoadFactors.added.Goals as goal
 pub returns-clause-low : goal.returns-clause-low
 returns-clause-low c =
     let sums = c.self.inside.sums in
-    let low = added_is_small sums.cost sums.bits c.args.w sums.fits c.ranges.w.fits in
-    let is = c.added.ensures in
-    omega (arith, low, is)
+    omega (arith, added_is_small sums.cost sums.bits c.args.w sums.fits c.ranges.w.fits, c.added.ensures)

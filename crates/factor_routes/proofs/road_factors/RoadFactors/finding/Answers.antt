@@ -65,9 +65,8 @@ returns-clause-told g c = λ sources inside are.
     let value = sym c.value_in.ensures ∙ c.in-Some-value_in.is in
     let some : IsSome (carried_value A f.algebra.bits (Some c.in-Some.y)) = ap is_some value in
     let into = carrying.known_into A f.roads roads sources (cost_of f.algebra.cost) f.algebra.bits carry number best tree.0 tree.1 c.args.v in
-    let least = c.in_ok-tail.ensures.least sources number are into in
     let hops = c.some.ensures ∙ ap (λ (n : ℕ). Some n) c.hops_in.ensures.hops in
     carrying.told_as A f.roads sources c.args.v (Some c.in-Some-value_in.value) c.some.result (Some (c.in-Some.y % 2 ^ f.algebra.bits))
     c.vertex_slot.result (option_map (λ tail. tail.0) c.in_ok-tail.tail) hops c.vertex_slot.ensures
     (carrying.told_by_tail A f.roads roads sources (cost_of f.algebra.cost) f.algebra.bits carry number best tree.0 tree.1 c.args.v c.in-Some.y
-    c.requires.vertex e some c.in-Some-value_in.value c.in_ok-tail.tail value least)
+    c.requires.vertex e some c.in-Some-value_in.value c.in_ok-tail.tail value (c.in_ok-tail.ensures.least sources number are into))

@@ -59,9 +59,7 @@ loop-number-preserved c =
       c.tail_before.ensures.sources ∙ inv.2,
       subst (IsBestLabel A G sources tail.0) (least (label_of numbers.0) each).0 (each tail.0 inside.0),
       λ n best.
-          let same = best_is_one A (counted_laws cost k) G roads sources at c.loop-number.number n inv.3 best in
-          let less = inside.1 in
-          omega (arith, same, less),
+          omega (arith, best_is_one A (counted_laws cost k) G roads sources at c.loop-number.number n inv.3 best, inside.1),
       λ number best e. rw pushed (climb G cost k number c.args.end.0 at c.loop-number.number items (inv.5 number best e) tail (least number best)),
     )
 
@@ -70,7 +68,6 @@ returns-clause-route c = λ number best e.
     let f = c.args.self.now in
     let cost = cost_of f.algebra.cost in
     let k = f.algebra.bits in
-    let end = c.loop-number-test.false in
     rw c.reverse.ensures.items (climbed f.roads cost k number c.args.end.0 c.loop-number.at c.loop-number.number c.loop-number.list.items
     (c.loop-number.invariant.5 number best e)
-    (λ u s. let sum : s.0 + counted_cost cost k (arc_of f.roads s.2.0).weight ≡ c.loop-number.number = s.2.4 in omega (arith, sum, end)))
+    (λ u s. let sum : s.0 + counted_cost cost k (arc_of f.roads s.2.0).weight ≡ c.loop-number.number = s.2.4 in omega (arith, sum, c.loop-number-test.false)))

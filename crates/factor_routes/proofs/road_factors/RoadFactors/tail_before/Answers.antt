@@ -121,13 +121,12 @@ returns-clause-least c = λ number into.
     let k = f.algebra.bits in
     let v = c.args.at.0 in
     let y = c.args.at.1 in
-    let sources = c.args.asker.now.sources in
     let items = c.roads_into-road-items.result.now in
     let inv = c.loop-road.invariant in
     let least = c.loop-road.least in
     let held = c.loop-road.held in
     let lists = subst (λ (r : GraphData). ListsRoadsInto r v items) c.requires.by_head c.roads_into-road-items.ensures in
     let row = row_is f.roads cost k y number v items lists least held c.loop-road.road-index c.loop-road-test.false (inv.4 number into) in
-    let same = sym (looked cost k y number (numbers_of f) f.roads sources c.loop-road.asker.sources v inv.1 into least c.in_ok-tail.field-0 held inv.3
+    let same = sym (looked cost k y number (numbers_of f) f.roads c.args.asker.now.sources c.loop-road.asker.sources v inv.1 into least c.in_ok-tail.field-0 held inv.3
     c.in_ok-tail.ensures.lesser []) ∙ c.in-Some.is in
     subst (IsLeastTail f.roads cost k number v y) same row

@@ -2,7 +2,7 @@ use Rattle.std.proofs.Common.{◌≡◌, ℕ, ap, subst, arith}
 use Rattle.road_graph.specs.GraphData.{GraphData}
 use Rattle.route_tree.specs.Tree.{Branches}
 use Rattle.factor_routes.proofs.Telling.{AreTold, told_best, told_more, told_tree, tree_linked}
-use Rattle.factor_routes.proofs.road_factors.RoadFactors.solve_with_tree.Goals as goal
+use Rattle.factor_routes.proofs.road_factors.RoadFactors.solve_with_tree_unless.Goals as goal
 
 pub loop-i-preserved : goal.loop-i-preserved
 loop-i-preserved g c =
@@ -18,6 +18,7 @@ loop-i-preserved g c =
           (rw c.in_ok-push.ensures.parents
           (told_more A G sources c.loop-i.i before.values.items before.hops.items before.parents.items found.value found.hops found.parent inv.0 told))),
       c.finding.ensures.kept sources inv.1,
+      λ can. inv.2 (c.is_due.ensures.kind.0 can),
     )
 
 pub into_labels_and_tree-requires : goal.into_labels_and_tree-requires
@@ -27,10 +28,7 @@ into_labels_and_tree-requires g c =
     let sources = c.args.sources.now in
     let f = c.loop-i.findings in
     let same = ap (λ (r : GraphData). r.vertices) c.requires.by_head in
-    let count = c.vertices-i-end.ensures.count in
-    let end = c.loop-i-test.false in
-    let high = c.loop-i.auto.i-end in
-    let all : c.loop-i.i ≡ G.vertices = omega (arith, same, count, end, high) in
+    let all : c.loop-i.i ≡ G.vertices = omega (arith, same, c.vertices-i-end.ensures.count, c.loop-i-test.false, c.loop-i.auto.i-end) in
     let known = subst (λ (n : ℕ). AreTold A G sources n f.values.items f.hops.items f.parents.items) all c.loop-i.invariant.0 in
     let t : Branches = record { hops = f.hops.items; parents = f.parents.items } in
     tree_linked A G sources c.holds.ensures.roads t (told_tree A G sources f.values.items f.hops.items f.parents.items known)
@@ -42,10 +40,7 @@ returns-clause-labels g c =
     let sources = c.args.sources.now in
     let f = c.loop-i.findings in
     let same = ap (λ (r : GraphData). r.vertices) c.requires.by_head in
-    let count = c.vertices-i-end.ensures.count in
-    let end = c.loop-i-test.false in
-    let high = c.loop-i.auto.i-end in
-    let all : c.loop-i.i ≡ G.vertices = omega (arith, same, count, end, high) in
+    let all : c.loop-i.i ≡ G.vertices = omega (arith, same, c.vertices-i-end.ensures.count, c.loop-i-test.false, c.loop-i.auto.i-end) in
     let known = subst (λ (n : ℕ). AreTold A G sources n f.values.items f.hops.items f.parents.items) all c.loop-i.invariant.0 in
     rw c.into_labels_and_tree.ensures.labels (told_best A G sources f.values.items f.hops.items f.parents.items known)
 
@@ -56,9 +51,6 @@ returns-clause-tree g c =
     let sources = c.args.sources.now in
     let f = c.loop-i.findings in
     let same = ap (λ (r : GraphData). r.vertices) c.requires.by_head in
-    let count = c.vertices-i-end.ensures.count in
-    let end = c.loop-i-test.false in
-    let high = c.loop-i.auto.i-end in
-    let all : c.loop-i.i ≡ G.vertices = omega (arith, same, count, end, high) in
+    let all : c.loop-i.i ≡ G.vertices = omega (arith, same, c.vertices-i-end.ensures.count, c.loop-i-test.false, c.loop-i.auto.i-end) in
     let known = subst (λ (n : ℕ). AreTold A G sources n f.values.items f.hops.items f.parents.items) all c.loop-i.invariant.0 in
     rw c.into_labels_and_tree.ensures.tree (told_tree A G sources f.values.items f.hops.items f.parents.items known)

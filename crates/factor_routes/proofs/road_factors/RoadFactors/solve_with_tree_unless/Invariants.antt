@@ -1,9 +1,12 @@
+use Rattle.std.specs.Prelude.{IsSome}
 use Rattle.path_algebra.specs.Walks.{AreBest}
+use Rattle.path_plain.specs.Halting.{CanHalt}
 use Rattle.factor_routes.specs.Numbers.{numbers_of}
 use Rattle.factor_routes.proofs.Telling.{AreTold}
-use Rattle.factor_routes.proofs.road_factors.RoadFactors.solve_with_tree.Given as goal
+use Rattle.factor_routes.proofs.road_factors.RoadFactors.solve_with_tree_unless.Given as goal
 
 abbrev pub invariant-loop-i : goal.invariant-loop-i
 invariant-loop-i g l =
     AreTold (g.A.PathAlgebra.meaning l.algebra) l.self.roads l.sources l.i l.findings.values.items l.findings.hops.items l.findings.parents.items
     × AreBest (numbers_of l.self) l.self.roads l.sources l.numbers
+    × (CanHalt l.halt → IsSome l.stop)

@@ -1,12 +1,14 @@
 -- What the command `order` does.
-use Rattle.std.specs.Prelude.{◌≡◌, ℕ, ◌⊎◌, [], ◌∷◌, Result, Ok, Err, length}
+use Rattle.std.specs.Prelude.{◌≡◌, ℕ, ◌⊎◌, [], ◌∷◌, Some, Result, Ok, Err}
 use Rattle.road_graph.specs.GraphData.{GraphData}
 use Rattle.text_lines.specs.declared.faults.ReadFault.{ReadFault}
 use Rattle.text_lines.specs.Reads.{ReadsText}
 use Rattle.text_lines.specs.Streams.{Input, Output}
 use Rattle.graph_text.specs.GraphFiles.{gr_rules}
 use Rattle.order_files.specs.WrittenOrders.{places_text}
-use Rattle.elimination_order.specs.declared.order.Order.{Order}
+use Rattle.elimination_order.specs.Found.{IsFoundOn}
+use Rattle.elimination_order.specs.declared.care.Care.TheVariants.{Careful}
+use Rattle.elimination_order.specs.declared.ordered.FoundOrder.{FoundOrder}
 use Rattle.batch_inputs.specs.declared.faults.File.TheVariants.{Graph}
 use Rattle.batch_inputs.specs.declared.faults.RunFault.{RunFault}
 use Rattle.command_args.specs.declared.parsed.OrderArgs.{OrderArgs}
@@ -22,16 +24,16 @@ abbrev pub HasNoOrder : {W : Type 0} → Output W → Output W → Result (Unit 
 HasNoOrder out out_after (Ok _) = ⊥
 HasNoOrder out out_after (Err f) = (out_after ≡ out) × ((f ≡ run_fault 44) ⊎ (f ≡ run_fault 3))
 
--- the output has the places of n vertices in an order, or a write of them failed; or nothing was
--- written
-abbrev pub WritesPlaces : {W : Type 0} → ℕ → Output W → Output W → Result (Unit {0}) RunFault → Type 0
-WritesPlaces n out out_after outcome =
-    ((order : Order) × (length order.vertices.items ≡ n) × Reaches (places_text order.places.items) out out_after outcome)
+-- the output has the places of the vertices in an order that was found on this graph with care, or a
+-- write of them failed; or nothing was written
+abbrev pub WritesPlaces : {W : Type 0} → GraphData → Output W → Output W → Result (Unit {0}) RunFault → Type 0
+WritesPlaces g out out_after outcome =
+    ((found : FoundOrder) × IsFoundOn g (Some Careful) found × Reaches (places_text found.order.places.items) out out_after outcome)
     ⊎ HasNoOrder out out_after outcome
 
 -- the vertices of a graph that was read were ordered; a fault of the graph is that of the command
 abbrev pub OrdersRead : {W : Type 0} → Result GraphData ReadFault → Output W → Output W → Result (Unit {0}) RunFault → Type 0
-OrdersRead (Ok g) out out_after outcome = WritesPlaces g.vertices out out_after outcome
+OrdersRead (Ok g) out out_after outcome = WritesPlaces g out out_after outcome
 OrdersRead (Err f) out out_after outcome = (outcome ≡ Err (record { number = f.number; file = Graph; line = f.line })) × (out_after ≡ out)
 
 -- a graph was read, and its vertices were ordered

@@ -30,13 +30,13 @@ fn write_places<W: RoadWrite>(out: &mut W, order: &Order) -> Result<(), RunFault
 
 /// Orders the vertices of a graph with care, and writes their places.
 fn order_graph<W: RoadWrite>(alloc: Global, graph: &OutGraph, out: &mut W) -> Result<(), RunFault>
-    ensures { WritesPlaces graph.now.vertices (W.seen out.old) (W.seen out.new) result }
+    ensures { WritesPlaces graph.now (W.seen out.old) (W.seen out.new) result }
 {
     let Ok(ordered) = nested_dissection(alloc, graph, Care::Careful) else {
         return Err(fault_of_run(MEMORY));
     };
     match ordered.order {
-        Some(order) => write_places(out, &order),
+        Some(found) => write_places(out, &found.into_order()),
         None => Err(fault_of_run(TOO_DENSE)),
     }
 }

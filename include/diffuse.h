@@ -265,10 +265,10 @@ enum diffuse_status diffuse_graph_reweigh(struct diffuse_graph *graph, const str
 DIFFUSE_CHECKED((1)) enum diffuse_status diffuse_stop_new(struct diffuse_stop *stop);
 
 /* Gives a handle a stop, in place of the one that it had: once the stop is set, routes, trees, tables and near answers of the
-   handle end with STOPPED, at the latest after a few thousand more steps of a search or one pass over the factors or the arcs, and
-   nothing is written. A call that has its answer sooner gives it. The stop stays with the handle, freed or not, until another takes
-   its place; a closed one takes it away. A second handle, by share or reweigh, has none. Many handles may have one stop.
-   CLOSED, MEMORY or DONE. */
+   handle end with STOPPED, at the latest after a few thousand more steps of a search or of a pass over the factors, or after one
+   pass over the arcs, and nothing is written. A call that has its answer sooner gives it. The stop stays with the handle, freed or
+   not, until another takes its place; a closed one takes it away. A second handle, by share or reweigh, has none. Many handles may
+   have one stop. CLOSED, MEMORY or DONE. */
 DIFFUSE_CHECKED((1, 2)) enum diffuse_status diffuse_graph_stop_by(struct diffuse_graph *graph, struct diffuse_stop *stop);
 
 /* Sets or clears a stop. It may be set while another thread is in a call of a handle that has it; like a handle, the stop itself

@@ -1,4 +1,5 @@
-/* A stop that is set while one call runs, which would take about a second: the call ends within 0.2 s of processor time. Link with -pthread.
+/* A stop that is set while one call runs, which would take about a second: the call ends within 0.2 s of processor time; a tree by
+   factors, which takes less, within 0.02 s. Link with -pthread.
    c_library beside this file says what it must print. */
 #define _GNU_SOURCE
 #include <diffuse.h>
@@ -9,8 +10,8 @@
 
 /* A graph whose search takes its time, since its arcs lead anywhere; all but the last vertex are nearer than the last. */
 enum { MANY = 1200000, ROWS = 3000000, SIDE = 200, PLACES = SIDE * SIDE, EACH = 1500, TRIES = 5 };
-static const double BEGUN = 0.1, LATE = 0.2;
-static struct diffuse_graph wide = DIFFUSE_CLOSED, grid = DIFFUSE_CLOSED, reweighed = DIFFUSE_CLOSED;
+static const double BEGUN = 0.1, LATE = 0.2, SWEPT = 0.02;
+static struct diffuse_graph wide = DIFFUSE_CLOSED, grid = DIFFUSE_CLOSED, reweighed = DIFFUSE_CLOSED, chain = DIFFUSE_CLOSED;
 static struct diffuse_stop stop = DIFFUSE_CLOSED;
 static uint32_t *numbers, *sources, few[EACH];
 static uint64_t *codes;
@@ -70,6 +71,19 @@ static void open_grid(void) {
     expect(diffuse_graph_stop_by(&reweighed, &stop), "stop_by");
 }
 
+/* One street that leads both ways, factored: it has few links, but a tree of it is swept over all places. */
+static void open_chain(void) {
+    struct diffuse_arc *arcs = (struct diffuse_arc *)list_of((size_t)2 * ROWS, sizeof *arcs);
+    size_t m = 0;
+    for (uint32_t v = 1; v < ROWS; v++) {
+        arcs[m++] = (struct diffuse_arc){v, v + 1, 7};
+        arcs[m++] = (struct diffuse_arc){v + 1, v, 7};
+    }
+    open_graph(&chain, ROWS, arcs, m);
+    expect(diffuse_graph_factor(&chain, DIFFUSE_ALGEBRA_SHORTEST), "factor");
+    free(arcs);
+}
+
 static const uint32_t ONE = 1, LAST = MANY, NEXT = 2;
 
 static enum diffuse_status route(enum diffuse_algebra by) {
@@ -98,11 +112,16 @@ static enum diffuse_status reweighed_table(enum diffuse_algebra by) {
     return diffuse_graph_table(&reweighed, by, DIFFUSE_MAX_LIMIT, few, EACH, few, EACH, codes, (size_t)EACH * EACH);
 }
 
-/* A call, and when it ended and how. */
+static enum diffuse_status factored_tree(enum diffuse_algebra by) {
+    return diffuse_graph_tree(&chain, by, DIFFUSE_MAX_LIMIT, &ONE, 1, codes, ROWS, NULL, 0, NULL, 0);
+}
+
+/* A call, how long it has run when the stop is set, and how long it may run on; then when it ended and how. */
 struct asked {
     const char *name;
     enum diffuse_status (*call)(enum diffuse_algebra);
     enum diffuse_algebra by;
+    double begun, late;
     double ended;
     enum diffuse_status status;
 };
@@ -127,7 +146,7 @@ static double run_on(struct asked *it) {
     double before = 0, after;
     expect(diffuse_stop_clear(&stop), "clear");
     if (pthread_create(&thread, NULL, ask, it) != 0 || pthread_getcpuclockid(thread, &clock) != 0) exit(2);
-    while (before >= 0 && before < BEGUN) {
+    while (before >= 0 && before < it->begun) {
         nanosleep(&TURN, NULL);
         before = seconds_of(clock);
     }
@@ -143,22 +162,23 @@ static int is_stopped(struct asked *it) {
     for (int left = TRIES; left > 0; left--) {
         late = run_on(it);
         if (it->status != DIFFUSE_STATUS_STOPPED) break;
-        if (late <= LATE) return 1;
+        if (late <= it->late) return 1;
     }
     printf("%s: %s after %.3f s, %.3f s after the stop was set\n", it->name, diffuse_status_text(it->status), it->ended, late);
     return 0;
 }
 
 int main(void) {
-    struct asked each[] = {{"route", route, DIFFUSE_ALGEBRA_SHORTEST, 0, DIFFUSE_STATUS_NONE},
-                           {"route within", route, DIFFUSE_ALGEBRA_WITHIN, 0, DIFFUSE_STATUS_NONE},
-                           {"tree", tree, DIFFUSE_ALGEBRA_SHORTEST, 0, DIFFUSE_STATUS_NONE},
-                           {"near", near, DIFFUSE_ALGEBRA_SHORTEST, 0, DIFFUSE_STATUS_NONE},
-                           {"table by searches", far_table, DIFFUSE_ALGEBRA_SHORTEST, 0, DIFFUSE_STATUS_NONE},
-                           {"table of near targets", near_table, DIFFUSE_ALGEBRA_SHORTEST, 0, DIFFUSE_STATUS_NONE},
-                           {"table of near targets by hops", near_table, DIFFUSE_ALGEBRA_HOPS, 0, DIFFUSE_STATUS_NONE},
-                           {"table by factors", factored_table, DIFFUSE_ALGEBRA_SHORTEST, 0, DIFFUSE_STATUS_NONE},
-                           {"table by factors of a reweighed graph", reweighed_table, DIFFUSE_ALGEBRA_WITHIN, 0, DIFFUSE_STATUS_NONE}};
+    struct asked each[] = {{"route", route, DIFFUSE_ALGEBRA_SHORTEST, BEGUN, LATE, 0, DIFFUSE_STATUS_NONE},
+                           {"route within", route, DIFFUSE_ALGEBRA_WITHIN, BEGUN, LATE, 0, DIFFUSE_STATUS_NONE},
+                           {"tree", tree, DIFFUSE_ALGEBRA_SHORTEST, BEGUN, LATE, 0, DIFFUSE_STATUS_NONE},
+                           {"near", near, DIFFUSE_ALGEBRA_SHORTEST, BEGUN, LATE, 0, DIFFUSE_STATUS_NONE},
+                           {"table by searches", far_table, DIFFUSE_ALGEBRA_SHORTEST, BEGUN, LATE, 0, DIFFUSE_STATUS_NONE},
+                           {"table of near targets", near_table, DIFFUSE_ALGEBRA_SHORTEST, BEGUN, LATE, 0, DIFFUSE_STATUS_NONE},
+                           {"table of near targets by hops", near_table, DIFFUSE_ALGEBRA_HOPS, BEGUN, LATE, 0, DIFFUSE_STATUS_NONE},
+                           {"table by factors", factored_table, DIFFUSE_ALGEBRA_SHORTEST, BEGUN, LATE, 0, DIFFUSE_STATUS_NONE},
+                           {"table by factors of a reweighed graph", reweighed_table, DIFFUSE_ALGEBRA_WITHIN, BEGUN, LATE, 0, DIFFUSE_STATUS_NONE},
+                           {"tree by factors", factored_tree, DIFFUSE_ALGEBRA_SHORTEST, SWEPT, SWEPT, 0, DIFFUSE_STATUS_NONE}};
     numbers = (uint32_t *)list_of(MANY, sizeof *numbers);
     sources = (uint32_t *)list_of(ROWS, sizeof *sources);
     codes = (uint64_t *)list_of(ROWS, sizeof *codes);
@@ -167,10 +187,12 @@ int main(void) {
     expect(diffuse_stop_new(&stop), "new");
     open_wide();
     open_grid();
+    open_chain();
     for (size_t i = 0; i < sizeof each / sizeof *each; i++) printf("%s: %s\n", each[i].name, is_stopped(&each[i]) ? "stopped" : "wrong");
     diffuse_graph_close(&wide);
     diffuse_graph_close(&grid);
     diffuse_graph_close(&reweighed);
+    diffuse_graph_close(&chain);
     diffuse_stop_free(&stop);
     free(numbers), free(sources), free(codes);
     return 0;

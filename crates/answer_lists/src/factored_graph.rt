@@ -182,20 +182,24 @@ impl FactoredGraph {
         found
     }
 
-    /// The labels from some sources, and their tree.
+    /// The labels from some sources, and their tree; none if the stop is set before.
     pub(crate) fn tree<A: PathAlgebra>(
         &self,
         algebra: A,
         by_head: &InGraph,
         sources: &[Vertex],
-    ) -> Result<(Labels<A::Value>, Tree), Memory>
+        stop: &Option<Stop>,
+    ) -> Result<Option<(Labels<A::Value>, Tree)>, Memory>
         requires carried { IsCarried (A.meaning algebra) (cost_of self.now.algebra.cost) }
         requires by_head { by_head.now ≡ self.now.roads }
         requires sources { All (HasVertex self.now.roads) sources.now }
-        ensures labels { IfOk result (λ s. AreBest (A.meaning algebra) self.now.roads sources.now s.0) }
-        ensures tree { IfOk result (λ s. IsTree (A.meaning algebra) self.now.roads sources.now s.1) }
+        ensures labels { IfOk result (λ found. IfSome found (λ s.
+            AreBest (A.meaning algebra) self.now.roads sources.now s.0)) }
+        ensures tree { IfOk result (λ found. IfSome found (λ s.
+            IsTree (A.meaning algebra) self.now.roads sources.now s.1)) }
+        ensures stopped { IfOk result (λ found. found ≡ None → IsSome stop.now) }
     {
         self.factors
-            .solve_with_tree(self.alloc, algebra, by_head, sources)
+            .solve_with_tree_unless(self.alloc, algebra, by_head, sources, stop)
     }
 }

@@ -1,6 +1,6 @@
 //! A tree, written to three lists of the caller.
 
-ghost use Rattle.std.specs.Prelude.{◌≡◌, ◌↔◌, ◌∷◌, [], pos, true, false, IfOk, IsSome, IsTrue, Ok};
+ghost use Rattle.std.specs.Prelude.{◌≡◌, ◌↔◌, ◌∷◌, [], pos, true, false, IfOk, IfSome, IsSome, IsTrue, None, Ok};
 ghost use Rattle.std.specs.List.{All};
 ghost use Rattle.road_graph.specs.GraphData.{HasVertex};
 ghost use Rattle.path_algebra.specs.Choices.{OfAlgebra, Under};
@@ -23,34 +23,39 @@ use road_graph::{Memory, OutGraph, Vertex};
 use route_tree::Tree;
 use tree_search::solve_with_tree;
 
-/// The labels from some sources, and their tree.
+/// The labels from some sources, and their tree: by the factors, if there are any, or by a search
+/// that does not give up. None if the factors were swept and the stop is set before.
 fn solve<A: PathAlgebra>(
     algebra: A,
     shared: &mut SharedGraph,
+    stop: &Option<Stop>,
     sources: &[Vertex],
-) -> Result<(Labels<A::Value>, Tree), Memory>
+) -> Result<Option<(Labels<A::Value>, Tree)>, Memory>
     requires { All (HasVertex shared.old.roads) sources.now }
     ensures graph { shared.new ≡ shared.old }
-    ensures labels { IfOk result (λ s. AreBest (A.meaning algebra) shared.old.roads
-        sources.now s.0) }
-    ensures tree { IfOk result (λ s. IsTree (A.meaning algebra) shared.old.roads sources.now s.1) }
+    ensures labels { IfOk result (λ found. IfSome found (λ s. AreBest (A.meaning algebra)
+        shared.old.roads sources.now s.0)) }
+    ensures tree { IfOk result (λ found. IfSome found (λ s. IsTree (A.meaning algebra)
+        shared.old.roads sources.now s.1)) }
+    ensures stopped { IfOk result (λ found. found ≡ None → IsSome stop.now) }
 {
     let Some(factored) = shared.take_factored(algebra) else {
-        return solve_with_tree(shared.alloc(), algebra, shared.graph(), sources);
+        let found = solve_with_tree(shared.alloc(), algebra, shared.graph(), sources)?;
+        return Ok(Some(found));
     };
     let found = match shared.by_head() {
-        Ok(by_head) => factored.tree(algebra, &by_head, sources),
+        Ok(by_head) => factored.tree(algebra, &by_head, sources, stop),
         Err(Memory) => Err(Memory),
     };
     shared.put_factored(factored);
     found
 }
 
-/// Finds a tree and writes it: by the factors, if there are any, or by a search that does not give
-/// up.
+/// Finds a tree in this way and writes it.
 fn answer<A: PathAlgebra>(
     algebra: A,
     shared: &mut SharedGraph,
+    stop: &Option<Stop>,
     sources: &[Vertex],
     lists: &mut TreeLists<'_>,
 ) -> i32
@@ -62,14 +67,16 @@ fn answer<A: PathAlgebra>(
     ensures tree { result ≡ pos 0 → HaveTree (A.meaning algebra) shared.old.roads
         sources.now lists.new }
     ensures kept { (result ≡ pos 0 → ⊥) → AreUnwritten lists.old lists.new }
-    ensures status { IsOneOf (0 ∷ 3 ∷ []) result }
+    ensures stopped { result ≡ pos 45 → IsSome stop.now }
+    ensures status { IsOneOf (0 ∷ 3 ∷ 45 ∷ []) result }
 {
-    match solve(algebra, shared, sources) {
-        Ok((labels, tree)) => {
+    match solve(algebra, shared, stop, sources) {
+        Ok(Some((labels, tree))) => {
             let solution = Solution { labels, tree };
             write_lists(algebra, shared.graph(), sources, &solution, lists);
             DONE
         }
+        Ok(None) => STOPPED,
         Err(Memory) => MEMORY,
     }
 }
@@ -112,7 +119,7 @@ fn few_entries(graph: &OutGraph) -> u32 {
 }
 
 /// Finds a tree by the chosen algebra and writes it: on a factored graph by a search if that ends
-/// soon, and with a stop by one that looks at it.
+/// soon. If there is a stop, what finds it looks at that.
 fn answer_chosen(
     chosen: AlgebraChoice,
     shared: &mut SharedGraph,
@@ -150,7 +157,7 @@ fn answer_chosen(
             Err(Memory) => MEMORY,
         };
     }
-    with_algebra!(chosen, |algebra| answer(algebra, shared, &list, lists))
+    with_algebra!(chosen, |algebra| answer(algebra, shared, stop, &list, lists))
 }
 
 /// Whether so many places are one for each of n vertices, or none.

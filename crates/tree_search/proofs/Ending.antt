@@ -35,7 +35,7 @@ most (Some top ∷ marks) =
       top.hops + rest.0,
       elim [
         | zero ↦ (λ m e. let same : top ≡ m = (cc) in let n : m.hops ≡ top.hops = ap (λ q. q.hops) (sym same) in omega (arith, n))
-        | suc i ↦ (λ m e. let l = rest.1 i m e in omega (arith, l))
+        | suc i ↦ (λ m e. omega (arith, rest.1 i m e))
       ],
     )
 
@@ -65,9 +65,7 @@ module _ {V : Type 0} (A : Algebra V) (lawful : IsLawful A) (g : GraphData) (roa
   all_settled v m in_v e = elim (cases_Bool (get_or settled (v - 1) false)) [
     | inl t ↦ t
     | inr o ↦
-        let low = in_v.0 in
-        let high = in_v.1 in
-        let bad : None ≡ Some (key_of m) = sym (none (v - 1) (omega (arith, low, high)) o) ∙ read key_of marks v m e in cc
+        let bad : None ≡ Some (key_of m) = sym (none (v - 1) (omega (arith, in_v.0, in_v.1)) o) ∙ read key_of marks v m e in cc
   ]
 
   none_open : AnswersBestOpen A.no_worse labels settled g.vertices None
@@ -90,13 +88,12 @@ module _ {V : Type 0} (A : Algebra V) (lawful : IsLawful A) (g : GraphData) (roa
       ∙ same_no_worse A.no_worse lawful.ordered m.value
 
   between : (l : Option V) (w : ℕ) (o : Option V) → is_tight_between A l w o ≡ true → (y z : V) × (l ≡ Some y) × (o ≡ Some z) × ((u : V) × (A.extend y w ≡ Some u) × IsTrue (A.no_worse u z))
-  between None w o e = cc
-  between (Some y) w None e = cc
   between (Some y) w (Some z) e = (y, z, refl, refl, reached (A.extend y w) z e)
     where
       reached : (o : Option V) (z : V) → is_reached_by A.no_worse o z ≡ true → (u : V) × (o ≡ Some u) × IsTrue (A.no_worse u z)
       reached None z e = cc
       reached (Some u) z e = (u, refl, e)
+  between l w o e = cc
 
   -- what an arc that is tight by the values says of the marks of its ends
   tight_says : (a : ℕ) (t : Mark V) → HasArc g a → test a ≡ true → label_of marks (arc_of g a).tail ≡ Some t →
@@ -154,9 +151,7 @@ module _ {V : Type 0} (A : Algebra V) (lawful : IsLawful A) (g : GraphData) (roa
     at_sources = λ s c. let was = hopping.at_sources s c in (all_inside g sources inside s c, hops_at s was.0 was.1 ∙ ap (λ (j : ℕ). Some j) was.2);
     few = λ v j in_v e.
         let f = mark_of_hops v j e in
-        let l = (most marks).1 (v - 1) f.0 f.1 in
-        let n = f.2 in
-        omega (arith, l, n);
+        omega (arith, (most marks).1 (v - 1) f.0 f.1, f.2);
     adopted = λ v u in_v e.
         let p = parent_cases (label_of marks v) u (sym (parent_read v) ∙ e) in
         elim (hopping.given v p.0 in_v p.1) [

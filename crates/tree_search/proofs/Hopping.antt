@@ -30,6 +30,11 @@ pub record IsAdoption {V : Type 0} (A : Algebra V) (g : GraphData) (marks : List
   pub extends : A.extend near.value (arc_of g arc).weight ≡ Some m.value
   pub hops : m.hops ≡ near.hops + 1
 
+-- the same arc in other marks
+pub again : {V : Type 0} {A : Algebra V} {g : GraphData} {marks marks' : List (Option (Mark V))} {settled settled' : List Bool} {v : ℕ} {m : Mark V} (by : IsAdoption A g marks settled v m) →
+    IsSettled settled' (arc_of g by.arc).tail → label_of marks' (arc_of g by.arc).tail ≡ Some by.near → IsAdoption A g marks' settled' v m
+again by done at = record { arc = by.arc; has = by.has; head = by.head; tail = by.tail; done = done; near = by.near; at_tail = at; extends = by.extends; hops = by.hops }
+
 -- a mark is a source's, or some arc gave it
 abbrev pub IsGiven : {V : Type 0} → Algebra V → GraphData → List ℕ → List (Option (Mark V)) → List Bool → ℕ → Mark V → Type 0
 IsGiven A g sources marks settled v m =
@@ -182,9 +187,7 @@ module _ {V : Type 0} (A : Algebra V) (lawful : IsLawful A) (g : GraphData) (roa
 
       at_head : label_of after (arc_of g a).head ≡ Some new
       at_head =
-          let low = head_in.0 in
-          let high = head_in.1 in
-          let lt : (arc_of g a).head - 1 < length marks = omega (arith, low, high, marks_count) in
+          let lt : (arc_of g a).head - 1 < length marks = omega (arith, head_in.0, head_in.1, marks_count) in
           ap (λ (l : List (Option (Mark V))). label_of l (arc_of g a).head) taken.is ∙ get_or-set_same marks ((arc_of g a).head - 1) (Some new) None lt
 
       settled_stay : (v : ℕ) → HasVertex g v → IsSettled settled v → label_of after v ≡ label_of marks v
@@ -211,17 +214,7 @@ module _ {V : Type 0} (A : Algebra V) (lawful : IsLawful A) (g : GraphData) (roa
       given_after v m in_v e = elim (old_or_new v m in_v e) [
         | inl old ↦ elim (hopping.given v m in_v old) [
           | inl source ↦ inl source
-          | inr by ↦ inr (record {
-            arc = by.arc;
-            has = by.has;
-            head = by.head;
-            tail = by.tail;
-            done = by.done;
-            near = by.near;
-            at_tail = settled_stay (arc_of g by.arc).tail ((roads.ends by.arc by.has).0) by.done ∙ by.at_tail;
-            extends = by.extends;
-            hops = by.hops;
-          })
+          | inr by ↦ inr (again by by.done (settled_stay (arc_of g by.arc).tail ((roads.ends by.arc by.has).0) by.done ∙ by.at_tail))
         ]
         | inr now ↦ inr (record {
           arc = a;

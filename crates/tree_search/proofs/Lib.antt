@@ -7,6 +7,5 @@ mod Steps
 mod Opening
 mod Relaxing
 mod Rows
-mod Comparing
 mod Listing
 mod Waiting

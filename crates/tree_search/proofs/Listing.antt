@@ -66,9 +66,6 @@ module _ {V : Type 0} (A : Algebra V) (lawful : IsLawful A) (g : GraphData) (roa
     listed_dropped d = rw (d.marks, d.settled) listed
 
     module _ (v : ℕ) (s : Settles order A v old new) where
-      abbrev next_list : List ℕ
-      next_list = list ++ v ∷ []
-
       pass : Relaxes A g (s.index + 1) s.value s.hops old.marks new.marks
       pass = rw in_graph at s.relaxes
 
@@ -185,8 +182,7 @@ module _ {V : Type 0} (A : Algebra V) (lawful : IsLawful A) (g : GraphData) (roa
     pub all_found : (step : Step) → is_end step ≡ true → Proceeds order A step old new →
         AreNearest A g sources list × AreBest A g sources (values_in new.marks) × IsTree A g sources (record { hops = hops_in new.marks; parents = parents_in new.marks })
         × AreNoted g.vertices list new.marks new.settled
-    all_found (Settled v) end p = let bad : false ≡ true = end in cc
-    all_found Dropped end p = let bad : false ≡ true = end in cc
     all_found Ended end p =
         let f = last_round A lawful order same g roads sources inside old new in_graph between Ended end p in
         (nearest_last p, f.0, f.1, noted_last p)
+    all_found step end p = let bad : false ≡ true = end in cc

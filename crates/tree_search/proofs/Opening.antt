@@ -36,9 +36,8 @@ module _ {V : Type 0} (no_worse : V → V → Bool) (ordered : IsOrder no_worse)
           let read : get_or (set marks (s - 1) (Some (source_mark origin))) (v - 1) None ≡ Some m = sym (ap (λ (l : List (Option (Mark V))). label_of l v) (e ∙ taken.is)) ∙ f in
           elim (cases_eq (v - 1) (s - 1)) [
             | inl same ↦
-                let count = known.labels.count in
                 let len = length-map marks (option_map (λ (q : Mark V). q.value)) in
-                let inside : s - 1 < length marks = omega (arith, low, high, count, len) in
+                let inside : s - 1 < length marks = omega (arith, low, high, known.labels.count, len) in
                 let both : Some (source_mark origin) ≡ Some m =
                 sym (ap (λ (k : ℕ). get_or (set marks (s - 1) (Some (source_mark origin))) k None) same ∙ get_or-set_same marks (s - 1) (Some (source_mark origin)) None inside) ∙ read in
                 cc

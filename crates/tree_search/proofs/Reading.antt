@@ -56,53 +56,25 @@ module _ {V : Type 0} (no_worse : V → V → Bool) (ordered : IsOrder no_worse)
 
   second_way : is_better no_worse (label_of marks v) new ≡ false → is_lesser no_worse (label_of marks v) new ≡ true →
       marked no_worse marks v new ≡ set marks (v - 1) (Some new)
-  second_way e f =
-      ap (λ (b : Bool). cond b (set marks (v - 1) (Some new)) (cond (is_lesser no_worse (label_of marks v) new) (set marks (v - 1) (Some new)) marks)) e
-      ∙ ap (λ (b : Bool). cond b (set marks (v - 1) (Some new)) marks) f
+  second_way e f = cc
 
   third_way : is_better no_worse (label_of marks v) new ≡ false → is_lesser no_worse (label_of marks v) new ≡ false → marked no_worse marks v new ≡ marks
-  third_way e f =
-      ap (λ (b : Bool). cond b (set marks (v - 1) (Some new)) (cond (is_lesser no_worse (label_of marks v) new) (set marks (v - 1) (Some new)) marks)) e
-      ∙ ap (λ (b : Bool). cond b (set marks (v - 1) (Some new)) marks) f
+  third_way e f = cc
 
   outcome_of : (o : Option (Mark V)) → label_of marks v ≡ o → IsKept no_worse marks v new ⊎ IsTaken no_worse marks v new
-  outcome_of None e = inr (record {
-    is = first_way true (is_lesser no_worse (label_of marks v) new) refl (ap (λ (o : Option (Mark V)). is_better no_worse o new) e) refl;
-    over = λ old f. let bad : None ≡ Some old = sym e ∙ f in cc;
-  })
+  outcome_of None e = grind (arith, first_way)
   outcome_of (Some old) e =
       let better : is_better no_worse (label_of marks v) new ≡ not (by_number no_worse (key_of old) (key_of new)) = ap (λ (o : Option (Mark V)). is_better no_worse o new) e in
       let lesser : is_lesser no_worse (label_of marks v) new ≡ cond (by_number no_worse (key_of new) (key_of old)) (not (leb old.parent new.parent)) false =
       ap (λ (o : Option (Mark V)). is_lesser no_worse o new) e in
       let this : (other : Mark V) → label_of marks v ≡ Some other → old ≡ other = λ other f. (let both : Some old ≡ Some other = sym e ∙ f in cc) in
       elim (cases_Bool (by_number no_worse (key_of old) (key_of new))) [
-        | inr worse ↦ inr (record {
-          is = first_way true (is_lesser no_worse (label_of marks v) new) refl (better ∙ ap not worse) refl;
-          over = λ other f. subst (λ (m : Mark V). IsTrue (by_number no_worse (key_of new) (key_of m)) × (IsTrue (by_number no_worse (key_of m) (key_of new)) → new.parent ≤ m.parent)) (this other f)
-              (other_no_worse (by_number no_worse) (by_number_order no_worse ordered) (key_of old) (key_of new) worse, λ k. (let bad : true ≡ false = sym k ∙ worse in cc));
-        })
+        | inr worse ↦ grind (arith, first_way, not, other_no_worse)
         | inl fine ↦ elim (cases_Bool (by_number no_worse (key_of new) (key_of old))) [
-          | inr less ↦ inl (record {
-            same = third_way (better ∙ ap not fine) (lesser ∙ ap (λ (b : Bool). cond b (not (leb old.parent new.parent)) false) less);
-            old = old;
-            at = e;
-            fine = fine;
-            parent = λ k. let bad : true ≡ false = sym k ∙ less in cc;
-          })
+          | inr less ↦ inl (record { same = third_way (better ∙ ap not fine) (grind (arith, cond)); old = old; at = e; fine = fine; parent = λ k. grind arith })
           | inl both ↦ elim (leb_tells old.parent new.parent) [
-            | inl kept ↦ inl (record {
-              same = third_way (better ∙ ap not fine) (lesser ∙ ap (λ (b : Bool). cond b (not (leb old.parent new.parent)) false) both ∙ ap not kept.0);
-              old = old;
-              at = e;
-              fine = fine;
-              parent = λ k. kept.1;
-            })
-            | inr put ↦ inr (record {
-              is = second_way (better ∙ ap not fine) (lesser ∙ ap (λ (b : Bool). cond b (not (leb old.parent new.parent)) false) both ∙ ap not put.0);
-              over = λ other f. subst (λ (m : Mark V). IsTrue (by_number no_worse (key_of new) (key_of m)) ×
-                  (IsTrue (by_number no_worse (key_of m) (key_of new)) → new.parent ≤ m.parent)) (this other f)
-                  (both, λ k. let l = put.1 in omega (arith, l));
-            })
+            | inl kept ↦ inl (record { same = third_way (better ∙ ap not fine) (grind (arith, not, cond)); old = old; at = e; fine = fine; parent = λ k. kept.1 })
+            | inr put ↦ grind (arith, second_way, not, cond, leb)
           ]
         ]
       ]
@@ -113,10 +85,7 @@ module _ {V : Type 0} (no_worse : V → V → Bool) (ordered : IsOrder no_worse)
   -- what is offered is no worse: the label becomes its value
   taken_label : (o : Option (Mark V)) → ((old : Mark V) → o ≡ Some old → IsTrue (no_worse new.value old.value)) → improved no_worse (option_map (λ (m : Mark V). m.value) o) new.value ≡ Some new.value
   taken_label None over = refl
-  taken_label (Some old) over = elim (cases_Bool (no_worse old.value new.value)) [
-    | inr worse ↦ rw worse refl
-    | inl kept ↦ let same : old.value ≡ new.value = ordered.antisymmetric old.value new.value kept (over old refl) in rw kept (ap (λ (y : V). Some y) same)
-  ]
+  taken_label (Some old) over = grind (arith, cases_Bool)
 
   kept_label : (old : Mark V) → IsTrue (no_worse old.value new.value) → improved no_worse (Some old.value) new.value ≡ Some old.value
   kept_label old h = rw h refl
@@ -126,14 +95,4 @@ module _ {V : Type 0} (no_worse : V → V → Bool) (ordered : IsOrder no_worse)
 
   -- an offer of a mark is an offer of its value
   pub values_marked : values_in (marked no_worse marks v new) ≡ offered no_worse (values_in marks) v new.value
-  values_marked = elim outcome [
-    | inl kept ↦
-        let here : label_of (values_in marks) v ≡ Some kept.old.value = read (λ (m : Mark V). m.value) marks v kept.old kept.at in
-        let stays : improved no_worse (label_of (values_in marks) v) new.value ≡ label_of (values_in marks) v =
-        ap (λ (o : Option V). improved no_worse o new.value) here ∙ kept_label kept.old (told no_worse (key_of kept.old) (key_of new) kept.fine).0 ∙ sym here in
-        ap values_in kept.same ∙ sym (ap (λ (o : Option V). set (values_in marks) (v - 1) o) stays ∙ set-get_or (values_in marks) (v - 1) None)
-    | inr taken ↦
-        let becomes : improved no_worse (label_of (values_in marks) v) new.value ≡ Some new.value =
-        ap (λ (o : Option V). improved no_worse o new.value) label_is ∙ taken_label (label_of marks v) (λ old e. (told no_worse (key_of new) (key_of old) (taken.over old e).0).0) in
-        ap values_in taken.is ∙ map-set (option_map (λ (m : Mark V). m.value)) marks (v - 1) (Some new) ∙ sym (ap (λ (o : Option V). set (values_in marks) (v - 1) o) becomes)
-  ]
+  values_marked = grind (arith, outcome, read, kept_label, set-get_or, label_is, taken_label, map-set)

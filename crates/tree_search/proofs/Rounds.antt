@@ -16,7 +16,7 @@ use Rattle.tree_search.specs.Opening.{AreOpening}
 use Rattle.tree_search.specs.Searching.{Relaxes}
 use Rattle.tree_search.specs.declared.mark.Mark.{Mark}
 use Rattle.tree_search.proofs.Reading.{read, found}
-use Rattle.tree_search.proofs.Hopping.{Hopping, hopping_relaxed, stays_relaxed}
+use Rattle.tree_search.proofs.Hopping.{Hopping, again, hopping_relaxed, stays_relaxed}
 
 module _ {V : Type 0} (A : Algebra V) (lawful : IsLawful A) (g : GraphData) (roads : IsGraph g) (sources : List ℕ) where
   pub hopping_start : (marks : List (Option (Mark V))) → AreOpening A.origin g.vertices sources marks → Hopping A g sources marks (replicate g.vertices false) A.origin 0 []
@@ -50,7 +50,7 @@ module _ {V : Type 0} (A : Algebra V) (lawful : IsLawful A) (g : GraphData) (roa
   top_hops = ap (λ (p : V × ℕ). p.1) top.2
 
   top_in : HasVertex g (i + 1)
-  top_in = (omega arith, (let l = best.below in omega (arith, l)))
+  top_in = (omega arith, (omega (arith, best.below)))
 
   top_open : get_or settled ((i + 1) - 1) false ≡ false
   top_open = ap (λ (j : ℕ). get_or settled j false) place_is ∙ best.is_open
@@ -58,9 +58,7 @@ module _ {V : Type 0} (A : Algebra V) (lawful : IsLawful A) (g : GraphData) (roa
   -- no open key is better
   least_key : (v : ℕ) (m : Mark V) → HasVertex g v → get_or settled (v - 1) false ≡ false → label_of marks v ≡ Some m → IsTrue (by_number A.no_worse (y, k) (key_of m))
   least_key v m in_v o e =
-      let low = in_v.0 in
-      let high = in_v.1 in
-      best.least (v - 1) (omega (arith, low, high)) (key_of m) o (read key_of marks v m e)
+      best.least (v - 1) (omega (arith, in_v.0, in_v.1)) (key_of m) o (read key_of marks v m e)
 
   best_value : IsBestOpen A.no_worse (values_in marks) settled g.vertices i y
   best_value = record {
@@ -77,7 +75,7 @@ module _ {V : Type 0} (A : Algebra V) (lawful : IsLawful A) (g : GraphData) (roa
   still_settled : (v : ℕ) → HasVertex g v → IsSettled settled v → IsSettled (set settled i true) v
   still_settled v in_v t = elim (cases_eq (v - 1) i) [
     | inl same ↦
-        let lt : i < length settled = (let l = best.below in omega (arith, l, hopping.known.settled_count)) in
+        let lt : i < length settled = (omega (arith, best.below, hopping.known.settled_count)) in
         ap (λ (j : ℕ). get_or (set settled i true) j false) same ∙ get_or-set_same settled i true false lt
     | inr other ↦ get_or-set_other settled i (v - 1) true false other ∙ t
   ]
@@ -109,17 +107,7 @@ module _ {V : Type 0} (A : Algebra V) (lawful : IsLawful A) (g : GraphData) (roa
     at_sources = hopping.at_sources;
     given = λ v m in_v e. elim (hopping.given v m in_v e) [
       | inl source ↦ inl source
-      | inr by ↦ inr (record {
-        arc = by.arc;
-        has = by.has;
-        head = by.head;
-        tail = by.tail;
-        done = still_settled (arc_of g by.arc).tail ((roads.ends by.arc by.has).0) by.done;
-        near = by.near;
-        at_tail = by.at_tail;
-        extends = by.extends;
-        hops = by.hops;
-      })
+      | inr by ↦ inr (again by (still_settled (arc_of g by.arc).tail ((roads.ends by.arc by.has).0) by.done) by.at_tail)
     ];
     passed = λ a has t. elim (cases_eq (arc_of g a).tail (i + 1)) [
       | inl same ↦ inl ((lists.complete a).1 (has, same))
@@ -189,7 +177,7 @@ module _ {V : Type 0} (A : Algebra V) (lawful : IsLawful A) (g : GraphData) (roa
 
     pub round_now : IsSettled (set settled i true) (i + 1)
     round_now =
-        let lt : i < length settled = (let l = mine.below in omega (arith, l, between.hopping.known.settled_count)) in
+        let lt : i < length settled = (omega (arith, mine.below, between.hopping.known.settled_count)) in
         let place : (i + 1) - 1 ≡ i = omega arith in
         ap (λ (j : ℕ). get_or (set settled i true) j false) place ∙ get_or-set_same settled i true false lt
 

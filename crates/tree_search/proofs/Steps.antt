@@ -2,7 +2,7 @@
 -- to the end.
 use Rattle.std.proofs.Common.{◌≡◌, ℕ, zero, suc, ◌+◌, ◌-◌, ◌*◌, ◌<◌, ◌≤◌, inl, inr, Bool, true, false, cond, not, List, [], ◌∷◌, length, get_or, set, replicate, refl, ap, sym, ◌∙◌, subst, arith, Option, Some, None, length-set, get_or-set_same, get_or-set_other}
 use Rattle.std.proofs.lemmas.Bool.{cases_eq}
-use Rattle.std.proofs.lemmas.List.{length-map, map-set, length-replicate}
+use Rattle.std.proofs.lemmas.List.{length-map, map-set, length-replicate, get_or_default}
 use Rattle.std.proofs.Math.ListN.{get_or-map}
 use Rattle.std.proofs.Math.Seq.{map-set_same}
 use Rattle.std.proofs.lemmas.List.Sums.{sum_by-set}
@@ -35,22 +35,36 @@ none_there zero i = refl
 none_there (suc n) zero = refl
 none_there (suc n) (suc i) = none_there n i
 
-module _ {K V : Type 0} (key : K → V × ℕ) (place : K → ℕ) (order : V → V → Bool) (ordered : IsOrder order) (g : GraphData) where
-  -- nothing is there yet
-  pub search_opens : IsGraph g → IsSearch key place order g (replicate g.vertices None) (replicate g.vertices false) []
-  search_opens roads = record {
-    roads = roads;
-    marks_count = simp length-replicate;
-    settled_count = simp length-replicate;
-    few_hops = λ i m e. let bad : None ≡ Some m = sym (none_there g.vertices i) ∙ e in cc;
-    queue = record {
-      entries = λ e w. absurd (not_in_empty e w);
-      covers = λ k y lt o e.
-          let bad : None ≡ Some y = sym (get_or-map (option_map key_of) (replicate g.vertices None) k None ∙ ap (option_map key_of) (none_there g.vertices k)) ∙ e in cc;
-    };
-  }
+-- nothing is there yet
+pub search_opens : {K V : Type 0} {key : K → V × ℕ} {place : K → ℕ} {order : V → V → Bool} (g : GraphData) → IsGraph g →
+    IsSearch key place order g (replicate g.vertices None) (replicate g.vertices false) []
+search_opens g roads = record {
+  roads = roads;
+  marks_count = simp length-replicate;
+  settled_count = simp length-replicate;
+  few_hops = λ i m e. let bad : None ≡ Some m = sym (none_there g.vertices i) ∙ e in cc;
+  queue = record {
+    entries = λ e w. absurd (not_in_empty e w);
+    covers = λ k y lt o e.
+        let bad : None ≡ Some y = sym (get_or-map (option_map key_of) (replicate g.vertices None) k None ∙ ap (option_map key_of) (none_there g.vertices k)) ∙ e in cc;
+  };
+}
 
-module _ {K V : Type 0} (key : K → V × ℕ) (place : K → ℕ) (order : V → V → Bool) (ordered : IsOrder order) (g : GraphData) (marks : List (Option (Mark V))) (settled : List Bool) (items : List K)
+module _ {K V : Type 0} {key : K → V × ℕ} {place : K → ℕ} {order : V → V → Bool} {g : GraphData} {marks : List (Option (Mark V))} {settled : List Bool} {items : List K}
+    (known : IsSearch key place order g marks settled items) {top : K} {rest : List K} (moved : IsPermutation items (top ∷ rest)) where
+  pub top_place : place top < g.vertices
+  top_place =
+      let at = (known.queue.entries top (Contains-permutation (top ∷ rest) items top (IsPermutation-sym items (top ∷ rest) moved) (0, omega arith, refl))).0 in
+      omega (arith, at, length-map marks (option_map key_of), known.marks_count)
+
+  in_settled : place top < length settled
+  in_settled = omega (arith, top_place, known.settled_count)
+
+  -- whether it is settled, read as the code reads it
+  pub top_settled : (b : Bool) → b ≡ get_or settled (place top) b → get_or settled (place top) false ≡ b
+  top_settled b e = get_or_default settled (place top) false b in_settled ∙ sym e
+
+module _ {K V : Type 0} {key : K → V × ℕ} {place : K → ℕ} {order : V → V → Bool} (ordered : IsOrder order) {g : GraphData} {marks : List (Option (Mark V))} {settled : List Bool} {items : List K}
     (known : IsSearch key place order g marks settled items) where
   few_after : (i : ℕ) (new : Mark V) → i < length marks → new.hops + unsettled settled ≤ g.vertices → HaveFewHops g (set marks i (Some new)) settled
   few_after i new lt few j m e = elim (cases_eq j i) [
@@ -79,7 +93,7 @@ module _ {K V : Type 0} (key : K → V × ℕ) (place : K → ℕ) (order : V �
   pub search_offers : (i : ℕ) (new : Mark V) (entry : K) (next : List K) → i < length marks → is_better order (get_or marks i None) new ≡ true → new.hops + unsettled settled ≤ g.vertices →
       IsPermutation (entry ∷ items) next → key entry ≡ key_of new → place entry ≡ i → IsSearch key place order g (set marks i (Some new)) settled next
   search_offers i new entry next lt better few moved is_key is_place =
-      let keys_lt : i < length (keys_in marks) = (let n = length-map marks (option_map key_of) in omega (arith, lt, n)) in
+      let keys_lt : i < length (keys_in marks) = (omega (arith, lt, length-map marks (option_map key_of))) in
       let q = queue_offer key place (by_number order) (by_number_order order ordered) (keys_in marks) settled items known.queue i (key_of new) entry next keys_lt
       (λ y e. better_key (get_or marks i None) new better y (sym (key_at i) ∙ e)) moved is_key is_place in
       record {
@@ -117,18 +131,9 @@ module _ {K V : Type 0} (key : K → V × ℕ) (place : K → ℕ) (order : V �
         (sym (map-set_same (option_map key_of) marks i (Some new) None (same_key (get_or marks i None) new better lesser))) known.queue;
   }
 
-  module _ (top : K) (rest : List K) (moved : IsPermutation items (top ∷ rest)) where
-    pub top_place : place top < g.vertices
-    top_place =
-        let at = (known.queue.entries top (Contains-permutation (top ∷ rest) items top (IsPermutation-sym items (top ∷ rest) moved) (0, omega arith, refl))).0 in
-        let n = length-map marks (option_map key_of) in
-        omega (arith, at, n, known.marks_count)
-
-    in_settled : place top < length settled
-    in_settled = (let l = top_place in omega (arith, l, known.settled_count))
-
-    fewer : unsettled (set settled (place top) true) ≤ unsettled settled
-    fewer = let f = sum_by-set (λ (b : Bool). cond b 0 1) settled (place top) true false in_settled in omega (arith, f)
+  module _ {top : K} {rest : List K} (moved : IsPermutation items (top ∷ rest)) where
+    there : place top < length settled
+    there = in_settled known moved
 
     pub search_drops : get_or settled (place top) false ≡ true → IsSearch key place order g marks settled rest
     search_drops t = record {
@@ -144,17 +149,15 @@ module _ {K V : Type 0} (key : K → V × ℕ) (place : K → ℕ) (order : V �
       roads = known.roads;
       marks_count = known.marks_count;
       settled_count = simp length-set known.settled_count;
-      few_hops = λ i m e. let l = known.few_hops i m e in let f = fewer in omega (arith, l, f);
-      queue = queue_settle key place (by_number order) (by_number_order order ordered) (keys_in marks) settled items known.queue top rest moved in_settled;
+      few_hops = λ i m e. omega (arith, known.few_hops i m e, sum_by-set (λ (b : Bool). cond b 0 1) settled (place top) true false there);
+      queue = queue_settle key place (by_number order) (by_number_order order ordered) (keys_in marks) settled items known.queue top rest moved there;
     }
 
     module _ (o : get_or settled (place top) false ≡ false)
         (first : IsUpperBound (ranked_cmp (λ e. (key e).0) (λ e. (key e).1 * 4294967296 + place e) order) top items) where
       upper : IsUpperBound (ranked_cmp key place (by_number order)) top items
       upper = first_of_key key place order items top first (λ e h.
-          let l = (known.queue.entries e h).0 in
-          let n = length-map marks (option_map key_of) in
-          omega (arith, l, n, known.marks_count, known.roads.few_vertices))
+          omega (arith, (known.queue.entries e h).0, length-map marks (option_map key_of), known.marks_count, known.roads.few_vertices))
 
       best : IsBestOpen (by_number order) (keys_in marks) settled (length (keys_in marks)) (place top) (key top)
       best = queue_best key place (by_number order) (by_number_order order ordered) (keys_in marks) settled items known.queue top rest moved upper o
@@ -167,7 +170,7 @@ module _ {K V : Type 0} (key : K → V × ℕ) (place : K → ℕ) (order : V �
           let f = found key_of marks (place top + 1) (key top) (ap (λ (j : ℕ). get_or (keys_in marks) j None) s ∙ best.label) in
           let l = known.few_hops (place top) f.0 (ap (λ (j : ℕ). get_or marks j None) (sym s) ∙ f.1) in
           let n : f.0.hops ≡ (key top).1 = ap (λ (k : V × ℕ). k.1) f.2 in
-          let d = sum_by-set (λ (b : Bool). cond b 0 1) settled (place top) true false in_settled in
+          let d = sum_by-set (λ (b : Bool). cond b 0 1) settled (place top) true false there in
           let was : unsettled (set settled (place top) true) + 1 ≡ unsettled settled + 0 = rw o at d in
           omega (arith, l, n, was)
 
@@ -217,8 +220,6 @@ module _ {C V : Type 0} (A : Algebra V) (lawful : IsLawful A) (order : V → V �
   pub last_round : (step : Step) → is_end step ≡ true → Proceeds order A step old new →
       AreBest A g sources (values_in new.marks) × IsTree A g sources (record { hops = hops_in new.marks; parents = parents_in new.marks })
       × IsLinked (record { hops = hops_in new.marks; parents = parents_in new.marks })
-  last_round (Settled v) end p = let bad : false ≡ true = end in cc
-  last_round Dropped end p = let bad : false ≡ true = end in cc
   last_round Ended end p =
       let count = keys_count A lawful g roads sources inside order same old.marks old.settled between in
       rw p.advances.0 (
@@ -226,13 +227,14 @@ module _ {C V : Type 0} (A : Algebra V) (lawful : IsLawful A) (order : V → V �
         tree_is_found A lawful g roads sources inside old.marks old.settled between.level between.hops between.hopping (λ j lt. p.advances.2 j (rw count lt)),
         linked_found A lawful g roads sources inside old.marks old.settled between.level between.hops between.hopping (λ j lt. p.advances.2 j (rw count lt)),
       )
+  last_round step end p = let bad : false ≡ true = end in cc
 
   -- one more settled vertex outweighs what its arcs put into the queue
   pub nearer_settled : (v : ℕ) → Settles order A v old new →
       unsettled new.settled * (length g.arcs + 1) + new.waiting < unsettled old.settled * (length g.arcs + 1) + old.waiting
   nearer_settled v s =
       let n = keys_count A lawful g roads sources inside order same old.marks old.settled between in
-      let lt : s.index < length old.settled = (let l = s.best.below in omega (arith, l, n, between.hopping.known.settled_count)) in
+      let lt : s.index < length old.settled = (omega (arith, s.best.below, n, between.hopping.known.settled_count)) in
       let f = sum_by-set (λ (b : Bool). cond b 0 1) old.settled s.index true false lt in
       let was : unsettled (set old.settled s.index true) + 1 ≡ unsettled old.settled + 0 = rw s.best.is_open at f in
       let is : unsettled old.settled ≡ unsettled (set old.settled s.index true) + 1 = omega arith in

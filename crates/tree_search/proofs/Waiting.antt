@@ -27,9 +27,7 @@ module _ {C V : Type 0} (order : V → V → Bool) (A : Algebra V) (g : GraphDat
     ];
     all = λ u in_u t. elim (cases_eq (u - 1) (v - 1)) [
       | inl same ↦
-          let low = in_u.0 in
-          let low_v = there.0 in
-          let one : v ≡ u = omega (arith, same, low, low_v) in
+          let one : v ≡ u = omega (arith, same, in_u.0, there.0) in
           subst (λ (w : ℕ). Contains (list ++ v ∷ []) w) one (Contains-push list v)
       | inr other ↦ Contains-append_left list (v ∷ []) u (listed.all u in_u (sym (get_or-set_other old.settled (v - 1) (u - 1) true false other) ∙ t))
     ];
@@ -52,8 +50,6 @@ module _ {C V : Type 0} (order : V → V → Bool) (A : Algebra V) (g : GraphDat
 
   -- at the end each vertex with a mark is on the list
   pub all_listed : (step : Step) → is_end step ≡ true → Forgoes order A step old new → AreNoted g.vertices list new.marks new.settled
-  all_listed (Settled v) end f = let bad : false ≡ true = end in cc
-  all_listed Dropped end f = let bad : false ≡ true = end in cc
   all_listed Ended end f = rw (f.rests.0, f.rests.1) (record {
     inside = λ v c. listed.inside v c;
     others = λ v low high. elim (cases_Bool (get_or old.settled (v - 1) false)) [
@@ -64,3 +60,4 @@ module _ {C V : Type 0} (order : V → V → Bool) (A : Algebra V) (g : GraphDat
       ]
     ];
   })
+  all_listed step end f = let bad : false ≡ true = end in cc

@@ -1,4 +1,5 @@
 //! The marks of all vertices, in the lists that labels and trees are made of.
+#![tactic(auto, using(crate::proofs::Rows::counts))]
 
 ghost use Rattle.std.specs.Prelude.{◌≡◌, ◌<◌, cond, eqb, false, length, replicate, IfOk, None, Some, slice_index_or, slice_set};
 ghost use Rattle.path_plain.specs.Noting.{AreNoted};

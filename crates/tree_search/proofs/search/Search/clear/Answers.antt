@@ -4,7 +4,5 @@ use Rattle.tree_search.proofs.search.Search.clear.Goals as goal
 
 pub invariant_of-self : goal.invariant_of-self
 invariant_of-self g c =
-    let laws = g.met.A.PathAlgebra g.world.𝓛 g.world.𝓜 g.world.𝓡 ((λ s x. x), (λ x. x), (λ x. x), λ x. x) in
     let n : length c.self.inside.marks ≡ c.self.inside.graph.value.vertices = c.self.invariant.marks_count in
-    rw (c.put_back.ensures.marks, c.put_back.ensures.settled, n, c.clear.ensures)
-    (search_opens (λ o. (o.value, o.rank.hops)) (λ o. o.rank.place) g.A.PathAlgebra.order laws.ordered c.self.inside.graph.value c.self.invariant.roads)
+    rw (c.put_back.ensures.marks, c.put_back.ensures.settled, n, c.clear.ensures) (search_opens c.self.inside.graph.value c.self.invariant.roads)

@@ -6,11 +6,9 @@ pub invariant_of-result : goal.invariant_of-result
 invariant_of-result g c =
     let n = c.args.graph.now.vertices in
     let count : c.vertices-n.result ≡ n = c.vertices-n.ensures.count in
-    let laws = g.met.A.PathAlgebra g.world.𝓛 g.world.𝓜 g.world.𝓡 ((λ s x. x), (λ x. x), (λ x. x), λ x. x) in
     let marks : c.in_ok-marks.marks ≡ replicate n None = c.in_ok-marks.ensures ∙ ap (λ (k : ℕ). replicate k None) count in
     let settled : c.in_ok-settled.settled.items ≡ replicate n false = c.in_ok-settled.ensures.items_if_clones_equal (λ y h. search rules) ∙ ap (λ (k : ℕ). replicate k false) count in
-    rw (c.of.ensures, marks, settled, c.new-2.ensures)
-    (search_opens (λ o. (o.value, o.rank.hops)) (λ o. o.rank.place) g.A.PathAlgebra.order laws.ordered c.args.graph.now c.vertices-n.ensures.roads)
+    rw (c.of.ensures, marks, settled, c.new-2.ensures) (search_opens c.args.graph.now c.vertices-n.ensures.roads)
 
 pub returns-clause-blank : goal.returns-clause-blank
 returns-clause-blank g c =

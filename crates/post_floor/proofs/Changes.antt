@@ -84,10 +84,10 @@ module _ {S V : Type 0} (meaning : S → Algebra V) (t : SetupData S) (L : AllLa
       New = gone meaning t v u e (done_by meaning items b d T)
 
       inside : k < length s.words
-      inside = let wide = r.wide in omega (arith, wide, lt)
+      inside = omega (arith, r.wide, lt)
 
       here : get_elem? homes' k ≡ some c.now
-      here = ap (λ (z : List (Option (Slot V))). get_elem? z k) c.homes_are ∙ set_here s.homes k c.now (let l = r.roomy in omega (arith, l, lt))
+      here = ap (λ (z : List (Option (Slot V))). get_elem? z k) c.homes_are ∙ set_here s.homes k c.now (omega (arith, r.roomy, lt))
 
       others : (j : ℕ) → j ≢ k → get_elem? homes' j ≡ get_elem? s.homes j
       others j ne = ap (λ (z : List (Option (Slot V))). get_elem? z j) c.homes_are ∙ set_else s.homes k j c.now ne
@@ -104,8 +104,8 @@ module _ {S V : Type 0} (meaning : S → Algebra V) (t : SetupData S) (L : AllLa
           (total (read_claims j) (set s.views id New))
       box_there j jl ne =
           let p : get_or s.words j 0 ≡ get_or (set s.words k n') j 0 = sym (get_or-set_other s.words k j n' 0 ne) in
-          let f : total (fill_claims j) s.views ≡ total (fill_claims j) (set s.views id New) = let a = total_set (fill_claims j) s.views id v New at in let y = c.fills j ne in omega (arith, a, y) in
-          let g : total (read_claims j) s.views ≡ total (read_claims j) (set s.views id New) = let a = total_set (read_claims j) s.views id v New at in let y = c.reads j ne in omega (arith, a, y) in
+          let f : total (fill_claims j) s.views ≡ total (fill_claims j) (set s.views id New) = omega (arith, total_set (fill_claims j) s.views id v New at, c.fills j ne) in
+          let g : total (read_claims j) s.views ≡ total (read_claims j) (set s.views id New) = omega (arith, total_set (read_claims j) s.views id v New at, c.reads j ne) in
           subst (λ (z : ℕ × Place V × ℕ × ℕ). MailboxInvariant t j z.0 z.1 z.2 z.3) (λ i. (p i, sym (others j ne) i, f i, g i)) (r.boxes j jl)
 
       pub changes : FloorInvariant meaning t (record { words = set s.words k n'; homes = homes'; views = set s.views id New })
@@ -113,8 +113,8 @@ module _ {S V : Type 0} (meaning : S → Algebra V) (t : SetupData S) (L : AllLa
       changes =
           let n : ℕ = t.plan.shards in
           let G = goes_on meaning t L W s r id v u b d e items T (in_transit n (set s.words k n') homes') at one c.lists
-          (λ h. let p = mail_at n s.words s.homes homes' k n' h lt inside others in let q = c.weighs h in
-          let z = ap (box (h (dest n k)) n') here in omega (arith, p, q, z)) in
+          (λ h. let q = c.weighs h in
+          let z = ap (box (h (dest n k)) n') here in omega (arith, mail_at n s.words s.homes homes' k n' h lt inside others, q, z)) in
           let done_same : get_or (set s.words k n') (box_count n) 0 ≡ get_or s.words (box_count n) 0 = get_or-set_other s.words k (box_count n) n' 0 (λ q. omega (arith, q, lt)) in (
             record {
               events = r.events ++ map event_of items;

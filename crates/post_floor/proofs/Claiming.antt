@@ -24,7 +24,7 @@ module _ (f : ℕ → ℕ) (P : ℕ → Type 0) (apart : (x y : ℕ) → P x →
   none_there x [] p a z = refl
   none_there x (y ∷ ys) p a z = elim (cases_eq (f x) (f y)) [
     | inl e ↦ absurd (let q : is x x ≡ is x y = ap (is x) (apart x y p a.0 e) in let s = is_self x in omega (arith, q, s, z))
-    | inr ne ↦ (let q = is_else (f x) (f y) ne in let r = none_there x ys p a.1 (omega (arith, z)) in omega (arith, q, r))
+    | inr ne ↦ (let r = none_there x ys p a.1 (omega (arith, z)) in omega (arith, is_else (f x) (f y) ne, r))
   ]
 
   once_there : (j : ℕ) (xs : List ℕ) → All P xs → ((k : ℕ) → total (is k) xs ≤ 1) → total (λ y. is j (f y)) xs ≤ 1
@@ -33,18 +33,17 @@ module _ (f : ℕ → ℕ) (P : ℕ → Type 0) (apart : (x y : ℕ) → P x →
     | inl e ↦ (let o = once x in let s = is_self x in
         let n : total (λ y. is j (f y)) xs ≡ 0 = ap (λ z. total (λ y. is z (f y)) xs) e ∙ none_there x xs a.0 a.1 (omega (arith, o, s)) in
         let m : is j (f x) ≡ is (f x) (f x) = ap (λ z. is z (f x)) e in let q = is_self (f x) in omega (arith, n, m, q))
-    | inr ne ↦ (let q = is_else j (f x) ne in let r = once_there j xs a.1 (λ k. let o = once k in omega (arith, o)) in omega (arith, q, r))
+    | inr ne ↦ (let r = once_there j xs a.1 (λ k. let o = once k in omega (arith, o)) in omega (arith, is_else j (f x) ne, r))
   ]
 
   scatter : (xs : List ℕ) (n : ℕ) → All (λ x. f x < n) xs → sum_below (λ j. total (λ y. is j (f y)) xs) n ≡ length xs
   scatter [] n a = sum_zero (λ _. 0) n (λ _. refl)
   scatter (x ∷ xs) n a =
-      let r = scatter xs n a.1 in
       let p = sum_at (λ j. is j (f x) + total (λ y. is j (f y)) xs) (λ j. total (λ y. is j (f y)) xs) (f x) n a.0 (λ j ne. let z = is_else j (f x) ne in omega (arith, z)) in
-      let s = is_self (f x) in omega (arith, r, p, s)
+      omega (arith, scatter xs n a.1, p, is_self (f x))
 
   pub at_most : (xs : List ℕ) (n : ℕ) → All P xs → All (λ x. f x < n) xs → ((k : ℕ) → total (is k) xs ≤ 1) → length xs ≤ n
-  at_most xs n a b once = let s = scatter xs n b in let m = sum_most (λ j. total (λ y. is j (f y)) xs) (λ _. 1) n (λ j. once_there j xs a once) in let o = sum_ones n in omega (arith, s, m, o)
+  at_most xs n a b once = let m = sum_most (λ j. total (λ y. is j (f y)) xs) (λ _. 1) n (λ j. once_there j xs a once) in let o = sum_ones n in omega (arith, scatter xs n b, m, o)
 
 -- the place of a mailbox among those with an end at the shard s: first those that come from it,
 -- then the others
@@ -75,8 +74,8 @@ module _ (n s : ℕ) where
 
   place_low : (k : ℕ) → HasEnd n s k → place n s k < 8 * n
   place_low k h = let b = ends k h in let l = low_part k in elim (cases_eq (k / 4 / n) s) [
-    | inl e ↦ (let p = place_from k e in let d = b.1 in omega (arith, p, d, l))
-    | inr ne ↦ (let p = place_to k ne in let o = b.0 in omega (arith, p, o, l))
+    | inl e ↦ (omega (arith, place_from k e, b.1, l))
+    | inr ne ↦ (omega (arith, place_to k ne, b.0, l))
   ]
 
   place_apart : (j k : ℕ) → HasEnd n s j → HasEnd n s k → place n s j ≡ place n s k → j ≡ k
@@ -85,7 +84,7 @@ module _ (n s : ℕ) where
       elim (cases_eq (j / 4 / n) s) [
         | inl f ↦ (let p = place_from j f in elim (cases_eq (k / 4 / n) s) [
           | inl g ↦ (let q = place_from k g in rebuilt j k (f ∙ sym g) (omega (arith, p, q, e, lj, lk)) (omega (arith, p, q, e, lj, lk)))
-          | inr ne ↦ absurd (let q = place_to k ne in let d = bj.1 in omega (arith, p, q, e, d, lj, lk))
+          | inr ne ↦ absurd (omega (arith, p, place_to k ne, e, bj.1, lj, lk))
         ])
         | inr ne ↦ (let p = place_to j ne in elim (cases_eq (k / 4 / n) s) [
           | inl g ↦ absurd (let q = place_from k g in let d = bk.1 in omega (arith, p, q, e, d, lj, lk))
@@ -107,11 +106,11 @@ module _ {S V : Type 0} (t : SetupData S) (s : ℕ) where
   claims_more v w slots claims k o free end more = record {
     keys = ap (λ (z : List ℕ). k ∷ z) o.keys;
     empty = (refl, o.empty);
-    open_now = λ j. let a = o.open_now j in let b = more j in omega (arith, a, b);
+    open_now = λ j. omega (arith, o.open_now j, more j);
     once = λ j. elim (cases_eq j k) [
       | inl e ↦ (let f : is j k ≡ is k k = ap (λ z. is z k) e in let q = is_self k in let g : total (is j) claims ≡ total (is k) claims = ap (λ z. total (is z) claims) e in
-          let a = o.open_now k in let x = free.0 in let y = free.1 in omega (arith, f, q, g, a, x, y))
-      | inr ne ↦ (let q = is_else j k ne in let a = o.once j in omega (arith, q, a))
+          omega (arith, f, q, g, o.open_now k, free.0, free.1))
+      | inr ne ↦ (omega (arith, is_else j k ne, o.once j))
     ];
     own = (end, o.own);
   }
@@ -132,8 +131,8 @@ module _ {S V : Type 0} (t : SetupData S) (s : ℕ) where
       let o' : AreOpen t s v (x ∷ xs) (x.0 ∷ map (λ z. z.0) xs) = subst (AreOpen t s v (x ∷ xs)) (sym keys) o in record {
         keys = refl;
         empty = o'.empty.1;
-        open_now = λ j. let a = o'.open_now j in let b = less j in let f : is j x.0 ≡ is j k = ap (is j) is_k in omega (arith, a, b, f);
-        once = λ j. let a = o'.once j in omega (arith, a);
+        open_now = λ j. let f : is j x.0 ≡ is j k = ap (is j) is_k in omega (arith, o'.open_now j, less j, f);
+        once = λ j. omega (arith, o'.once j);
         own = o'.own.1;
       })
 

@@ -92,8 +92,8 @@ module _ {S V : Type 0} (meaning : S → Algebra V) (t : SetupData S) where
       notes n' steps seen stays ends sees =
           let w : View S V = after (record v { steps = steps; seen = seen }) in
           let G = goes_on meaning t L W s r id v (record v { steps = steps; seen = seen }) b d d items T (in_transit n (set s.words (box_count n) n') s.homes) at sh.parts (unchanged meaning t d)
-          (λ h. let m = mail_done n s.words s.homes n' h in omega (arith, m)) in
-          let word : get_or (set s.words (box_count n) n') (box_count n) 0 ≡ n' = get_or-set_same s.words (box_count n) n' 0 (let l = r.wide in omega (arith, l)) in
+          (λ h. omega (arith, mail_done n s.words s.homes n' h)) in
+          let word : get_or (set s.words (box_count n) n') (box_count n) 0 ≡ n' = get_or-set_same s.words (box_count n) n' 0 (omega (arith, r.wide)) in
           let else' : (j : ℕ) → j < box_count n → get_or (set s.words (box_count n) n') j 0 ≡ get_or s.words j 0 = λ j lt. get_or-set_other s.words (box_count n) j n' 0 (λ e. omega (arith, e, lt)) in
           let over : n' ≡ done_now → HasEnded (core_of meaning t events) = λ e. ends e G.share G.setup in (
             record {
@@ -106,7 +106,7 @@ module _ {S V : Type 0} (meaning : S → Algebra V) (t : SetupData S) where
               own = G.own;
               best = G.best;
               boxes = λ j jl. let f : total (fill_claims j) s.views ≡ total (fill_claims j) (set s.views id w) = let a = total_set (fill_claims j) s.views id v w at in omega (arith, a) in
-                  let g : total (read_claims j) s.views ≡ total (read_claims j) (set s.views id w) = let a = total_set (read_claims j) s.views id v w at in omega (arith, a) in
+                  let g : total (read_claims j) s.views ≡ total (read_claims j) (set s.views id w) = omega (arith, total_set (read_claims j) s.views id v w at) in
                   subst (λ (z : ℕ × ℕ × ℕ). MailboxInvariant t j z.0 (get_elem? s.homes j) z.1 z.2) (λ i. (sym (else' j jl) i, f i, g i)) (r.boxes j jl);
               done = λ o. over (sym word ∙ o);
               seen = λ i y a sn. word ∙ (elim (at_set s.views id i w y a) [ inl z ↦ sees (ap (λ (x : View S V). x.seen) z.1 ∙ sn) | inr z ↦ stays (r.seen i y z.1 sn) ]);

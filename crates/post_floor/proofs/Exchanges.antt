@@ -101,7 +101,7 @@ module _ {S V : Type 0} (meaning : S → Algebra V) (t : SetupData S) where
       ok = r.boxes k lt
 
       inside : k < length s.words
-      inside = let wide = r.wide in omega (arith, wide, lt)
+      inside = omega (arith, r.wide, lt)
 
       shard : d.shard ≡ b.shard
       shard = (handled_same meaning items b d T).1
@@ -119,8 +119,8 @@ module _ {S V : Type 0} (meaning : S → Algebra V) (t : SetupData S) where
       -- a mailbox that is neither being filled nor being read has no claim
       unclaimed : is filling y ≡ 0 → is reading y ≡ 0 → Unclaimed k me.0
       unclaimed no_fill no_read = (
-        (let p = total_at (fill_claims k) s.views id me.0 at in let z = ok.fills_is in omega (arith, p, z, no_fill)),
-        (let p = total_at (read_claims k) s.views id me.0 at in let z = ok.reads_is in omega (arith, p, z, no_read)),
+        (omega (arith, total_at (fill_claims k) s.views id me.0 at, ok.fills_is, no_fill)),
+        (omega (arith, total_at (read_claims k) s.views id me.0 at, ok.reads_is, no_read)),
       )
 
       -- a mailbox whose slot is out
@@ -154,9 +154,9 @@ module _ {S V : Type 0} (meaning : S → Algebra V) (t : SetupData S) where
             now = none;
             homes_are = refl;
             weighs = λ h. let p : box (h to) y (get_elem? s.homes k) ≡ 0 = ap (λ (z : ℕ). box (h to) z (get_elem? s.homes k)) hit in omega (arith, p);
-            fills = λ j ne. let p = is_else j k ne in omega (arith, p);
+            fills = λ j ne. omega (arith, is_else j k ne);
             reads = λ j ne. refl;
-            fill = let p = is_self k in let q : is filling y ≡ 0 = ap (is filling) hit in omega (arith, p, q);
+            fill = let q : is filling y ≡ 0 = ap (is filling) hit in omega (arith, is_self k, q);
             read = let q : is reading y ≡ 0 = ap (is reading) hit in omega (arith, q);
             valid = is_out filling (omega arith) (λ z. omega (arith, z)) (λ z. omega (arith, z));
             seen = refl;
@@ -194,7 +194,7 @@ module _ {S V : Type 0} (meaning : S → Algebra V) (t : SetupData S) where
             fills = λ j ne. refl;
             reads = λ j ne. let p = is_else j k ne in omega (arith, p);
             fill = let p : is filling y ≡ 0 = ap (is filling) hit in omega (arith, p);
-            read = let p = is_self k in let z : is reading y ≡ 0 = ap (is reading) hit in omega (arith, p, z);
+            read = let z : is reading y ≡ 0 = ap (is reading) hit in omega (arith, is_self k, z);
             valid = is_out reading (omega arith) (λ z. omega (arith, z)) (λ z. omega (arith, z));
             seen = refl;
             ordered = receiver n s.words s.views id me.0 (after u q) b q at sh.parts refl shard r.whole refl refl r.ordered
@@ -231,11 +231,10 @@ module _ {S V : Type 0} (meaning : S → Algebra V) (t : SetupData S) where
             now = some (std.Some (buffer xs (mailbox_capacity t k)));
             homes_are = ap (put_back s.homes) held;
             weighs = λ h. let f : Item V → ℕ = h to in let p : box f y (get_elem? s.homes k) ≡ 0 = ap (λ (z : ℕ). box f z (get_elem? s.homes k)) (sym was) in
-                let o = outs_none h 0 to d.outs in
-                let z : total (h (0 + to)) xs ≡ total (h to) xs = ap (λ (i : ℕ). total (h i) xs) (let w : 0 + to ≡ to = omega arith in w) in omega (arith, p, o, z);
+                let z : total (h (0 + to)) xs ≡ total (h to) xs = ap (λ (i : ℕ). total (h i) xs) (let w : 0 + to ≡ to = omega arith in w) in omega (arith, p, outs_none h 0 to d.outs, z);
             fills = λ j ne. without_else j k me.0.fills ne;
             reads = λ j ne. refl;
-            fill = let p = without_same k me.0.fills claim in let z : is filling y ≡ 1 = ap (is filling) (sym was) in omega (arith, p, z);
+            fill = let z : is filling y ≡ 1 = ap (is filling) (sym was) in omega (arith, without_same k me.0.fills claim, z);
             read = let z : is reading y ≡ 0 = ap (is reading) (sym was) in omega (arith, z);
             valid = record {
               low = omega arith;
@@ -272,7 +271,7 @@ module _ {S V : Type 0} (meaning : S → Algebra V) (t : SetupData S) where
             fills = λ j ne. refl;
             reads = λ j ne. without_else j k me.0.reads ne;
             fill = let z : is filling y ≡ 0 = ap (is filling) (sym was) in omega (arith, z);
-            read = let p = without_same k me.0.reads claim in let z : is reading y ≡ 1 = ap (is reading) (sym was) in omega (arith, p, z);
+            read = let z : is reading y ≡ 1 = ap (is reading) (sym was) in omega (arith, without_same k me.0.reads claim, z);
             valid = record {
               low = omega arith;
               fills_is = refl;

@@ -117,25 +117,21 @@ module _ {S V : Type 0} (meaning : S → Algebra V) (t : SetupData S) where
         let own0 = all_parts (λ (p : PartData S V). OwnOutboxIsEmpty p) P.before (b ∷ P.after) (subst (All (λ (p : PartData S V). OwnOutboxIsEmpty p)) P.now r.own) in record {
           shown = subst (λ (d' : CoreState V). Represents meaning t (flat (set s.views id w)) mail' d') is_c (subst (λ (l : List (PartData S V)). Represents meaning t l mail' c') (sym views') sw');
           whole = λ j lt. let f : PartData S V → ℕ = λ p. is j p.shard in
-              let o = r.whole j lt in let x = ap (total f) P.now in let y = ap (total f) views' in let x' = total_append f P.before (b ∷ P.after) in let y' = total_append f P.before (e ∷ P.after) in
-              let z : f e ≡ f b = ap (is j) (R.shard ∙ k.1) in omega (arith, o, x, y, x', y', z);
+              let y' = total_append f P.before (e ∷ P.after) in
+              let z : f e ≡ f b = ap (is j) (R.shard ∙ k.1) in omega (arith, r.whole j lt, ap (total f) P.now, ap (total f) views', total_append f P.before (b ∷ P.after), y', z);
           below = (let B = all_parts (λ (p : PartData S V). p.shard < t.plan.shards) P.before (b ∷ P.after) (subst (All (λ (p : PartData S V). p.shard < t.plan.shards)) P.now r.below) in
               subst (All (λ (p : PartData S V). p.shard < t.plan.shards)) (sym views')
               (all_append (λ (p : PartData S V). p.shard < t.plan.shards) P.before (e ∷ P.after) B.0
               (subst (λ z. z < t.plan.shards) (sym (R.shard ∙ k.1)) B.1.0, B.1.1)));
           counts = record {
             sent = (let a = total_set (λ (z : View S V). z.sent) s.views id v w at in let q = r.counts.sent in
-                let m = sent_more A N (opening A N) r.events more in
-                let z : n.sent ≡ (totals_from A N c more).sent = ap (λ (y : Totals). y.sent) M.did in omega (arith, a, q, m, z));
+                let z : n.sent ≡ (totals_from A N c more).sent = ap (λ (y : Totals). y.sent) M.did in omega (arith, a, q, sent_more A N (opening A N) r.events more, z));
             delivered = (let a = total_set (λ (z : View S V). z.delivered) s.views id v w at in let q = r.counts.delivered in
-                let m = delivered_more A N (opening A N) r.events more in
-                let z : n.delivered ≡ (totals_from A N c more).delivered = ap (λ (y : Totals). y.delivered) M.did in omega (arith, a, q, m, z));
+                let z : n.delivered ≡ (totals_from A N c more).delivered = ap (λ (y : Totals). y.delivered) M.did in omega (arith, a, q, delivered_more A N (opening A N) r.events more, z));
             signalled = (let a = total_set (λ (z : View S V). z.signalled) s.views id v w at in let q = r.counts.signalled in
-                let m = signalled_more A N (opening A N) r.events more in
-                let z : n.signalled ≡ (totals_from A N c more).signalled = ap (λ (y : Totals). y.signalled) M.did in omega (arith, a, q, m, z));
+                let z : n.signalled ≡ (totals_from A N c more).signalled = ap (λ (y : Totals). y.signalled) M.did in omega (arith, a, q, signalled_more A N (opening A N) r.events more, z));
             accepted = (let a = total_set (λ (z : View S V). z.accepted) s.views id v w at in let q = r.counts.accepted in
-                let m = accepted_more A N (opening A N) r.events more in
-                let z : n.accepted ≡ (totals_from A N c more).accepted = ap (λ (y : Totals). y.accepted) M.did in omega (arith, a, q, m, z));
+                let z : n.accepted ≡ (totals_from A N c more).accepted = ap (λ (y : Totals). y.accepted) M.did in omega (arith, a, q, accepted_more A N (opening A N) r.events more, z));
           };
           share = subst (λ (d' : CoreState V). HoldsShareIn A N (place_in t) d' e) is_c (shown_holds A N (place_in t) P.before P.after e mail' c' sw);
           setup = setup;
@@ -145,5 +141,5 @@ module _ {S V : Type 0} (meaning : S → Algebra V) (t : SetupData S) where
               let X = lone meaning t s r planned one.0 P.before P.after b P.now in
               best_first_more A N (opening A N) r.events more (r.best planned one)
               (all_best meaning L t W one.1 items b d c (kept_core r.events) all0.1.0 (all_parts (HoldsTables A N (place_in t) c) P.before (b ∷ P.after) H0.shown.tables).1.0
-              (λ h. let x = H0.shown.weighs h in let y = X.weighs h in let z = X.none h in omega (arith, x, y, z)) X.all own0.1.0 T));
+              (λ h. omega (arith, H0.shown.weighs h, X.weighs h, X.none h)) X.all own0.1.0 T));
         }

@@ -26,8 +26,8 @@ module _ {S V : Type 0} where
   of_first : (ps : List (PartData S V)) → All (λ (p : PartData S V). p.shard < 1) ps → total (λ (p : PartData S V). is 0 p.shard) ps ≡ length ps
   of_first [] a = refl
   of_first (p ∷ ps) a =
-      let l = a.0 in let z : is 0 p.shard ≡ is 0 0 = ap (is 0) (let e : p.shard ≡ 0 = omega (arith, l) in e) in let o = is_self 0 in
-      let r = of_first ps a.1 in omega (arith, z, o, r)
+      let z : is 0 p.shard ≡ is 0 0 = ap (is 0) (let e : p.shard ≡ 0 = omega (arith, a.0) in e) in let o = is_self 0 in
+      omega (arith, z, o, of_first ps a.1)
 
 module _ {S V : Type 0} (meaning : S → Algebra V) (t : SetupData S) (s : State (Slot V) (View S V)) (r : FloorInvariant meaning t s) (P : IsPlanned t 0) (one : t.plan.shards ≡ 1)
     (before after : List (PartData S V)) (b : PartData S V) (now : flat s.views ≡ before ++ b ∷ after) where
@@ -57,5 +57,5 @@ module _ {S V : Type 0} (meaning : S → Algebra V) (t : SetupData S) (s : State
     weighs = λ h. (
         let n = alone in let l = length-append before (b ∷ after) in
         let x = total_short (part_weight h) before (omega (arith, n, l)) in let y = total_short (part_weight h) after (omega (arith, n, l)) in
-        let z = total_append (part_weight h) before (b ∷ after) in omega (arith, x, y, z));
+        omega (arith, x, y, total_append (part_weight h) before (b ∷ after)));
   }

@@ -23,14 +23,9 @@ use Rattle.post_floor.specs.declared.view.View.{View}
 use Rattle.post_floor.specs.Boxes.{box_count, mailbox, dest}
 use Rattle.post_floor.specs.Floor.{Slot, flat, CountsNone, box, in_transit, empty_slot, words_between, MailboxInvariant, FloorInvariant}
 use Rattle.post_floor.specs.Seats.{knows}
-use Rattle.post_floor.proofs.Opened.{get_zero}
+use Rattle.post_floor.proofs.Opened.{get_same}
 use Rattle.post_floor.proofs.Order.{fresh_order}
 use Rattle.post_floor.proofs.Ordering.{only}
-
-none_out : {X : Type 0} (n k : ℕ) → ◌≡◌ {A = List X} (get_or (replicate n []) k []) []
-none_out zero k = refl
-none_out (suc n) zero = refl
-none_out (suc n) (suc k) = none_out n k
 
 module _ {S V : Type 0} (A : Algebra V) (t : SetupData S) where
   -- each shard has a part
@@ -43,7 +38,7 @@ module _ {S V : Type 0} (A : Algebra V) (t : SetupData S) where
 
   sent_are : (k n : ℕ) → total (λ (p : PartData S V). p.sent) (opened_parts A t k n) ≡ total (λ (p : PartData S V). is (place_in t 0) p.shard) (opened_parts A t k n)
   sent_are k zero = refl
-  sent_are k (suc n) = let r = sent_are (suc k) n in omega (arith, r)
+  sent_are k (suc n) = omega (arith, sent_are (suc k) n)
 
   all_below : (m k n : ℕ) → k + n ≤ m → All (λ (p : PartData S V). p.shard < m) (opened_parts A t k n)
   all_below m k zero l = tt
@@ -51,7 +46,7 @@ module _ {S V : Type 0} (A : Algebra V) (t : SetupData S) where
 
   all_own : (k n : ℕ) → All (λ (p : PartData S V). OwnOutboxIsEmpty p) (opened_parts A t k n)
   all_own k zero = tt
-  all_own k (suc n) = (none_out t.plan.shards k, all_own (suc k) n)
+  all_own k (suc n) = (get_same [] t.plan.shards k, all_own (suc k) n)
 
 module _ {S V : Type 0} (meaning : S → Algebra V) (t : SetupData S) (P : IsPlanned t 0) where
   pub opens : (ws : List ℕ) (xs : List (Slot V)) → ws ≡ replicate (box_count t.plan.shards + 1) 0 → length xs ≡ box_count t.plan.shards
@@ -62,7 +57,7 @@ module _ {S V : Type 0} (meaning : S → Algebra V) (t : SetupData S) (P : IsPla
       let ps : List (PartData S V) = opened_parts (meaning t.diffusion.algebra) t 0 n in
       let v : View S V = knows n ps in
       let hs : List (Option (Slot V)) = map some xs in
-      let zero_at : (k : ℕ) → get_or ws k 0 ≡ 0 = λ k. ap (λ (z : List ℕ). get_or z k 0) zeros ∙ get_zero (box_count n + 1) k in
+      let zero_at : (k : ℕ) → get_or ws k 0 ≡ 0 = λ k. ap (λ (z : List ℕ). get_or z k 0) zeros ∙ get_same 0 (box_count n + 1) k in
       let none' : (h : ℕ → Item V → ℕ)
       → in_transit n ws hs h ≡ 0 =
       λ h. sum_below_same (λ k. box (h (dest n k)) (get_or ws k 0) (get_elem? hs k)) (λ _. 0) (box_count n)
@@ -76,9 +71,8 @@ module _ {S V : Type 0} (meaning : S → Algebra V) (t : SetupData S) (P : IsPla
         idle = λ id u a none''. subst (λ (z : View S V). z.parts ≡ [] → CountsNone z) (only v id u a)
             (λ q. record { sent = ap (total (λ (p : PartData S V). p.sent)) q; delivered = refl; signalled = refl; accepted = refl }) none'';
         counts = record {
-          sent = (let a = sent_are (meaning t.diffusion.algebra) t 0 n in
-              let b = one_each (meaning t.diffusion.algebra) t (place_in t 0) 0 n (omega arith) (let l = place_below t 0 P 0 in omega (arith, l)) in
-              omega (arith, a, b));
+          sent = (let b = one_each (meaning t.diffusion.algebra) t (place_in t 0) 0 n (omega arith) (let l = place_below t 0 P 0 in omega (arith, l)) in
+              omega (arith, sent_are (meaning t.diffusion.algebra) t 0 n, b));
           delivered = refl;
           signalled = refl;
           accepted = refl;
@@ -99,6 +93,6 @@ module _ {S V : Type 0} (meaning : S → Algebra V) (t : SetupData S) (P : IsPla
         wide = ap length zeros ∙ length-replicate (box_count n + 1) 0;
         roomy = length-map xs some ∙ wide;
         ordered = λ i j u w p q a b' _ _ _. fresh_order (words_between n ws p.shard q.shard) (get_or w.next_read p.shard 0) (get_or u.next_fill q.shard 0)
-            (ap (λ (z : View S V). get_or z.next_read p.shard 0) (sym (only v j w b')) ∙ get_zero n p.shard)
-            (ap (λ (z : View S V). get_or z.next_fill q.shard 0) (sym (only v i u a)) ∙ get_zero n q.shard) (λ x. zero_at (mailbox n p.shard q.shard x));
+            (ap (λ (z : View S V). get_or z.next_read p.shard 0) (sym (only v j w b')) ∙ get_same 0 n p.shard)
+            (ap (λ (z : View S V). get_or z.next_fill q.shard 0) (sym (only v i u a)) ∙ get_same 0 n q.shard) (λ x. zero_at (mailbox n p.shard q.shard x));
       }

@@ -15,38 +15,38 @@ after_is : (j a : ℕ) → a < 4 → j ≤ 4 → ((a + j < 4) × (slot_after a j
 after_is zero a l m = inl (omega (arith, l), omega arith)
 after_is (suc j) a l m = elim (next_is a l) [
   | inl n ↦ (let e : slot_after a (suc j) ≡ slot_after 0 j = ap (λ z. slot_after z j) n.1 in let o = n.0 in elim (after_is j 0 (omega arith) (omega (arith, m))) [
-    | inl r ↦ inr ((omega (arith, o), (let q = r.1 in omega (arith, e, q, o))))
-    | inr r ↦ absurd (let q = r.0 in omega (arith, q, m))
+    | inl r ↦ inr ((omega (arith, o), (omega (arith, e, r.1, o))))
+    | inr r ↦ absurd (omega (arith, r.0, m))
   ])
   | inr n ↦ (let e : slot_after a (suc j) ≡ slot_after (a + 1) j = ap (λ z. slot_after z j) n.1 in elim (after_is j (a + 1) n.0 (omega (arith, m))) [
-    | inl r ↦ inl ((let q = r.0 in omega (arith, q)), (let q = r.1 in omega (arith, e, q)))
-    | inr r ↦ inr ((let q = r.0 in omega (arith, q)), (let q = r.1 in omega (arith, e, q)))
+    | inl r ↦ inl ((omega (arith, r.0)), (omega (arith, e, r.1)))
+    | inr r ↦ inr ((omega (arith, r.0)), (omega (arith, e, r.1)))
   ])
 ]
 
 pub after_low : (a j : ℕ) → a < 4 → j ≤ 4 → slot_after a j < 4
 after_low a j l m = elim (after_is j a l m) [
-  | inl r ↦ (let p = r.0 in let q = r.1 in omega (arith, p, q))
-  | inr r ↦ (let q = r.1 in omega (arith, q, l, m))
+  | inl r ↦ (omega (arith, r.0, r.1))
+  | inr r ↦ (omega (arith, r.1, l, m))
 ]
 
 -- after four comes the same
 after_four : (a : ℕ) → a < 4 → slot_after a 4 ≡ a
 after_four a l = elim (after_is 4 a l (omega arith)) [
-  | inl r ↦ absurd (let p = r.0 in omega (arith, p))
-  | inr r ↦ (let q = r.1 in omega (arith, q))
+  | inl r ↦ absurd (omega (arith, r.0))
+  | inr r ↦ (omega (arith, r.1))
 ]
 
 -- the four slots are different ones
 after_apart : (a i j : ℕ) → a < 4 → i < 4 → j < 4 → slot_after a i ≡ slot_after a j → i ≡ j
 after_apart a i j l li lj e = elim (after_is i a l (omega (arith, li))) [
   | inl r ↦ elim (after_is j a l (omega (arith, lj))) [
-    | inl q ↦ (let x = r.1 in let y = q.1 in omega (arith, x, y, e))
-    | inr q ↦ absurd (let x = r.1 in let y = q.1 in omega (arith, x, y, e, li, lj))
+    | inl q ↦ (omega (arith, r.1, q.1, e))
+    | inr q ↦ absurd (omega (arith, r.1, q.1, e, li, lj))
   ]
   | inr r ↦ elim (after_is j a l (omega (arith, lj))) [
-    | inl q ↦ absurd (let x = r.1 in let y = q.1 in omega (arith, x, y, e, li, lj))
-    | inr q ↦ (let x = r.1 in let y = q.1 in omega (arith, x, y, e))
+    | inl q ↦ absurd (omega (arith, r.1, q.1, e, li, lj))
+    | inr q ↦ (omega (arith, r.1, q.1, e))
   ]
 ]
 
@@ -57,16 +57,16 @@ after_onto a x l m = elim (cases_lt x a) [
     y,
     omega (arith, b, l),
     elim (after_is y a l (omega (arith, b, l))) [
-      | inl q ↦ absurd (let p = q.0 in omega (arith, p, b, l))
-      | inr q ↦ (let p = q.1 in omega (arith, p, b, l))
+      | inl q ↦ absurd (omega (arith, q.0, b, l))
+      | inr q ↦ (omega (arith, q.1, b, l))
     ],
   ))
   | inr b ↦ (let y : ℕ = x - a in (
     y,
     omega (arith, m),
     elim (after_is y a l (omega (arith, m))) [
-      | inl q ↦ (let p = q.1 in omega (arith, p, b))
-      | inr q ↦ absurd (let p = q.0 in omega (arith, p, b, m))
+      | inl q ↦ (omega (arith, q.1, b))
+      | inr q ↦ absurd (omega (arith, q.0, b, m))
     ],
   ))
 ]
@@ -119,7 +119,7 @@ module _ (word word' : ℕ → ℕ) (read fill : ℕ) (o : AreInOrder word read 
           | inl f ↦ elim w [ inl z ↦ omega (arith, same, f, z) | inr z ↦ omega (arith, same, f, z) ]
           | inr r ↦ (let f = r.1 in elim w [ inl z ↦ omega (arith, same, f, z) | inr z ↦ omega (arith, same, f, z) ])
         ])
-    | inr ne ↦ (let few = o.few in omega (arith, ne, few))
+    | inr ne ↦ (omega (arith, ne, o.few))
   ]
 
   -- the sender begins to fill
@@ -169,7 +169,7 @@ module _ (word word' : ℕ → ℕ) (read fill : ℕ) (o : AreInOrder word read 
   -- the receiver begins to read
   pub order_read : word read ≡ full → word' read ≡ reading → Elsewhere read word word' → AreInOrder word' read fill
   order_read was now else' =
-      let more = some_taken (inl was) in let few = o.few in
+      let few = o.few in
       let at : (j : ℕ) → j < 4 → j ≢ 0 → word' (slot j) ≡ word (slot j) = λ j l ne.
       else' (slot j) (after_low read j o.low (omega (arith, l))) (λ e. ne (after_apart read j 0 o.low l (omega arith) e)) in record {
         low = o.low;
@@ -180,16 +180,16 @@ module _ (word word' : ℕ → ℕ) (read fill : ℕ) (o : AreInOrder word read 
           | inl e ↦ inr (e, ap (λ z. word' (slot z)) e ∙ now)
           | inr ne ↦ (let e = at j (omega (arith, l, few)) ne in elim (o.taken j l) [ inl w ↦ inl (e ∙ w) | inr w ↦ absurd (ne w.0) ])
         ];
-        free = λ j m l. let e = at j l (λ q. omega (arith, q, m, more)) in elim (o.free j m l) [ inl w ↦ inl (e ∙ w) | inr w ↦ inr (w.0, e ∙ w.1) ];
+        free = λ j m l. let e = at j l (λ q. omega (arith, q, m, some_taken (inl was))) in elim (o.free j m l) [ inl w ↦ inl (e ∙ w) | inr w ↦ inr (w.0, e ∙ w.1) ];
       }
 
   -- the receiver has read
   pub order_clear : word read ≡ reading → word' read ≡ empty → Elsewhere read word word' → AreInOrder word' (next_slot read) fill
   order_clear was now else' =
-      let more = some_taken (inr was) in let few = o.few in
+      let few = o.few in
       let at : (j : ℕ) → suc j < 4 → word' (slot (suc j)) ≡ word (slot (suc j)) = λ j l.
       else' (slot (suc j)) (after_low read (suc j) o.low (omega (arith, l))) (λ e. absurd (let q = after_apart read (suc j) 0 o.low l (omega arith) e in omega (arith, q))) in
-      let less : suc (o.count - 1) ≡ o.count = omega (arith, more) in record {
+      let less : suc (o.count - 1) ≡ o.count = omega (arith, some_taken (inr was)) in record {
         low = after_low read 1 o.low (omega arith);
         count = o.count - 1;
         few = omega (arith, few);

@@ -95,7 +95,7 @@ module _ {S V : Type 0} {meaning : S → Algebra V} {f : FloorData S} {d : SeatD
             (λ i. mailbox (sym count i) from s ((e ∙ ap (λ l. get_or l from 0) (sym inv.read)) i)));
         out = out;
         roomy = roomy;
-        few = (let l = few_claims t s v slots claims out in omega (arith, l, count, roomy));
+        few = (omega (arith, few_claims t s v slots claims out, count, roomy));
         below = subst (λ z. s < z) shards inv.below;
         knows = ap (λ (z : SeatData S V). z.knows) (sym dd);
         same = ap (λ (z : SeatData S V). z.shard) (sym dd);
@@ -149,10 +149,10 @@ module _ {S V : Type 0} {meaning : S → Algebra V} {f : FloorData S} {d : SeatD
 
     -- it is in the ring
     pub fill_ring : {k b : ℕ} → k ≡ b → 0 < fill_claims b d.knows → 0 < total (is k) claims
-    fill_ring {k} e c = let o = z.out.open_now k in let m = fill_claim e c in omega (arith, o, m)
+    fill_ring {k} e c = omega (arith, z.out.open_now k, fill_claim e c)
 
     pub read_ring : {k b : ℕ} → k ≡ b → 0 < read_claims b d.knows → 0 < total (is k) claims
-    read_ring {k} e c = let o = z.out.open_now k in let m = read_claim e c in omega (arith, o, m)
+    read_ring {k} e c = omega (arith, z.out.open_now k, read_claim e c)
 
     -- a pass that knows the same
     pub still_at : {id' : TableId} {v' : View S V} → id' ≡ id → v' ≡ v → AtTable meaning fid t id' v' p
@@ -203,7 +203,7 @@ module _ {S V : Type 0} {meaning : S → Algebra V} {f : FloorData S} {d : SeatD
         let sums : (j : ℕ) → fill_claims j w + read_claims j w ≡ is j k + (fill_claims j v + read_claims j v) = λ j. (λ i. total (is j) (went.fills i) + total (is j) (went.reads i)) ∙ more j in
         let out : AreOpen t s w ((k, empty_slot t k) ∷ slots) (k ∷ claims) = claims_more t s v w slots claims k z.out free end sums in
         let l = few_claims t s w ((k, empty_slot t k) ∷ slots) (k ∷ claims) out in
-        let all : ring.items ≡ k ∷ claims = ap (λ (b : Buffer ℕ). b.items) ring_is ∙ take_all room (k ∷ claims) (let c = z.count in let r = z.roomy in omega (arith, l, c, r)) in
+        let all : ring.items ≡ k ∷ claims = ap (λ (b : Buffer ℕ). b.items) ring_is ∙ take_all room (k ∷ claims) (omega (arith, l, z.count, z.roomy)) in
         let at_home : slots' ≡ (k, empty_slot t k) ∷ slots = slots_are ∙ ap (λ (x : SetupData S). (k, empty_slot x k) ∷ slots) setup in
         again id' w q slots' ring.items ring.capacity next_fill next_read setup shard went.shows.parts (went.next_fill ∙ nf ∙ z.fill) (went.next_read ∙ nr ∙ z.read) z.fill_slots z.read_slots
         (subst (λ l. AreOpen t s w l ring.items) (sym at_home) (subst (AreOpen t s w ((k, empty_slot t k) ∷ slots)) (sym all) out)) (ap (λ (b : Buffer ℕ). b.capacity) ring_is)
@@ -229,16 +229,16 @@ pub fill_less : {S V : Type 0} (v : View S V) (k to x j : ℕ) → 0 < fill_clai
     → is j k + (fill_claims j (at_word k x (end_fill to k v)) + read_claims j (at_word k x (end_fill to k v))) ≡ fill_claims j v + read_claims j v
 fill_less v k to x j c = elim (cases_eq j k) [
   | inl e ↦ subst (λ z. is z k + (total (is z) (without k v.fills) + total (is z) v.reads) ≡ total (is z) v.fills + total (is z) v.reads) (sym e)
-      (let w = without_same k v.fills c in let s = is_self k in omega (arith, w, s))
-  | inr ne ↦ (let w = without_else j k v.fills ne in let s = is_else j k ne in omega (arith, w, s))
+      (omega (arith, without_same k v.fills c, is_self k))
+  | inr ne ↦ (omega (arith, without_else j k v.fills ne, is_else j k ne))
 ]
 
 pub read_less : {S V : Type 0} (v : View S V) (k from x j : ℕ) → 0 < read_claims k v
     → is j k + (fill_claims j (at_word k x (end_read from k v)) + read_claims j (at_word k x (end_read from k v))) ≡ fill_claims j v + read_claims j v
 read_less v k from x j c = elim (cases_eq j k) [
   | inl e ↦ subst (λ z. is z k + (total (is z) v.fills + total (is z) (without k v.reads)) ≡ total (is z) v.fills + total (is z) v.reads) (sym e)
-      (let w = without_same k v.reads c in let s = is_self k in omega (arith, w, s))
-  | inr ne ↦ (let w = without_else j k v.reads ne in let s = is_else j k ne in omega (arith, w, s))
+      (omega (arith, without_same k v.reads c, is_self k))
+  | inr ne ↦ (omega (arith, without_else j k v.reads ne, is_else j k ne))
 ]
 
 -- the same step, of the mailbox and the view as callers name them
@@ -252,7 +252,7 @@ moved_on {next} {items} {to} {at} e j is_x is_y = (λ i. set (e i) (sym j i) (ne
 -- the slot that is read from a row
 pub slot_at : {n : ℕ} {next : List ℕ} {at to x : ℕ} → AreSlots n next → at ≡ to → to < n → x ≡ get_or next at x → (x ≡ get_or next to 0) × (x < 4)
 slot_at {n} {next} {at} {to} {x} h j lt is =
-    let e : x ≡ get_or next to 0 = get_or_read next at x (let l = h.long in omega (arith, l, j, lt)) is 0 ∙ ap (λ k. get_or next k 0) j in (e, subst (λ k. k < 4) (sym e) (h.low to))
+    let e : x ≡ get_or next to 0 = get_or_read next at x (omega (arith, h.long, j, lt)) is 0 ∙ ap (λ k. get_or next k 0) j in (e, subst (λ k. k < 4) (sym e) (h.low to))
 
 -- a row that has moved on
 pub row_next : {n : ℕ} {next : List ℕ} {at to x y : ℕ} → AreSlots n next → at ≡ to → x ≡ get_or next to 0 → y ≡ next_slot x → AreSlots n (set next at y)

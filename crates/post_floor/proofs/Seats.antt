@@ -23,7 +23,7 @@ use Rattle.post_floor.proofs.Totals.{total_set}
 use Rattle.post_floor.proofs.Parts.{flat_total, flat_each, flat_at}
 
 pub total_snoc : {A : Type 0} (f : A → ℕ) (xs : List A) (y : A) → total f (xs ++ y ∷ []) ≡ total f xs + f y
-total_snoc f xs y = let p = total_append f xs (y ∷ []) in omega (arith, p)
+total_snoc f xs y = omega (arith, total_append f xs (y ∷ []))
 
 total_cut : {A : Type 0} (f : A → ℕ) (xs : List A) → total f (tail xs) + total f (first_alone xs) ≡ total f xs
 total_cut f [] = refl
@@ -85,8 +85,8 @@ module _ {S V : Type 0} (meaning : S → Algebra V) (t : SetupData S) where
           same = c.all (λ (p : PartData S V). p.setup ≡ t) r.shown.same;
           shown = record {
             tables = c.all (HoldsTables (meaning t.diffusion.algebra) (network_of t) (place_in t) (core_of meaning t r.events)) r.shown.shown.tables;
-            weighs = λ h. let w = r.shown.shown.weighs h in let q = flat_same (part_weight h) in omega (arith, w, q);
-            apart = λ j. let w = r.shown.shown.apart j in let q = flat_same (λ (p : PartData S V). is j p.shard) in omega (arith, w, q);
+            weighs = λ h. let q = flat_same (part_weight h) in omega (arith, r.shown.shown.weighs h, q);
+            apart = λ j. let q = flat_same (λ (p : PartData S V). is j p.shard) in omega (arith, r.shown.shown.apart j, q);
           };
         };
         whole = λ j lt. flat_same (λ (p : PartData S V). is j p.shard) ∙ r.whole j lt;
@@ -125,7 +125,7 @@ module _ {S V : Type 0} (meaning : S → Algebra V) (t : SetupData S) where
   splits_as id v l w c s r at =
       let views' : List (View S V) = set s.views id l ++ w ∷ [] in
       let sums : (f : View S V → ℕ) → f l + f w ≡ f v → total f views' ≡ total f s.views = λ f e. let p = total_snoc f (set s.views id l) w in
-      let q = total_set f s.views id v l at in omega (arith, p, q, e) in
+      omega (arith, p, total_set f s.views id v l at, e) in
       let where' : (Q : View S V → Type 0) → ((i : ℕ) (u : View S V) → get_elem? s.views i ≡ some u → Q u) → Q l → Q w → (i : ℕ) (u : View S V)
       → get_elem? views' i ≡ some u → Q u = λ Q old ql qw i u e.
       elim (at_snoc (set s.views id l) w u i e) [
@@ -213,14 +213,14 @@ module _ {S V : Type 0} (meaning : S → Algebra V) (t : SetupData S) where
         accepted = sums (λ (u : View S V). u.accepted) refl refl;
         idle = λ old. where' (λ (u : View S V). u.parts ≡ [] → CountsNone u) old
             (λ q. let x = old id v at (none_left v.parts w.parts q) in let y = old other w was (none_right v.parts w.parts q) in record {
-              sent = (let a = x.sent in let c' = y.sent in omega (arith, a, c'));
-              delivered = (let a = x.delivered in let c' = y.delivered in omega (arith, a, c'));
-              signalled = (let a = x.signalled in let c' = y.signalled in omega (arith, a, c'));
-              accepted = (let a = x.accepted in let c' = y.accepted in omega (arith, a, c'));
+              sent = (omega (arith, x.sent, y.sent));
+              delivered = (omega (arith, x.delivered, y.delivered));
+              signalled = (omega (arith, x.signalled, y.signalled));
+              accepted = (omega (arith, x.accepted, y.accepted));
             })
             (λ q. record { sent = refl; delivered = refl; signalled = refl; accepted = refl });
         seen = λ D old. where' (λ (u : View S V). u.seen ≡ true → D) old (λ q. elim (or_cases v.seen w.seen q) [ inl z ↦ old id v at z | inr z ↦ old other w was z ]) (λ z. absurd cc);
-        were = where' (WasThere s) (λ i u a n p P. (i, u, a, P, refl, refl)) (λ n p P. absurd (let l = P.fills in let m = P.below in omega (arith, l, m)))
+        were = where' (WasThere s) (λ i u a n p P. (i, u, a, P, refl, refl)) (λ n p P. absurd (omega (arith, P.fills, P.below)))
             (λ n p P. absurd (some-ne-none p (sym P.has)));
       })
 

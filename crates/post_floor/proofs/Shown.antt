@@ -12,7 +12,7 @@ module _ {V : Type 0} (A : Algebra V) (ordered : IsOrder A.no_worse) (shows : �
 
   still_below : (k : ℕ) (o : Option V) → IfSome o (IsShownBelow k) → IfSome o (IsShownBelow (k + 1))
   still_below k None h = tt
-  still_below k (Some x) h = (h.0, (let l = h.1 in omega (arith, l)), h.2, h.3)
+  still_below k (Some x) h = (h.0, (omega (arith, h.1)), h.2, h.3)
 
   self : (x : V) → IsTrue (A.no_worse x x)
   self x = elim (ordered.total x x) [ inl t ↦ t | inr t ↦ t ]

@@ -43,7 +43,7 @@ all_at P (y ∷ ys) (suc i) x a e = all_at P ys i x a.1 e
 
 all_zero : {A : Type 0} (f : A → ℕ) (xs : List A) → All (λ x. f x ≡ 0) xs → total f xs ≡ 0
 all_zero f [] a = refl
-all_zero f (x ∷ xs) a = let p = a.0 in let q = all_zero f xs a.1 in omega (arith, p, q)
+all_zero f (x ∷ xs) a = omega (arith, a.0, all_zero f xs a.1)
 
 all_map : {A : Type 0} (P Q : A → Type 0) (xs : List A) → ((i : ℕ) (x : A) → get_elem? xs i ≡ some x → P x → Q x) → All P xs → All Q xs
 all_map P Q [] h a = tt
@@ -67,9 +67,8 @@ module _ {S V : Type 0} (meaning : S → Algebra V) (t : SetupData S) (s : State
   at_rest k lt =
       let ok = r.boxes k lt in let w : ℕ = get_or s.words k 0 in let low = ok.low in
       let f = total_none (fill_claims k) s.views (λ id v at. still.fills k id v at) in let g = total_none (read_claims k) s.views (λ id v at. still.reads k id v at) in
-      let fi = ok.fills_is in let re = ok.reads_is in
-      let nf : w ≢ filling = λ e. let a : is filling w ≡ is filling filling = ap (is filling) e in let b = is_self filling in omega (arith, f, fi, a, b) in
-      let nr : w ≢ reading = λ e. let a : is reading w ≡ is reading reading = ap (is reading) e in let b = is_self reading in omega (arith, g, re, a, b) in
+      let nf : w ≢ filling = λ e. let a : is filling w ≡ is filling filling = ap (is filling) e in let b = is_self filling in omega (arith, f, ok.fills_is, a, b) in
+      let nr : w ≢ reading = λ e. let a : is reading w ≡ is reading reading = ap (is reading) e in let b = is_self reading in omega (arith, g, ok.reads_is, a, b) in
       elim (cases_eq w empty) [ inl e ↦ inl e | inr ne ↦ inr (omega (arith, low, nf, nr, ne)) ]
 
   -- each shard's part has a view
@@ -95,8 +94,7 @@ module _ {S V : Type 0} (meaning : S → Algebra V) (t : SetupData S) (s : State
   pub find : (j : ℕ) → j < n → Found j
   find j lt =
       let f : PartData S V → ℕ = λ p. is j p.shard in
-      let one = r.whole j lt in let sum = flat_total f s.views in
-      let a = some_at (λ (v : View S V). total f v.parts) s.views (omega (arith, one, sum)) in
+      let a = some_at (λ (v : View S V). total f v.parts) s.views (omega (arith, r.whole j lt, flat_total f s.views)) in
       let b = some_at f a.1.parts a.3 in record {
         id = a.0;
         v = a.1;

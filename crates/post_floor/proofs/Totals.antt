@@ -12,12 +12,12 @@ module _ {A : Type 0} where
   pub total_set : (f : A → ℕ) (vs : List A) (i : ℕ) (v w : A) → get_elem? vs i ≡ some v → total f (set vs i w) + f v ≡ total f vs + f w
   total_set f [] i v w e = absurd (some-ne-none v (sym e))
   total_set f (x ∷ xs) zero v w e = let p : f x ≡ f v = ap f (some-injective x v e) in omega (arith, p)
-  total_set f (x ∷ xs) (suc i) v w e = let p = total_set f xs i v w e in omega (arith, p)
+  total_set f (x ∷ xs) (suc i) v w e = omega (arith, total_set f xs i v w e)
 
   pub total_at : (f : A → ℕ) (vs : List A) (i : ℕ) (v : A) → get_elem? vs i ≡ some v → f v ≤ total f vs
   total_at f [] i v e = absurd (some-ne-none v (sym e))
   total_at f (x ∷ xs) zero v e = let p : f x ≡ f v = ap f (some-injective x v e) in omega (arith, p)
-  total_at f (x ∷ xs) (suc i) v e = let p = total_at f xs i v e in omega (arith, p)
+  total_at f (x ∷ xs) (suc i) v e = omega (arith, total_at f xs i v e)
 
   pub total_two : (f : A → ℕ) (vs : List A) (i j : ℕ) (v w : A) → i ≢ j → get_elem? vs i ≡ some v → get_elem? vs j ≡ some w → f v + f w ≤ total f vs
   total_two f [] i j v w ne e d = absurd (some-ne-none v (sym e))
@@ -28,7 +28,7 @@ module _ {A : Type 0} where
 
   pub total_none : (f : A → ℕ) (vs : List A) → ((i : ℕ) (u : A) → get_elem? vs i ≡ some u → f u ≡ 0) → total f vs ≡ 0
   total_none f [] z = refl
-  total_none f (x ∷ xs) z = let p = z 0 x refl in let q = total_none f xs (λ i u a. z (suc i) u a) in omega (arith, p, q)
+  total_none f (x ∷ xs) z = let q = total_none f xs (λ i u a. z (suc i) u a) in omega (arith, z 0 x refl, q)
 
   pub total_alone : (f : A → ℕ) (vs : List A) (id : ℕ) (v : A) → get_elem? vs id ≡ some v → ((i : ℕ) (u : A) → i ≢ id → get_elem? vs i ≡ some u → f u ≡ 0) → total f vs ≡ f v
   total_alone f [] id v at z = absurd (some-ne-none v (sym at))
@@ -40,7 +40,7 @@ pub is_else : (j k : ℕ) → j ≢ k → is j k ≡ 0
 is_else j k ne = ap one_if (ne_eqb j k ne)
 
 pub is_one : (j k : ℕ) → 0 < is j k → j ≡ k
-is_one j k h = elim (cases_eq j k) [ inl e ↦ e | inr ne ↦ absurd (let z = is_else j k ne in omega (arith, z, h)) ]
+is_one j k h = elim (cases_eq j k) [ inl e ↦ e | inr ne ↦ absurd (omega (arith, is_else j k ne, h)) ]
 
 without_cases : (k x : ℕ) (xs : List ℕ) (F : List ℕ → Type 0) → (k ≡ x → F xs) → (k ≢ x → F (x ∷ without k xs)) → F (cond (eqb k x) xs (x ∷ without k xs))
 without_cases k x xs F same else' = elim (cases_eq k x) [
@@ -58,4 +58,4 @@ pub without_else : (j k : ℕ) (xs : List ℕ) → j ≢ k → total (is j) (wit
 without_else j k [] ne = refl
 without_else j k (x ∷ xs) ne = without_cases k x xs (λ (l : List ℕ). total (is j) l ≡ is j x + total (is j) xs)
     (λ e. let z = is_else j x (λ q. ne (q ∙ sym e)) in omega (arith, z))
-    (λ ne'. let r = without_else j k xs ne in omega (arith, r))
+    (λ ne'. omega (arith, without_else j k xs ne))

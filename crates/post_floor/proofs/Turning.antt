@@ -16,11 +16,11 @@ use Rattle.post_floor.proofs.Totals.{is_else}
 
 pub cycled_total : {A : Type 0} (f : A → ℕ) (xs : List A) → total f (cycled xs) ≡ total f xs
 cycled_total f [] = refl
-cycled_total f (x ∷ xs) = let p = total_append f xs (x ∷ []) in omega (arith, p)
+cycled_total f (x ∷ xs) = omega (arith, total_append f xs (x ∷ []))
 
 pub cycled_length : {A : Type 0} (xs : List A) → length (cycled xs) ≡ length xs
 cycled_length [] = refl
-cycled_length (x ∷ xs) = let p = length-append xs (x ∷ []) in omega (arith, p)
+cycled_length (x ∷ xs) = omega (arith, length-append xs (x ∷ []))
 
 all_cycled : {A : Type 0} (P : A → Type 0) (xs : List A) → All P xs → All P (cycled xs)
 all_cycled P [] a = tt
@@ -46,8 +46,7 @@ pub cycled_before : (k : ℕ) (xs : List ℕ) → 0 < total (is k) xs → first_
 cycled_before k [] m f = absurd (omega (arith, m))
 cycled_before k (x ∷ xs) m f =
     let ne : k ≢ x = λ e. let t : true ≡ false = sym (eq-eqb x k (sym e)) ∙ f in absurd cc in
-    let z = is_else k x ne in
-    let p = before_last k x xs (omega (arith, m, z)) in
+    let p = before_last k x xs (omega (arith, m, is_else k x ne)) in
     let q : before k (x ∷ xs) ≡ suc (before k xs) = ap (λ (b : Bool). cond b 0 (suc (before k xs))) f in omega (arith, p, q)
 
 pub first_here : {X : Type 0} (k : ℕ) (xs : List (ℕ × X)) → first_is k (map (λ x. x.0) xs) ≡ true → (y : X) × (xs ≡ (k, y) ∷ rest xs)

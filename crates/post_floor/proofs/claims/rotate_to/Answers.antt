@@ -21,7 +21,7 @@ loop-claims-preserved g c =
       keys = ap (λ z. map (λ x. x.0) z.1) m.2 ∙ turned_keys c.loop-claims.pass.me.1 ∙ ap cycled inv.keys ∙ sym t;
       count = long ∙ inv.count;
       capacity = r ∙ inv.capacity;
-      room = (let a = inv.room in omega (arith, a, r, long));
+      room = (omega (arith, inv.room, r, long));
       table = m.0 ∙ inv.table;
       id = m.1 ∙ inv.id;
       view = ap (λ z. z.0) m.2 ∙ inv.view;

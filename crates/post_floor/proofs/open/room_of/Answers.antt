@@ -8,13 +8,13 @@ pub offset_bounds-parts-from : goal.offset_bounds-parts-from
 offset_bounds-parts-from g c = let l =
     ap length c.requires.parts
     ∙ opened_long (g.A.PathAlgebra.meaning c.args.first.now.setup.diffusion.algebra) c.args.first.now.setup 0 c.args.shards in
-    let b = (pair_below c.args.shards c.args.k c.requires.word).0 in omega (arith, l, b)
+    omega (arith, l, (pair_below c.args.shards c.args.k c.requires.word).0)
 
 pub bounds-parts-from : goal.bounds-parts-from
 bounds-parts-from g c = let l =
     ap length c.requires.parts
     ∙ opened_long (g.A.PathAlgebra.meaning c.args.first.now.setup.diffusion.algebra) c.args.first.now.setup 0 c.args.shards in
-    let b = (pair_below c.args.shards c.args.k c.requires.word).0 in omega (arith, l, b)
+    omega (arith, l, (pair_below c.args.shards c.args.k c.requires.word).0)
 
 pub capacity-requires-clause-other : goal.capacity-requires-clause-other
 capacity-requires-clause-other g c κs within = let q =
@@ -42,10 +42,10 @@ returns-else-from-to g c = let q =
     ∙ cap_other c.args.first.now.setup c.args.shards c.args.k c.requires.shards.0 c.if-from-to.false
 
 pub nonzero_div-from-2 : goal.nonzero_div-from-2
-nonzero_div-from-2 g c = let b = (pair_below c.args.shards c.args.k c.requires.word).0 in omega (arith, b)
+nonzero_div-from-2 g c = omega (arith, (pair_below c.args.shards c.args.k c.requires.word).0)
 
 pub nonzero_rem-to : goal.nonzero_rem-to
-nonzero_rem-to g c = let b = (pair_below c.args.shards c.args.k c.requires.word).0 in omega (arith, b)
+nonzero_rem-to g c = omega (arith, (pair_below c.args.shards c.args.k c.requires.word).0)
 
 pub overflow_cast-to : goal.overflow_cast-to
-overflow_cast-to g c = let b = (pair_below c.args.shards c.args.k c.requires.word).1 in let m = c.requires.shards.1 in omega (arith, b, m)
+overflow_cast-to g c = omega (arith, (pair_below c.args.shards c.args.k c.requires.word).1, c.requires.shards.1)

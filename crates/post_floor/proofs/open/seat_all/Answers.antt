@@ -54,4 +54,4 @@ loop-shard-init g c = let p = ap (λ m. m.0) c.requires.parts in
 pub returns : goal.returns
 returns g c = let inv = c.loop-shard.invariant in
     inv.1 ∙ ap (map (seat_of c.args.table.now.table_id c.args.shards)) (none_more inv.0 c.loop-shard.pass.me.0.parts _ (inv.2 ∙ ap (λ m. m.0.parts) c.requires.parts)
-    (let l = opened_long (g.A.PathAlgebra.meaning c.args.table.now.key.diffusion.algebra) c.args.table.now.key 0 c.args.shards in let k = inv.3 in omega (arith, l, k)))
+    (omega (arith, opened_long (g.A.PathAlgebra.meaning c.args.table.now.key.diffusion.algebra) c.args.table.now.key 0 c.args.shards, inv.3)))

@@ -95,4 +95,4 @@ returns-clause-seats g c =
 pub bounds-parts-0 : goal.bounds-parts-0
 bounds-parts-0 g c = let f = c.requires.fresh in
     let l = ap length f.1 ∙ opened_long (g.A.PathAlgebra.meaning f.0.diffusion.algebra) f.0 0 f.0.plan.shards ∙ ap (λ p. p.shards) f.2 in
-    let n = c.shards-shards.ensures.count in let one = c.shards-shards.ensures.within.0 in omega (arith, l, n, one)
+    omega (arith, l, c.shards-shards.ensures.count, c.shards-shards.ensures.within.0)

@@ -102,6 +102,18 @@ def a_million_vertices(room):
         yield from ended(room, ["serve", graph, settings], wanted + "p ans ss 0 shortest\n" + wanted, ASKED + none + ASKED)
 
 
+def a_long_run(room):
+    """A run that shows progress says once, after ten million messages, that another solver writes the same bytes sooner; neither before, nor with `--plain`. A pair takes as many
+    messages as the street has vertices."""
+    hint = "diffuse: ten million messages sent; --plain or --factors writes the same bytes sooner\n"
+    for count, settings, after in ((11, (), 10), (9, (), None), (11, ("--plain",), None)):
+        asked = room.file(f"p aux sp p2p {count}\n" + "q 1 2\n" * count)
+        run = room.run("solve", street(room), asked, "--progress", *settings)
+        shown = "".join((hint if k == after else "") + f"diffuse: {k} of {count} questions answered\n" for k in range(1, count + 1))
+        if (run.returncode, run.stdout.decode(), run.stderr.decode()) != (0, f"p ans p2p {count} shortest\n" + count * pair(1, 2), shown):
+            yield f"{count} pairs {settings}: status {run.returncode}, {run.stdout[:200]!r}, {run.stderr!r}"
+
+
 def a_million_lines(room):
     """The answer for all vertices of the street, and the verdicts on it; and an order, in which each place is taken once."""
     graph, asked = street(room), room.file("p aux sp ss 1\ns 1\n")
@@ -131,4 +143,4 @@ def a_hub(room):
             yield f"a hub, {order}: {counted!r}"
 
 
-CASES = (many_questions, many_judged, many_served, wide_groups, a_million_vertices, a_million_lines, a_hub)
+CASES = (many_questions, many_judged, many_served, wide_groups, a_million_vertices, a_long_run, a_million_lines, a_hub)

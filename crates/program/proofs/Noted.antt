@@ -13,7 +13,7 @@ use Rattle.path_algebra.specs.Choices.{Under}
 use Rattle.path_algebra.proofs.Chosen.{under_some}
 use Rattle.program.specs.declared.watch.watcher.CommandWatcher.{CommandWatcher}
 use Rattle.program.specs.Accounts.{accounts_text}
-use Rattle.program.specs.Progress.{all_after, progress_text, shown_at}
+use Rattle.program.specs.Progress.{all_after, left_after, progress_text, shown_at}
 use Rattle.program.specs.Watching.{HasAccounts, IsAddedIf, Notes}
 use Rattle.program.proofs.Adding.{added_none, added_then, has_none, has_then}
 
@@ -34,7 +34,7 @@ pub record Noted {A E M : Type 0} (seen : A → Output A) (shown : E → Output 
     (reports : List Progress) (new : CommandWatcher A E M) : Type 0 where
   pub same : (new.accounts.ghost_name ≡ old.accounts.ghost_name) × (new.errors.ghost_name ≡ old.errors.ghost_name)
   pub accounts : HasAccounts seen old.accounts.now new.accounts.now old.lost new.lost (accounts_text old.name reports)
-  pub errors : IsAddedIf shown old.progress old.errors.now new.errors.now (progress_text old.all reports)
+  pub errors : IsAddedIf shown old.progress old.errors.now new.errors.now (progress_text old.all old.left reports)
 
 module _ {E : Type 0} (shown : E → Output E) where
   shown_none : (progress : Bool) (errors : E) → IsAddedIf shown progress errors errors []
@@ -55,11 +55,12 @@ module _ {A E M : Type 0} (seen : A → Output A) (shown : E → Output E) where
   })
 
   errors_then : (old next new : CommandWatcher A E M) (r : Progress) (rs : List Progress) → Notes seen shown old r next → Noted seen shown next rs new →
-      IsAddedIf shown old.progress old.errors.now new.errors.now (progress_text old.all (r ∷ rs))
+      IsAddedIf shown old.progress old.errors.now new.errors.now (progress_text old.all old.left (r ∷ rs))
   errors_then old next new r rs first more =
-      shown_then shown old.progress old.errors.now next.errors.now new.errors.now (shown_at old.all r) (progress_text (all_after old.all r) rs) first.errors
-      (subst (λ p. IsAddedIf shown p next.errors.now new.errors.now (progress_text (all_after old.all r) rs)) first.progress
-      (subst (λ n. IsAddedIf shown next.progress next.errors.now new.errors.now (progress_text n rs)) first.all more.errors))
+      shown_then shown old.progress old.errors.now next.errors.now new.errors.now (shown_at old.all old.left r) (progress_text (all_after old.all r) (left_after old.left r) rs) first.errors
+      (subst (λ p. IsAddedIf shown p next.errors.now new.errors.now (progress_text (all_after old.all r) (left_after old.left r) rs)) first.progress
+      (subst (λ n. IsAddedIf shown next.progress next.errors.now new.errors.now (progress_text n (left_after old.left r) rs)) first.all
+      (subst (λ n. IsAddedIf shown next.progress next.errors.now new.errors.now (progress_text next.all n rs)) first.left more.errors)))
 
   -- a watcher has noted all reports that were made to it
   pub noted_all : (rs : List Progress) (old new : CommandWatcher A E M) → FollowsReports (Notes seen shown) old rs new → Noted seen shown old rs new

@@ -5,7 +5,7 @@ use Rattle.path_algebra.specs.declared.name.AlgebraName.{AlgebraName}
 use Rattle.text_lines.specs.Texts.{spelled}
 use Rattle.shard_store.specs.declared.tally.Tally.{Tally}
 use Rattle.batch_run.specs.declared.watcher.Progress.{Progress}
-use Rattle.batch_run.specs.declared.watcher.Progress.TheVariants.{Begun, Ordered, Factored, Gathered, Answered}
+use Rattle.batch_run.specs.declared.watcher.Progress.TheVariants.{Begun, Gathered}
 
 -- the header before the accounts of so many diffusions
 abbrev pub heading_text : ℕ → AlgebraName → List ℕ
@@ -31,10 +31,8 @@ counts_text t = (32 ∷ decimal t.sent) ++ (32 ∷ decimal t.delivered) ++ (32 �
 -- header, a diffusion that was gathered its line
 abbrev pub account_of : AlgebraName → Progress → List ℕ
 account_of name (Begun questions diffusions) = heading_text diffusions name
-account_of name (Ordered counts) = []
-account_of name (Factored became) = []
 account_of name (Gathered question source tally) = account_text question source tally
-account_of name (Answered questions) = []
+account_of name _ = []
 
 -- the accounts of all that was reported
 abbrev pub accounts_text : AlgebraName → List Progress → List ℕ

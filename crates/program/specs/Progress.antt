@@ -1,5 +1,5 @@
 -- The lines that show how far a batch is.
-use Rattle.std.specs.Prelude.{ℕ, ◌-◌, ◌*◌, ◌/◌, List, [], ◌∷◌, ◌++◌, Bool, codes, decimal, nat_eq, nat_lt, if◌then◌else◌, ◌||◌}
+use Rattle.std.specs.Prelude.{ℕ, ◌-◌, ◌*◌, ◌/◌, List, [], ◌∷◌, ◌++◌, Bool, codes, decimal, leb, nat_eq, nat_lt, if◌then◌else◌, ◌&&◌, ◌||◌}
 use Rattle.elimination_order.specs.declared.counts.Counts.{Counts}
 use Rattle.question_solvers.specs.declared.factor_solver.Factoring.{Factoring}
 use Rattle.question_solvers.specs.declared.factor_solver.Factoring.TheVariants.{Untried, Made, Refused}
@@ -46,20 +46,26 @@ line_of_factoring (Refused Heavy) = codes "diffuse: the graph's sums are too lar
 -- how many questions there are, after a report
 abbrev pub all_after : ℕ → Progress → ℕ
 all_after all (Begun questions diffusions) = questions
-all_after all (Ordered counts) = all
-all_after all (Factored became) = all
-all_after all (Gathered question source tally) = all
-all_after all (Answered questions) = all
+all_after all _ = all
 
--- what is shown at a report of a batch with so many questions
-abbrev pub shown_at : ℕ → Progress → List ℕ
-shown_at all (Begun questions diffusions) = due_line 0 questions
-shown_at all (Ordered counts) = line_of_order counts
-shown_at all (Factored became) = line_of_factoring became
-shown_at all (Gathered question source tally) = []
-shown_at all (Answered questions) = due_line questions all
+-- how many messages are left after a report until faster solvers are named
+abbrev pub left_after : ℕ → Progress → ℕ
+left_after left (Gathered question source tally) = left - tally.sent
+left_after left _ = left
+
+-- the line that names faster solvers, if so many messages are those that were left until then
+abbrev pub hint : ℕ → ℕ → List ℕ
+hint left sent = if nat_lt 0 left && leb left sent then codes "diffuse: ten million messages sent; --plain or --factors writes the same bytes sooner" ++ 10 ∷ [] else []
+
+-- what is shown at a report of a batch with so many questions, and so many messages left
+abbrev pub shown_at : ℕ → ℕ → Progress → List ℕ
+shown_at all left (Begun questions diffusions) = due_line 0 questions
+shown_at all left (Ordered counts) = line_of_order counts
+shown_at all left (Factored became) = line_of_factoring became
+shown_at all left (Gathered question source tally) = hint left tally.sent
+shown_at all left (Answered questions) = due_line questions all
 
 -- what is shown of all that is reported
-abbrev pub progress_text : ℕ → List Progress → List ℕ
-progress_text all [] = []
-progress_text all (r ∷ rs) = shown_at all r ++ progress_text (all_after all r) rs
+abbrev pub progress_text : ℕ → ℕ → List Progress → List ℕ
+progress_text all left [] = []
+progress_text all left (r ∷ rs) = shown_at all left r ++ progress_text (all_after all r) (left_after left r) rs

@@ -8,7 +8,7 @@ use Rattle.text_lines.specs.Streams.{Output}
 use Rattle.path_algebra.specs.Choices.{Under, name_of}
 use Rattle.program.specs.declared.watch.watcher.CommandWatcher.{CommandWatcher}
 use Rattle.program.specs.Accounts.{account_of, accounts_text}
-use Rattle.program.specs.Progress.{all_after, progress_text, shown_at}
+use Rattle.program.specs.Progress.{all_after, left_after, progress_text, shown_at}
 use Rattle.fault_reports.specs.Reports.{EndsAs, Reaches, run_fault}
 use Rattle.command_files.specs.Added.{IsAdded}
 use Rattle.program.specs.Runs.{Given, RanUnder}
@@ -44,12 +44,13 @@ pub record Notes {A E M : Type 0} (seen : A → Output A) (shown : E → Output 
   -- under the same name, and shows progress as before
   pub name : new.name ≡ old.name
   pub progress : new.progress ≡ old.progress
-  -- it knows how many questions there are
+  -- it knows how many questions there are, and how many messages are left
   pub all : new.all ≡ all_after old.all report
+  pub left : new.left ≡ left_after old.left report
   -- the accounts have what the report adds to them
   pub accounts : HasAccounts seen old.accounts.now new.accounts.now old.lost new.lost (account_of old.name report)
   -- and so has the error output, if progress is shown
-  pub errors : IsAddedIf shown old.progress old.errors.now new.errors.now (shown_at old.all report)
+  pub errors : IsAddedIf shown old.progress old.errors.now new.errors.now (shown_at old.all old.left report)
 
 -- accounts, if they are wanted, have the text, and nothing is held back; or a write failed, and
 -- that is fault 42
@@ -82,7 +83,7 @@ pub record EndsWatched {W A E : Type 0} (given : Given) (progress : Bool) (out o
   pub kept : Result (Unit {0}) RunFault
   pub accounted : Account (accounts_text (name_of given.chosen) reports) accounts accounts_after kept
   pub watched : Output E
-  pub shown : IsAddedIf (λ e. e) progress errors watched (progress_text 0 reports)
+  pub shown : IsAddedIf (λ e. e) progress errors watched (progress_text 0 10000000 reports)
   pub ends : EndsAs (λ _. 0) watched errors_after (outcome_of outcome kept) result
   -- with one shard, best first, and a limit of turns that is enough for every graph, as the usual
   -- one is, the exit status is not that of a limit

@@ -14,7 +14,7 @@ ghost use Rattle.program.specs.Runs.{gate_is_open, given_of};
 ghost use Rattle.program.specs.Watching.{EndsAccounts, EndsWatched, outcome_of};
 
 use crate::method::Method;
-use crate::watch::CommandWatcher;
+use crate::watch::{CommandWatcher, PATIENCE};
 use batch_run::{
     BatchInput, OpenGate, OrderedInput, Run, RunFault, WRITE, Watcher, fault_of_run, run_batch,
     usual_turns_are_enough,
@@ -134,6 +134,7 @@ fn run_watched<R: Threads + Wait + Sync, I: BatchInput, P: FileSystem, W: RoadWr
         lost: false,
         progress,
         all: 0,
+        left: PATIENCE,
         errors: &mut host.errors,
         files: &host.files,
     };

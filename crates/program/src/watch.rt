@@ -4,4 +4,4 @@ mod accounts;
 mod progress;
 mod watcher;
 
-pub(crate) use watcher::CommandWatcher;
+pub(crate) use watcher::{CommandWatcher, PATIENCE};

@@ -1,10 +1,14 @@
 //! The lines that show how far a batch is.
 ghost use Rattle.std.specs.Prelude.{◌≡◌};
-ghost use Rattle.program.specs.Progress.{due_line, hundredths, is_due, line_of_dense, line_of_factoring, line_of_order, line_of_progress, shown_at};
+ghost use Rattle.program.specs.Progress.{due_line, hint, hundredths, is_due, line_of_dense, line_of_factoring, line_of_order, line_of_progress, shown_at};
 ghost use Rattle.command_files.specs.Added.{IsAdded};
 
 use batch_run::{Counts, Factoring, NoFactors, Progress};
 use text_lines::{Line, RoadWrite, push_number, write_bytes};
+
+/// The line that names faster solvers.
+const HINT: &str =
+    "diffuse: ten million messages sent; --plain or --factors writes the same bytes sooner\n";
 
 /// How many whole hundredths of all questions so many are.
 fn hundredths(answered: u32, all: u32) -> u64
@@ -97,15 +101,24 @@ fn show_line<E: RoadWrite>(errors: &mut E, line: &Line)
     let _ = write_bytes(errors, line.as_str().as_bytes());
 }
 
-/// Shows what a report says of so many questions.
-pub(crate) fn show_report<E: RoadWrite>(errors: &mut E, all: u32, report: &Progress)
-    ensures { IsAdded (E.seen errors.old) (E.seen errors.new) (shown_at all report.now) }
+/// Names faster solvers, if so many messages are those that were left until then.
+fn show_hint<E: RoadWrite>(errors: &mut E, left: u64, sent: u64)
+    ensures { IsAdded (E.seen errors.old) (E.seen errors.new) (hint left sent) }
+{
+    if left > 0 && left <= sent {
+        let _ = write_bytes(errors, HINT.as_bytes());
+    }
+}
+
+/// Shows what a report says of so many questions, with so many messages left.
+pub(crate) fn show_report<E: RoadWrite>(errors: &mut E, all: u32, left: u64, report: &Progress)
+    ensures { IsAdded (E.seen errors.old) (E.seen errors.new) (shown_at all left report.now) }
 {
     match report {
         Progress::Begun { questions, .. } => show_progress(errors, 0, *questions),
         Progress::Ordered { counts } => show_line(errors, &line_of_order(*counts)),
         Progress::Factored { became } => show_line(errors, &line_of_factoring(*became)),
-        Progress::Gathered { .. } => {}
+        Progress::Gathered { tally, .. } => show_hint(errors, left, tally.sent),
         Progress::Answered { questions } => show_progress(errors, *questions, all),
     }
 }

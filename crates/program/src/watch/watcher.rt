@@ -1,7 +1,7 @@
 //! What watches a batch for a command: it writes accounts and shows progress, each if it is wanted.
 ghost use Rattle.std.specs.Prelude.{◌≡◌};
 ghost use Rattle.program.specs.Accounts.{account_of};
-ghost use Rattle.program.specs.Progress.{all_after, shown_at};
+ghost use Rattle.program.specs.Progress.{all_after, left_after, shown_at};
 ghost use Rattle.program.specs.Watching.{HasAccounts, IsAddedIf, Notes};
 
 use crate::watch::accounts::write_report;
@@ -10,6 +10,9 @@ use batch_run::{Progress, Watcher};
 use command_files::{FileSystem, Phase};
 use path_algebra::AlgebraName;
 use text_lines::RoadWrite;
+
+/// After so many messages faster solvers are named: some seconds.
+pub(crate) const PATIENCE: u64 = 10_000_000;
 
 /// A watcher of a batch.
 #[derive(Drop)]
@@ -24,6 +27,8 @@ pub(crate) struct CommandWatcher<'a, 'f, A, E, P> {
     pub progress: bool,
     /// How many questions there are, once this was reported.
     pub all: u32,
+    /// How many messages are left until faster solvers are named.
+    pub left: u64,
     /// Where progress is shown.
     pub errors: &'a mut E,
     /// What takes note of the command's phases.
@@ -59,12 +64,28 @@ fn all_after(all: u32, report: &Progress) -> u32
     }
 }
 
-/// Shows what a report says of so many questions, if that is wanted.
-fn show_if_wanted<E: RoadWrite>(errors: &mut E, progress: bool, all: u32, report: &Progress)
-    ensures { IsAddedIf E.seen progress errors.old errors.new (shown_at all report.now) }
+/// How many messages are left after a report until faster solvers are named.
+fn left_after(left: u64, report: &Progress) -> u64
+    ensures { result ≡ left_after left report.now }
+{
+    match report {
+        Progress::Gathered { tally, .. } => left.saturating_sub(tally.sent),
+        _ => left,
+    }
+}
+
+/// Shows what a report says of so many questions, with so many messages left, if that is wanted.
+fn show_if_wanted<E: RoadWrite>(
+    errors: &mut E,
+    progress: bool,
+    all: u32,
+    left: u64,
+    report: &Progress,
+)
+    ensures { IsAddedIf E.seen progress errors.old errors.new (shown_at all left report.now) }
 {
     if progress {
-        show_report(errors, all, report);
+        show_report(errors, all, left, report);
     }
 }
 
@@ -81,8 +102,9 @@ impl<A: RoadWrite, E: RoadWrite, P: FileSystem> Watcher for CommandWatcher<'_, '
 
     fn report(&mut self, report: Progress) {
         self.lost = add_to_accounts(self.accounts, self.lost, self.name, &report);
-        show_if_wanted(self.errors, self.progress, self.all, &report);
+        show_if_wanted(self.errors, self.progress, self.all, self.left, &report);
         self.all = all_after(self.all, &report);
+        self.left = left_after(self.left, &report);
         note_phase(self.files, &report);
     }
 }

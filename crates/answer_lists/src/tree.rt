@@ -157,7 +157,10 @@ fn answer_chosen(
             Err(Memory) => MEMORY,
         };
     }
-    with_algebra!(chosen, |algebra| answer(algebra, shared, stop, &list, lists))
+    with_algebra!(
+        chosen,
+        |algebra| answer(algebra, shared, stop, &list, lists)
+    )
 }
 
 /// Whether so many places are one for each of n vertices, or none.

@@ -200,8 +200,8 @@ module _ {W : Type 0} {starts places : List ℕ} {leaving entering : List W} (pa
     module _ (walks : List W) (n : length walks ≡ length places) (j : ℕ) (low : j < length (row_of (rows_between starts (links_of places walks)) i)) where
       link_inside : s + j < length places
       link_inside =
-          omega (arith, low, start_is, row_count starts (links_of places walks) (packed_links starts places walks n packed.packed) i row_inside,
-          packed.packed.rising i row_inside, packed.packed.inside (i + 1) row_inside)
+          let size = row_count starts (links_of places walks) (packed_links starts places walks n packed.packed) i row_inside in
+          omega (arith, low, start_is, size, packed.packed.rising i row_inside, packed.packed.inside (i + 1) row_inside)
 
       pub link_in_row : (p : ℕ) (a : W) (d : Link W) → p ≡ get_or places (s + j) p → a ≡ get_or walks (s + j) a →
           get_or (row_of (rows_between starts (links_of places walks)) i) j d ≡ record { place = p; walk = a }

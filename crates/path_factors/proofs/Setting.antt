@@ -191,8 +191,8 @@ edge_improved {V} {W} {starts} {places} {leaving} {entering} packed {rows} view 
     let is_e : e.place ≡ get_or places (s + j) e.place = sym to ∙ get_or_default places (s + j) 0 e.place low in
     let rises : j < length (row_of (rows_between starts (links_of places leaving)) i) = subst (λ (r : LinkRows W). j < length (row_of r.leaving i)) (sym view) index in
     let falls : j < length (row_of (rows_between starts (links_of places entering)) i) =
-    omega (arith, rises, row_count starts (links_of places leaving) (packed_links starts places leaving l packed.packed) i lt,
-    row_count starts (links_of places entering) (packed_links starts places entering f packed.packed) i lt) in
+    (let up = row_count starts (links_of places leaving) (packed_links starts places leaving l packed.packed) i lt in
+    let down = row_count starts (links_of places entering) (packed_links starts places entering f packed.packed) i lt in omega (arith, rises, up, down)) in
     record {
       leaving = subst (λ (r : LinkRows W). AreImproved C r.leaving i (rising e) (rows_between starts (links_of places (set leaving (s + j) c)))) view
           (walk_improved starts places leaving l packed.packed i lt s start j rises low C ordered (rising e) is_e a is_a c is_c);

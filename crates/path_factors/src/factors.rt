@@ -19,8 +19,8 @@ use std::sync::Arc;
 /// Links between the places of an order, from which best values of a graph are found by
 /// substitution. Contracts alone see the graph and the order.
 ///
-/// An edge that others do for is left out. It takes 12 bytes for each vertex, 4 for each edge, and
-/// 4 and those of two walks for each one that is left.
+/// An edge that others do for may be left out. It takes 8 bytes for each vertex, 4 and those of two
+/// walks for each edge that is left, and, if some are not, 4 more for each vertex and each edge.
 #[derive(Drop)]
 pub struct Factors<A: ComposingAlgebra> {
     pub(crate) algebra: A,

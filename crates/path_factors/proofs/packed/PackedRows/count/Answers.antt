@@ -8,5 +8,5 @@ returns-clause-leaving g c = omega (arith, ap length c.heads.ensures, row_heads_
 
 pub returns-clause-entering : goal.returns-clause-entering
 returns-clause-entering g c =
-    omega (arith, ap length c.heads.ensures, ap (λ (h : List (List ℕ)). length (row_of h c.args.i)) c.len.ensures.heads,
-    row_heads_count c.args.self.now.entering c.args.i)
+    let same = ap (λ (h : List (List ℕ)). length (row_of h c.args.i)) c.len.ensures.heads in
+    omega (arith, ap length c.heads.ensures, same, row_heads_count c.args.self.now.entering c.args.i)

@@ -7,19 +7,18 @@ index-requires g c = omega (arith, row_inside c.self.invariant c.self.view_is c.
 
 pub overflow_add-k : goal.overflow_add-k
 overflow_add-k g c =
-    let s = c.self.inside in
-    omega (arith, faller_inside c.self.invariant c.self.view_is c.args.i c.requires.place c.index.result.now c.index.ensures c.args.j c.requires.link,
-    s.places.ok.0, s.places.ok.1, s.places.small)
+    let k = faller_inside c.self.invariant c.self.view_is c.args.i c.requires.place c.index.result.now c.index.ensures c.args.j c.requires.link in
+    omega (arith, k, c.self.inside.places.ok.0, c.self.inside.places.ok.1, c.self.inside.places.small)
 
 pub index-requires-2 : goal.index-requires-2
 index-requires-2 g c =
-    omega (arith, faller_inside c.self.invariant c.self.view_is c.args.i c.requires.place c.index.result.now c.index.ensures c.args.j c.requires.link,
-    c.self.inside.places.ok.0)
+    let k = faller_inside c.self.invariant c.self.view_is c.args.i c.requires.place c.index.result.now c.index.ensures c.args.j c.requires.link in
+    omega (arith, k, c.self.inside.places.ok.0)
 
 pub index-requires-3 : goal.index-requires-3
 index-requires-3 g c =
-    omega (arith, faller_inside c.self.invariant c.self.view_is c.args.i c.requires.place c.index.result.now c.index.ensures c.args.j c.requires.link,
-    c.self.invariant.fields.entering_count, c.self.inside.entering.ok.0)
+    let k = faller_inside c.self.invariant c.self.view_is c.args.i c.requires.place c.index.result.now c.index.ensures c.args.j c.requires.link in
+    omega (arith, k, c.self.invariant.fields.entering_count, c.self.inside.entering.ok.0)
 
 pub returns : goal.returns
 returns g c =

@@ -12,29 +12,28 @@ index-requires g c = omega (arith, row_inside c.self.invariant c.self.view_is c.
 
 pub overflow_add-k : goal.overflow_add-k
 overflow_add-k g c =
-    let s = c.self.inside in
-    omega (arith, riser_inside c.self.invariant c.self.view_is c.args.i c.requires.row c.index.result.now c.index.ensures c.args.j c.requires.index,
-    s.places.ok.0, s.places.ok.1, s.places.small)
+    let k = riser_inside c.self.invariant c.self.view_is c.args.i c.requires.row c.index.result.now c.index.ensures c.args.j c.requires.index in
+    omega (arith, k, c.self.inside.places.ok.0, c.self.inside.places.ok.1, c.self.inside.places.small)
 
 pub index-requires-2 : goal.index-requires-2
 index-requires-2 g c =
-    omega (arith, riser_inside c.self.invariant c.self.view_is c.args.i c.requires.row c.index.result.now c.index.ensures c.args.j c.requires.index,
-    c.self.invariant.fields.leaving_count, c.self.inside.leaving.ok.0)
+    let k = riser_inside c.self.invariant c.self.view_is c.args.i c.requires.row c.index.result.now c.index.ensures c.args.j c.requires.index in
+    omega (arith, k, c.self.invariant.fields.leaving_count, c.self.inside.leaving.ok.0)
 
 pub index_mut-requires : goal.index_mut-requires
 index_mut-requires g c =
-    omega (arith, riser_inside c.self.invariant c.self.view_is c.args.i c.requires.row c.index.result.now c.index.ensures c.args.j c.requires.index,
-    c.self.invariant.fields.leaving_count, c.self.inside.leaving.ok.0)
+    let k = riser_inside c.self.invariant c.self.view_is c.args.i c.requires.row c.index.result.now c.index.ensures c.args.j c.requires.index in
+    omega (arith, k, c.self.invariant.fields.leaving_count, c.self.inside.leaving.ok.0)
 
 pub index-requires-3 : goal.index-requires-3
 index-requires-3 g c =
-    omega (arith, riser_inside c.self.invariant c.self.view_is c.args.i c.requires.row c.index.result.now c.index.ensures c.args.j c.requires.index,
-    c.self.invariant.fields.entering_count, c.self.inside.entering.ok.0)
+    let k = riser_inside c.self.invariant c.self.view_is c.args.i c.requires.row c.index.result.now c.index.ensures c.args.j c.requires.index in
+    omega (arith, k, c.self.invariant.fields.entering_count, c.self.inside.entering.ok.0)
 
 pub index_mut-requires-2 : goal.index_mut-requires-2
 index_mut-requires-2 g c =
-    omega (arith, riser_inside c.self.invariant c.self.view_is c.args.i c.requires.row c.index.result.now c.index.ensures c.args.j c.requires.index,
-    c.self.invariant.fields.entering_count, c.self.inside.entering.ok.0)
+    let k = riser_inside c.self.invariant c.self.view_is c.args.i c.requires.row c.index.result.now c.index.ensures c.args.j c.requires.index in
+    omega (arith, k, c.self.invariant.fields.entering_count, c.self.inside.entering.ok.0)
 
 pub invariant_of-self : goal.invariant_of-self
 invariant_of-self g c =

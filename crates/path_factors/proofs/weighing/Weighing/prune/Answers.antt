@@ -1,4 +1,4 @@
-use Rattle.std.proofs.Common.{◌≡◌, sym, subst}
+use Rattle.std.proofs.Common.{sym, subst}
 use Rattle.path_algebra.specs.Algebra.{IsLawful}
 use Rattle.path_factors.specs.Heads.{heads_in}
 use Rattle.path_factors.specs.State.{FactorState}

@@ -10,7 +10,7 @@ use Rattle.path_algebra.specs.Algebra.{Algebra}
 use Rattle.batch_run.specs.declared.solve.diffusion.GatheredDiffusion.{GatheredDiffusion}
 use Rattle.batch_run.specs.declared.solve.queue.DiffusionQueue.{DiffusionQueue}
 use Rattle.batch_settings.specs.declared.settings.Settings.{Settings}
-use Rattle.batch_run.specs.Cut.{IsCut}
+use Rattle.batch_run.specs.Cut.{IsCut, IsPaceOf}
 use Rattle.batch_run.specs.Diffusions.{AreNext, IsGatheredOver, sources_in_order}
 use Rattle.batch_run.proofs.Together.{all_before, last_of_all}
 
@@ -35,9 +35,9 @@ place_before sources were are k source low is had e =
 
 module _ {V : Type 0} (A : Algebra V) (how : Settings) (g : GraphData) where
   -- none waits
-  pub none_waits : (to_come : List ℕ) (queue : DiffusionQueue V) → IsCut how g queue.plan → queue.waiting.items ≡ [] → AreNext A how g to_come queue
-  none_waits to_come queue plan none = record {
-    plan = plan;
+  pub none_waits : (to_come : List ℕ) (queue : DiffusionQueue V) → IsCut how g queue.plan × IsPaceOf how g queue.pace → queue.waiting.items ≡ [] → AreNext A how g to_come queue
+  none_waits to_come queue chosen none = record {
+    chosen = chosen;
     gathered = rw none (All-nil (IsGatheredOver A how g));
     rest = to_come;
     sources_are = ap (λ (l : List (GatheredDiffusion V)). sources_in_order l ++ to_come) (sym none);
@@ -45,9 +45,9 @@ module _ {V : Type 0} (A : Algebra V) (how : Settings) (g : GraphData) where
 
   module _ (to_come : List ℕ) (w : ℕ) where
     -- those that were gathered together wait
-    pub group_waits : (queue : DiffusionQueue V) → sources_in_order queue.waiting.items ≡ take w to_come → IsCut how g queue.plan → All (IsGatheredOver A how g) queue.waiting.items → AreNext A how g to_come queue
-    group_waits queue are plan gathered = record {
-      plan = plan;
+    pub group_waits : (queue : DiffusionQueue V) → sources_in_order queue.waiting.items ≡ take w to_come → IsCut how g queue.plan × IsPaceOf how g queue.pace → All (IsGatheredOver A how g) queue.waiting.items → AreNext A how g to_come queue
+    group_waits queue are chosen gathered = record {
+      chosen = chosen;
       gathered = gathered;
       rest = drop w to_come;
       sources_are = sym (take-append-drop w to_come) ∙ ap (λ (l : List ℕ). l ++ drop w to_come) (sym are);
@@ -74,9 +74,9 @@ module _ {V : Type 0} (A : Algebra V) (how : Settings) (g : GraphData) where
     pub taken_gathered : IsGatheredOver A how g e
     taken_gathered = last_of_all (IsGatheredOver A how g) old.waiting.items new.waiting.items e is were.gathered
 
-    pub others_wait : new.plan ≡ old.plan → AreNext A how g left new
-    others_wait same = record {
-      plan = rw same were.plan;
+    pub others_wait : IsCut how g new.plan × IsPaceOf how g new.pace → AreNext A how g left new
+    others_wait chosen = record {
+      chosen = chosen;
       gathered = all_before (IsGatheredOver A how g) old.waiting.items new.waiting.items (e ∷ []) is were.gathered;
       rest = were.rest;
       sources_are = let o = order in cc;

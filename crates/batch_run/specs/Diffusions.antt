@@ -14,7 +14,7 @@ use Rattle.batch_run.specs.declared.solve.diffusion.EndedDiffusion.{EndedDiffusi
 use Rattle.batch_run.specs.declared.solve.diffusion.GatheredDiffusion.{GatheredDiffusion}
 use Rattle.batch_run.specs.declared.solve.queue.DiffusionQueue.{DiffusionQueue}
 use Rattle.batch_settings.specs.declared.settings.Settings.{Settings}
-use Rattle.batch_run.specs.Cut.{IsCut, order_of}
+use Rattle.batch_run.specs.Cut.{IsCut, IsPaceOf, order_of}
 use Rattle.batch_run.specs.Reports.{IsAccount}
 
 -- the plan is one of the graph
@@ -55,10 +55,10 @@ pub record IsGatheredOver {V : Type 0} (A : Algebra V) (how : Settings) (g : Gra
 abbrev pub sources_in_order : {V : Type 0} → List (GatheredDiffusion V) → List ℕ
 sources_in_order waiting = reverse (map (λ d. d.source) waiting)
 
--- the plan is the one that the settings choose, those that wait were gathered, and their sources
--- are a prefix of those to come
+-- the plan and the pace are those that the settings choose, those that wait were gathered, and
+-- their sources are a prefix of those to come
 pub record AreNext {V : Type 0} (A : Algebra V) (how : Settings) (g : GraphData) (to_come : List ℕ) (queue : DiffusionQueue V) : Type 0 where
-  pub plan : IsCut how g queue.plan
+  pub chosen : IsCut how g queue.plan × IsPaceOf how g queue.pace
   pub gathered : All (IsGatheredOver A how g) queue.waiting.items
   pub rest : List ℕ
   pub sources_are : to_come ≡ sources_in_order queue.waiting.items ++ rest

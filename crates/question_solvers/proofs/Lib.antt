@@ -1,5 +1,5 @@
 pub mod QuestionKinds
-mod Searches
+pub mod Searches
 pub mod FactorCosts
 mod Pools
 mod Sending

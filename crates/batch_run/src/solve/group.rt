@@ -6,7 +6,7 @@ ghost use Rattle.shard_store.specs.Tallies.{tally_of};
 ghost use Rattle.station.specs.Gather.{counts_in};
 ghost use Rattle.station.specs.Opened.{AreOpened};
 ghost use Rattle.batch_run.specs.Batches.{StopsOver};
-ghost use Rattle.batch_run.specs.Cut.{IsCut};
+ghost use Rattle.batch_run.specs.Cut.{IsCut, IsPaceOf};
 ghost use Rattle.batch_run.specs.Diffusions.{IsEnded, IsGatheredOver, IsPlanOf, sources_in_order};
 ghost use Rattle.shard_store.specs.Setup.{setup_of};
 
@@ -133,9 +133,11 @@ fn gathered_from<'g, A: PathAlgebra, R, T>(
 pub(crate) fn run_together<A: PathAlgebra, R: Threads + Wait, T: Gate>(
     batch: &BatchOver<'_, A, R, T>,
     plan: &Plan,
+    pace: Pace,
     sources: &[Vertex],
 ) -> Result<Vec<GatheredDiffusion<A::Value>>, GroupFault>
     requires plan { IsCut batch.now.run.now.settings.now batch.now.graph.now plan.now }
+    requires pace { IsPaceOf batch.now.run.now.settings.now batch.now.graph.now pace }
     requires sources { All (HasVertex batch.now.graph.now) sources.now }
     requires width { length sources.now ≤ batch.now.run.now.settings.now.width }
     ensures gathered { IfOk result (λ v. All (IsGatheredOver (A.meaning batch.now.algebra)
@@ -146,7 +148,6 @@ pub(crate) fn run_together<A: PathAlgebra, R: Threads + Wait, T: Gate>(
     let (rt, alloc, settings) = (batch.run.rt, batch.run.alloc, batch.run.settings);
     roads_hold(batch.graph);
     plan_holds(plan);
-    let pace = Pace::of(settings, batch.graph);
     let (mut floors, opened) = open_all(batch, plan, sources, pace)?;
     let how = GroupSettings {
         workers: settings.workers as usize,

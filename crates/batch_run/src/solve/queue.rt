@@ -10,6 +10,7 @@ ghost use Rattle.batch_run.specs.Reports.{Account, Reported};
 use crate::batch::BatchOver;
 use crate::solve::diffusion::GatheredDiffusion;
 use crate::solve::group::run_together;
+use crate::solve::pace::Pace;
 use crate::solve::upcoming::upcoming;
 use crate::watcher::{Progress, Watcher};
 use path_algebra::{Labels, PathAlgebra};
@@ -18,10 +19,12 @@ use std::sync::Wait;
 use std::thread::Threads;
 use worker_fleet::{Gate, GroupFault};
 
-/// How the graph is cut into shards, and the gathered diffusions that wait, the next one last.
+/// How the graph is cut into shards, the pace of diffusions, and those that were gathered and wait,
+/// the next one last.
 #[derive(Drop)]
 pub(crate) struct DiffusionQueue<V: Copy> {
     pub(crate) plan: Plan,
+    pub(crate) pace: Pace,
     pub(crate) waiting: Vec<GatheredDiffusion<V>>,
 }
 
@@ -43,7 +46,7 @@ fn refill<A: PathAlgebra, R: Threads + Wait, T: Gate>(
     }
     let width = batch.run.settings.width as usize;
     let sources = upcoming(batch.run.alloc, batch.questions, i, j, width)?;
-    let gathered = run_together(batch, &queue.plan, &sources)?;
+    let gathered = run_together(batch, &queue.plan, queue.pace, &sources)?;
     queue.waiting = gathered;
     Ok(())
 }

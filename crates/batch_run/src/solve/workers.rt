@@ -11,6 +11,7 @@ ghost use Rattle.batch_run.specs.Solvers.{IsWorkerReady};
 
 use crate::batch::{Batch, BatchOver};
 use crate::solve::merge::merge_all;
+use crate::solve::pace::Pace;
 use crate::solve::queue::DiffusionQueue;
 use crate::watcher::Watcher;
 use answer_text::Answer;
@@ -105,7 +106,7 @@ impl<V: Copy> WorkerSolver<V> {
     }
 }
 
-/// Before the first question: cuts the graph into shards, and forgets what waits.
+/// Before the first question: cuts the graph into shards, sets the pace, and forgets what waits.
 pub(crate) fn start_workers<A: PathAlgebra, R, T>(
     batch: &Batch<'_, A, R, T>,
     solver: &mut WorkerSolver<A::Value>,
@@ -114,10 +115,12 @@ pub(crate) fn start_workers<A: PathAlgebra, R, T>(
     ensures ready { OnOk result (IsWorkerReady (A.meaning batch.now.algebra)
         batch.now.run.now.settings.now (asked_of batch.now.questions.now) 0 solver.new) }
 {
-    let (alloc, shards) = (batch.run.alloc, batch.run.settings.shards as u8);
-    let plan = Plan::blocks(alloc, solver.graph.vertices(), shards)?;
+    let (alloc, settings) = (batch.run.alloc, batch.run.settings);
+    let plan = Plan::blocks(alloc, solver.graph.vertices(), settings.shards as u8)?;
+    let pace = Pace::of(settings, &solver.graph);
     solver.queue = Some(DiffusionQueue {
         plan,
+        pace,
         waiting: Vec::new(alloc),
     });
     Ok(())

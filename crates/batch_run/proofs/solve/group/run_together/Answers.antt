@@ -17,7 +17,7 @@ pub run_group-requires-clause-own : goal.run_group-requires-clause-own
 run_group-requires-clause-own g c κs within =
     let at = (goal.at.run_group-requires-clause-own g c).In_ok-floors in
     λ q d low. rw c.as_slice.ensures.value
-    (opened_placed g.A.PathAlgebra.meaning (λ q. setup_of c.args.batch.now.algebra c.args.batch.now.graph.now (get_or c.args.sources.now q 0) c.args.plan.now c.of-pace.result.order)
+    (opened_placed g.A.PathAlgebra.meaning (λ q. setup_of c.args.batch.now.algebra c.args.batch.now.graph.now (get_or c.args.sources.now q 0) c.args.plan.now c.args.pace.order)
     c.in_ok-floors.floors.items c.in_ok-floors.opened.items
     (length c.args.sources.now) (floors_are g at) (λ q f v low. c.in_ok-floors.ensures.opened q 0 f v low) q d (rw c.in_ok-floors.ensures.stations at low))
 
@@ -29,8 +29,8 @@ loop-k-init g c =
     record {
       floors = omega (arith, f);
       lists = omega (arith, l);
-      each = λ q s e v low. rw (← c.of-pace.ensures.order)
-          (run_ended g.A.PathAlgebra.meaning (λ q. setup_of c.args.batch.now.algebra c.args.batch.now.graph.now (get_or c.args.sources.now q s) c.args.plan.now c.of-pace.result.order)
+      each = λ q s e v low. rw (← c.requires.pace.0)
+          (run_ended g.A.PathAlgebra.meaning (λ q. setup_of c.args.batch.now.algebra c.args.batch.now.graph.now (get_or c.args.sources.now q s) c.args.plan.now c.args.pace.order)
           c.in_ok-floors.floors.items c.in_ok-floors.opened.items
           (length c.args.sources.now) f (λ q f v low. c.in_ok-floors.ensures.opened q s f v low) c.in_ok-lists.lists.items
           (λ q k d e low. c.in_ok-lists.ensures.all q k d e (rw c.in_ok-floors.ensures.stations low))
@@ -96,10 +96,10 @@ returns-in_err-lists-clause-stops g c =
       | inl memory ↦ inl memory
       | inr stop ↦ inr (
         record {
-          ahead = c.of-pace.result.ahead;
+          ahead = c.args.pace.ahead;
           count = length c.args.sources.now;
           few = c.requires.width;
-          setup = λ q. setup_of batch.algebra batch.graph.now (get_or c.args.sources.now q 0) c.args.plan.now c.of-pace.result.order;
+          setup = λ q. setup_of batch.algebra batch.graph.now (get_or c.args.sources.now q 0) c.args.plan.now c.args.pace.order;
           each = λ q low. record {
             source = get_or c.args.sources.now q 0;
             is_vertex = c.requires.sources q 0 low;
@@ -107,7 +107,7 @@ returns-in_err-lists-clause-stops g c =
             plan = c.args.plan.now;
             is_plan = c.plan_holds.ensures.plan;
             cut = c.requires.plan;
-            setup_is = ap (λ o. setup_of batch.algebra batch.graph.now (get_or c.args.sources.now q 0) c.args.plan.now o) c.of-pace.ensures.order;
+            setup_is = ap (λ o. setup_of batch.algebra batch.graph.now (get_or c.args.sources.now q 0) c.args.plan.now o) c.requires.pace.0;
           };
           floors = c.in_ok-floors.floors.items;
           floors_are = floors_are g at;
@@ -116,6 +116,6 @@ returns-in_err-lists-clause-stops g c =
           opened = λ q f v low. c.in_ok-floors.ensures.opened q 0 f v low;
           stop = rw c.as_slice.ensures.value at stop;
         },
-        c.of-pace.ensures.ahead,
+        c.requires.pace.1,
       )
     ])

@@ -13,7 +13,10 @@ run_together-requires-clause-sources g c κs within =
     (to_come_within c.args.batch.now.graph.now.vertices c.args.batch.now.questions.now c.args.i c.args.j c.args.batch.now.within))
 
 pub run_together-requires-clause-plan : goal.run_together-requires-clause-plan
-run_together-requires-clause-plan g c κs within = c.requires.ready.plan
+run_together-requires-clause-plan g c κs within = c.requires.ready.chosen.0
+
+pub run_together-requires-clause-pace : goal.run_together-requires-clause-pace
+run_together-requires-clause-pace g c κs within = c.requires.ready.chosen.1
 
 pub returns-clause-some : goal.returns-clause-some
 returns-clause-some g c =
@@ -24,7 +27,7 @@ returns-clause-some g c =
 pub returns-clause-ready : goal.returns-clause-ready
 returns-clause-ready g c =
     group_waits (g.A.PathAlgebra.meaning c.args.batch.now.algebra) c.args.batch.now.run.now.settings.now c.args.batch.now.graph.now (sources_to_come (asked_of c.args.batch.now.questions.now).questions c.args.i c.args.j) c.args.batch.now.run.now.settings.now.width _
-    (c.in_ok-gathered.ensures.sources ∙ c.deref.ensures.value ∙ c.in_ok-sources.ensures) c.requires.ready.plan c.in_ok-gathered.ensures.gathered
+    (c.in_ok-gathered.ensures.sources ∙ c.deref.ensures.value ∙ c.in_ok-sources.ensures) c.requires.ready.chosen c.in_ok-gathered.ensures.gathered
 
 pub run_together-requires-clause-width : goal.run_together-requires-clause-width
 run_together-requires-clause-width g c κs within =

@@ -1,4 +1,4 @@
-use Rattle.std.proofs.Common.{◌+◌, refl, ℕ}
+use Rattle.std.proofs.Common.{◌+◌, ℕ}
 use Rattle.road_files.specs.Asked.{FromSource, asked_of}
 use Rattle.batch_run.specs.Diffusions.{IsNextSource, sources_to_come}
 use Rattle.batch_run.proofs.NextDiffusions.{taken_next, taken_gathered, others_wait}
@@ -26,4 +26,4 @@ pub returns-clause-ready : goal.returns-clause-ready
 returns-clause-ready g c =
     let source = next g (goal.at.returns-clause-ready g c).In-Some in
     others_wait (g.A.PathAlgebra.meaning c.args.batch.now.algebra) c.args.batch.now.run.now.settings.now c.args.batch.now.graph.now (sources_to_come (asked_of c.args.batch.now.questions.now).questions c.args.i c.args.j)
-    (sources_to_come (asked_of c.args.batch.now.questions.now).questions c.args.i (c.args.j + 1)) source.0 c.refill.new.queue (record c.refill.new.queue { waiting = c.pop.new.self }) c.in-Some.next source.1 c.in_ok-refill.ensures.ready c.in-Some.ensures.items refl
+    (sources_to_come (asked_of c.args.batch.now.questions.now).questions c.args.i (c.args.j + 1)) source.0 c.refill.new.queue (record c.refill.new.queue { waiting = c.pop.new.self }) c.in-Some.next source.1 c.in_ok-refill.ensures.ready c.in-Some.ensures.items c.in_ok-refill.ensures.ready.chosen

@@ -8,5 +8,5 @@ pub returns-clause-ready : goal.returns-clause-ready
 returns-clause-ready g c = record {
   some = refl;
   next = none_waits (g.A.PathAlgebra.meaning c.args.batch.now.algebra) c.args.batch.now.run.now.settings.now c.args.solver.now.graph (sources_to_come (asked_of c.args.batch.now.questions.now).questions 0 0) _
-      (rw c.vertices.ensures.count at c.in_ok-plan.ensures) c.new.ensures.items;
+      (rw c.vertices.ensures.count at c.in_ok-plan.ensures, (c.of-pace.ensures.order, c.of-pace.ensures.ahead)) c.new.ensures.items;
 }

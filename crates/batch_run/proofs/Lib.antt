@@ -18,4 +18,3 @@ mod WrittenReports
 mod Watching
 mod Telling
 mod Flushing
-mod Sending

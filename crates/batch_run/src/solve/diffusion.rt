@@ -1,19 +1,14 @@
 //! A diffusion that was run to its end, and how it is gathered.
-ghost use Rattle.std.specs.Prelude.{◌≡◌, [], ◌∷◌, true, IfOk, IfSome};
+ghost use Rattle.std.specs.Prelude.{◌≡◌, true, IfOk};
 ghost use Rattle.std.specs.List.{All};
-ghost use Rattle.road_graph.specs.GraphData.{HasVertex};
-ghost use Rattle.path_algebra.specs.Walks.{AreBest};
-ghost use Rattle.route_tree.specs.Tree.{IsTree};
-ghost use Rattle.batch_run.specs.Cut.{IsCut};
-ghost use Rattle.batch_run.specs.Diffusions.{IsEnded, IsGatheredOver};
+ghost use Rattle.shard_store.specs.Tallies.{tally_of};
+ghost use Rattle.station.specs.Gather.{IsGathered, counts_in};
+ghost use Rattle.batch_run.specs.Diffusions.{AreEnded};
 
-use crate::batch::BatchOver;
 use path_algebra::{Labels, PathAlgebra};
 use post_floor::Floor;
-use road_files::Questions;
 use road_graph::Vertex;
-use route_tree::{Tree, tree_outgoing};
-use shard_part::{Plan, Tally};
+use shard_part::Tally;
 use station::{Finished, GatherFault, Gathered, Station, gather};
 use std::alloc::{AllocError, Global};
 
@@ -25,18 +20,11 @@ pub(crate) struct EndedDiffusion<'g, A: PathAlgebra> {
     pub(crate) stations: Vec<Station<'g, A>>,
 }
 
-/// Best labels from some sources, and their tree if it was made.
-#[derive(Drop)]
-pub(crate) struct Labelling<V: Copy> {
-    pub(crate) labels: Labels<V>,
-    pub(crate) tree: Option<Tree>,
-}
-
-/// What a diffusion from a source came to, and its counts.
+/// What a diffusion from a source came to: best labels, and its counts.
 #[derive(Drop)]
 pub(crate) struct GatheredDiffusion<V: Copy> {
     pub(crate) source: Vertex,
-    pub(crate) labelling: Labelling<V>,
+    pub(crate) labels: Labels<V>,
     pub(crate) tally: Tally,
 }
 
@@ -58,55 +46,24 @@ fn finish_all<'g, A: PathAlgebra>(
     Ok(finished)
 }
 
-/// The tree of labels that are best from a source, if that is the only one of its question, and
-/// memory suffices.
-fn tree_ahead<A: PathAlgebra, R, T>(
-    batch: &BatchOver<'_, A, R, T>,
-    source: Vertex,
-    labels: &Labels<A::Value>,
-) -> Option<Tree>
-    requires source { HasVertex batch.now.graph.now source }
-    requires labels { AreBest (A.meaning batch.now.algebra) batch.now.graph.now (source ∷ [])
-        labels.now }
-    ensures { IfSome result (IsTree (A.meaning batch.now.algebra) batch.now.graph.now
-        (source ∷ [])) }
-{
-    let Questions::Sources(_) = batch.questions else {
-        return None;
-    };
-    let (alloc, graph) = (batch.run.alloc, batch.graph.outgoing());
-    tree_outgoing(alloc, batch.algebra, graph, &[source], labels).ok()
-}
-
-/// What an ended diffusion came to.
-pub(crate) fn gather_ended<'g, A: PathAlgebra, R, T>(
-    batch: &BatchOver<'_, A, R, T>,
-    plan: &Plan,
+/// The labels and the counts of a diffusion that was run to its end.
+pub(crate) fn gather_ended<'g, A: PathAlgebra>(
+    alloc: Global,
     ended: EndedDiffusion<'g, A>,
-) -> Result<GatheredDiffusion<A::Value>, AllocError>
-    requires plan { IsCut batch.now.run.now.settings.now batch.now.graph.now plan.now }
-    requires ended { IsEnded batch.now.algebra batch.now.run.now.settings.now batch.now.graph.now
-        plan.now ended }
-    ensures { IfOk result (λ d. IsGatheredOver (A.meaning batch.now.algebra)
-        batch.now.run.now.settings.now batch.now.graph.now d × (d.source ≡ ended.entry.source)) }
+) -> Result<Gathered<A::Value>, AllocError>
+    requires { AreEnded ended.floor.setup ended.floor ended.stations.items }
+    ensures gathered { IfOk result (IsGathered A.meaning ended.entry.floor.setup) }
+    ensures counted { IfOk result
+        (λ g. g.tally ≡ tally_of (counts_in ended.entry.stations.items)) }
 {
     let EndedDiffusion {
-        source,
+        source: _,
         floor,
         stations,
     } = ended;
-    let alloc = batch.run.alloc;
     let finished = finish_all(alloc, stations)?;
     match gather(alloc, floor, finished) {
-        Ok(gathered) => {
-            let Gathered { labels, tally } = gathered;
-            let tree = tree_ahead(batch, source, &labels);
-            Ok(GatheredDiffusion {
-                source,
-                labelling: Labelling { labels, tree },
-                tally,
-            })
-        }
+        Ok(gathered) => Ok(gathered),
         Err(ungathered) => match ungathered.fault {
             GatherFault::Memory => Err(AllocError),
             GatherFault::Missing(_) => unreachable!(),

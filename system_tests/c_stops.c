@@ -1,5 +1,5 @@
 /* A stop that is set while one call runs, which would take about a second: the call ends within 0.2 s of processor time; a tree by
-   factors, which takes less, within 0.02 s. Link with -pthread.
+   factors, which takes less, within 0.05 s. Link with -pthread.
    c_library beside this file says what it must print. */
 #define _GNU_SOURCE
 #include <diffuse.h>
@@ -10,7 +10,7 @@
 
 /* A graph whose search takes its time, since its arcs lead anywhere; all but the last vertex are nearer than the last. */
 enum { MANY = 1200000, ROWS = 3000000, SIDE = 200, PLACES = SIDE * SIDE, EACH = 1500, TRIES = 5 };
-static const double BEGUN = 0.1, LATE = 0.2, SWEPT = 0.02;
+static const double BEGUN = 0.1, LATE = 0.2, SWEPT = 0.02, SOON = 0.05;
 static struct diffuse_graph wide = DIFFUSE_CLOSED, grid = DIFFUSE_CLOSED, reweighed = DIFFUSE_CLOSED, chain = DIFFUSE_CLOSED;
 static struct diffuse_stop stop = DIFFUSE_CLOSED;
 static uint32_t *numbers, *sources, few[EACH];
@@ -156,13 +156,13 @@ static double run_on(struct asked *it) {
     return it->ended - (after > before ? after : before);
 }
 
-/* Whether each try ends with STOPPED, and one of them soon: on a busy machine a thread may run on for a while before its stop is set. */
+/* Whether some try ends with STOPPED, and soon: on a busy machine a call may run on, or be done, before its stop is set. */
 static int is_stopped(struct asked *it) {
     double late = 0;
     for (int left = TRIES; left > 0; left--) {
         late = run_on(it);
-        if (it->status != DIFFUSE_STATUS_STOPPED) break;
-        if (late <= it->late) return 1;
+        if (it->status != DIFFUSE_STATUS_STOPPED && it->status != DIFFUSE_STATUS_DONE) break;
+        if (it->status == DIFFUSE_STATUS_STOPPED && late <= it->late) return 1;
     }
     printf("%s: %s after %.3f s, %.3f s after the stop was set\n", it->name, diffuse_status_text(it->status), it->ended, late);
     return 0;
@@ -178,7 +178,7 @@ int main(void) {
                            {"table of near targets by hops", near_table, DIFFUSE_ALGEBRA_HOPS, BEGUN, LATE, 0, DIFFUSE_STATUS_NONE},
                            {"table by factors", factored_table, DIFFUSE_ALGEBRA_SHORTEST, BEGUN, LATE, 0, DIFFUSE_STATUS_NONE},
                            {"table by factors of a reweighed graph", reweighed_table, DIFFUSE_ALGEBRA_WITHIN, BEGUN, LATE, 0, DIFFUSE_STATUS_NONE},
-                           {"tree by factors", factored_tree, DIFFUSE_ALGEBRA_SHORTEST, SWEPT, SWEPT, 0, DIFFUSE_STATUS_NONE}};
+                           {"tree by factors", factored_tree, DIFFUSE_ALGEBRA_SHORTEST, SWEPT, SOON, 0, DIFFUSE_STATUS_NONE}};
     numbers = (uint32_t *)list_of(MANY, sizeof *numbers);
     sources = (uint32_t *)list_of(ROWS, sizeof *sources);
     codes = (uint64_t *)list_of(ROWS, sizeof *codes);

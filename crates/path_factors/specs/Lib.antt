@@ -10,3 +10,4 @@ pub mod Heads
 pub mod Chains
 pub mod Reweighing
 pub mod Pruning
+pub mod Slots

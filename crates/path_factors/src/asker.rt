@@ -5,7 +5,7 @@ ghost use Rattle.path_algebra.specs.Walks.{IsBestLabel};
 
 use crate::climb::forget;
 use crate::factors::Factors;
-use path_algebra::ComposingAlgebra;
+use crate::label_slot::{CompactAlgebra, LabelSlot, no_labels};
 use road_graph::{Memory, Vertex};
 use std::alloc::Global;
 use std::marker::Model;
@@ -15,16 +15,16 @@ use std::snapshot::Snapshot;
 /// and back substitution at those of the targets. It is made once for a factor, and then serves one
 /// source after another: no list of all places is made or cleared again.
 #[derive(Drop)]
-pub struct Asker<A: ComposingAlgebra> {
+pub struct Asker<A: CompactAlgebra> {
     factors: Snapshot<Factors<A>>,
     source: Option<Vertex>,
-    labels: Vec<Option<A::Value>>,
+    labels: Vec<LabelSlot<A>>,
     known: Vec<bool>,
     /// The places that became known since the last source.
     asked: Vec<u32>,
 }
 
-impl<A: ComposingAlgebra> Model for Asker<A> {
+impl<A: CompactAlgebra> Model for Asker<A> {
     ghost use Rattle.path_factors.specs.Asking.{AskerState, IsAsking, sources_of};
 
     ghost Value = { AskerState A A.Walk };
@@ -34,7 +34,7 @@ impl<A: ComposingAlgebra> Model for Asker<A> {
     ghost invariant = { λ s. IsAsking (A.meaning s.factors.value.algebra) (A.walks s.factors.value.algebra) s.factors.value.roads s.factors.value.factor s.factors.value.heads (sources_of s.source) s.labels.items s.known.items s.asked.items };
 }
 
-impl<A: ComposingAlgebra> Asker<A> {
+impl<A: CompactAlgebra> Asker<A> {
     /// An asker for a factor, without a source.
     pub fn new(alloc: Global, factors: &Factors<A>) -> Result<Self, Memory>
         ensures factors { IfOk result (λ s. s.factors ≡ factors.now) }
@@ -42,7 +42,7 @@ impl<A: ComposingAlgebra> Asker<A> {
     {
         factors.holds();
         let n = factors.places.len();
-        let labels: Vec<Option<A::Value>> = vec![in alloc; None; n]?;
+        let labels = no_labels(alloc, n)?;
         let known: Vec<bool> = vec![in alloc; false; n]?;
         let asked: Vec<u32> = Vec::with_capacity(alloc, n)?;
         Ok(Asker {
@@ -85,6 +85,6 @@ impl<A: ComposingAlgebra> Asker<A> {
         let known = self.asked.len();
         factors.list_unknown(&self.known, &mut self.asked, t)?;
         factors.find_listed(&mut self.labels, &mut self.known, &self.asked[known..], t);
-        Ok(self.labels[t])
+        Ok(self.labels[t].get())
     }
 }

@@ -6,13 +6,13 @@ ghost use Rattle.path_factors.specs.Substituting.{at, IsForward, IsForwardTo};
 ghost use Rattle.path_factors.specs.Asking.{is_on, sources_of, AreOnlyUp, IsAboveSource};
 
 use crate::factors::Factors;
-use path_algebra::ComposingAlgebra;
+use crate::label_slot::{CompactAlgebra, LabelSlot};
 use road_graph::Vertex;
 
-impl<A: ComposingAlgebra> Factors<A> {
+impl<A: CompactAlgebra> Factors<A> {
     /// Forward substitution if one place alone has a label: each of its ancestors, in ascending
     /// order, offers its label along its links. No other gets one.
-    pub(crate) fn climb(&self, labels: &mut [Option<A::Value>], s: usize)
+    pub(crate) fn climb(&self, labels: &mut [LabelSlot<A>], s: usize)
         requires place { s < self.now.roads.vertices }
         requires count { length labels.old ≡ self.now.roads.vertices }
         requires alone { (j : ℕ) → (j ≡ s → ⊥) → at labels.old j ≡ None }
@@ -31,7 +31,7 @@ impl<A: ComposingAlgebra> Factors<A> {
     }
 
     /// Takes the labels of a place and its ancestors away.
-    pub(crate) fn clear_up(&self, labels: &mut [Option<A::Value>], s: usize)
+    pub(crate) fn clear_up(&self, labels: &mut [LabelSlot<A>], s: usize)
         requires place { s < self.now.roads.vertices }
         requires count { length labels.old ≡ self.now.roads.vertices }
         requires up { AreOnlyUp self.now.heads self.now.roads.vertices s labels.old }
@@ -41,13 +41,13 @@ impl<A: ComposingAlgebra> Factors<A> {
         self.holds();
         let mut v = s;
         while v < labels.len() {
-            labels[v] = None;
+            labels[v] = LabelSlot::none();
             v = self.parent(v);
         }
     }
 
     /// Takes the labels of the source's ancestors away, if there is a source.
-    pub(crate) fn clear_from(&self, labels: &mut [Option<A::Value>], source: Option<Vertex>)
+    pub(crate) fn clear_from(&self, labels: &mut [LabelSlot<A>], source: Option<Vertex>)
         requires source { All (HasVertex self.now.roads) (sources_of source) }
         requires count { length labels.old ≡ self.now.roads.vertices }
         requires up { (j : ℕ) → (at labels.old j ≡ None)
@@ -62,7 +62,7 @@ impl<A: ComposingAlgebra> Factors<A> {
     }
 
     /// Forward substitution from a source, if nothing has a label before.
-    pub(crate) fn start(&self, labels: &mut [Option<A::Value>], source: Vertex)
+    pub(crate) fn start(&self, labels: &mut [LabelSlot<A>], source: Vertex)
         requires source { HasVertex self.now.roads source }
         requires count { length labels.old ≡ self.now.roads.vertices }
         requires none { (j : ℕ) → at labels.old j ≡ None }
@@ -74,13 +74,17 @@ impl<A: ComposingAlgebra> Factors<A> {
     {
         self.holds();
         let s = self.place(source);
-        labels[s] = Some(self.algebra.origin());
+        labels[s] = LabelSlot::origin(self.algebra);
         self.climb(labels, s);
     }
 }
 
 /// Takes the labels of the places of a list away, and forgets that they are known.
-pub(crate) fn forget<V: Copy>(labels: &mut [Option<V>], known: &mut [bool], asked: &[u32])
+pub(crate) fn forget<A: CompactAlgebra>(
+    labels: &mut [LabelSlot<A>],
+    known: &mut [bool],
+    asked: &[u32],
+)
     requires count { length known.old ≡ length labels.old }
     requires inside { All (λ i. i < length labels.old) asked.now }
     requires listed { (j : ℕ) → is_on known.old j ≡ true → Contains asked.now j }
@@ -91,7 +95,7 @@ pub(crate) fn forget<V: Copy>(labels: &mut [Option<V>], known: &mut [bool], aske
         ⊎ ((is_on known.old j ≡ false) × (at labels.new j ≡ at labels.old j)) }
 {
     for i in asked {
-        labels[*i as usize] = None;
+        labels[*i as usize] = LabelSlot::none();
         known[*i as usize] = false;
     }
 }

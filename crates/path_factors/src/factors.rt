@@ -1,9 +1,9 @@
 //! A graph that is factored.
 ghost use Rattle.std.specs.Prelude.{◌≡◌, ◌<◌, ◌≤◌};
-ghost use Rattle.road_graph.specs.GraphData.{IsGraph};
+ghost use Rattle.road_graph.specs.GraphData.{HasVertex, IsGraph};
 ghost use Rattle.path_algebra.specs.Algebra.{IsLawful};
 ghost use Rattle.path_algebra.specs.Composition.{IsComposition};
-ghost use Rattle.path_factors.specs.Factors.{IsFactor, row_of};
+ghost use Rattle.path_factors.specs.Factors.{IsFactor, place_of, row_of};
 ghost use Rattle.path_factors.specs.Heads.{IsOutline};
 ghost use Rattle.path_factors.specs.Tree.{AreAtHeads, IsTreeParent};
 
@@ -11,7 +11,7 @@ use crate::heads::Heads;
 use crate::packed::PackedRows;
 use elimination_order::Order;
 use path_algebra::{ComposingAlgebra, composition_holds, laws_hold};
-use road_graph::OutGraph;
+use road_graph::{OutGraph, Vertex};
 use std::marker::Model;
 use std::snapshot::Snapshot;
 use std::sync::Arc;
@@ -60,6 +60,15 @@ impl<A: ComposingAlgebra> Factors<A> {
     {
         laws_hold(self.algebra);
         composition_holds(self.algebra);
+    }
+
+    /// The place of a vertex.
+    pub(crate) fn place(&self, v: Vertex) -> usize
+        requires { HasVertex self.now.roads v }
+        ensures place { result ≡ place_of self.now.factor v }
+        ensures inside { result < self.now.roads.vertices }
+    {
+        self.places[v.0 as usize - 1] as usize
     }
 
     /// The greater places with which a place has an edge.

@@ -5,6 +5,7 @@ ghost use Rattle.path_factors.specs.Substituting.{at, best_along};
 ghost use Rattle.path_factors.specs.Asking.{IsBackRun, Agree, IsKnownUpward, AreAllUnknownUp, AreFound, IsExtended};
 
 use crate::factors::Factors;
+use crate::label_slot::{CompactAlgebra, LabelSlot};
 use path_algebra::ComposingAlgebra;
 use road_graph::Memory;
 use std::alloc::AllocError;
@@ -32,9 +33,11 @@ impl<A: ComposingAlgebra> Factors<A> {
         }
         Ok(())
     }
+}
 
+impl<A: CompactAlgebra> Factors<A> {
     /// Finds the label of a place from those of all places above it.
-    fn find_at(&self, labels: &mut [Option<A::Value>], known: &mut [bool], i: usize)
+    fn find_at(&self, labels: &mut [LabelSlot<A>], known: &mut [bool], i: usize)
         requires place { i < self.now.roads.vertices }
         requires labels { length labels.old ≡ self.now.roads.vertices }
         requires known { length known.old ≡ self.now.roads.vertices }
@@ -50,7 +53,7 @@ impl<A: ComposingAlgebra> Factors<A> {
     /// Finds the labels of the unknown ancestors of a place, from the last one down.
     pub(crate) fn find_listed(
         &self,
-        labels: &mut [Option<A::Value>],
+        labels: &mut [LabelSlot<A>],
         known: &mut [bool],
         list: &[u32],
         t: usize,

@@ -16,6 +16,7 @@ mod factors;
 mod find;
 mod fits;
 mod heads;
+mod label_slot;
 mod link;
 mod load;
 mod outline;
@@ -28,6 +29,7 @@ mod weighing;
 
 pub use asker::Asker;
 pub use factors::Factors;
+pub use label_slot::CompactAlgebra;
 pub use link::Link;
 pub use prune::Links;
 pub use reweigh::Unfit;

@@ -11,7 +11,8 @@ loop-i-preserved g c =
     let k = c.loop-i.i-index in
     let i = get_or asked k 0 in
     let low = c.requires.inside k 0 c.loop-i-test.true in
-    forgotten_more asked c.args.labels.now c.args.known.now k i c.loop-i.labels c.loop-i.known c.loop-i.invariant c.requires.count (λ j. i) low
+    rw c.none.ensures
+    (forgotten_more asked c.args.labels.now c.args.known.now k i c.loop-i.labels c.loop-i.known c.loop-i.invariant c.requires.count (λ j. i) low)
 
 pub returns-clause-unknown : goal.returns-clause-unknown
 returns-clause-unknown g c = λ j.

@@ -121,5 +121,5 @@ returns-clause-best g c =
     let value : c.index.result.now ≡ at found (place_of f.factor c.args.v) =
     c.index.ensures ∙ ap (λ (l : List (Option g.row.A-Value.Denot)). get_or l c.place-t.result c.index.result.now) kept
     ∙ get_or_default found c.place-t.result c.index.result.now None lt ∙ ap (at found) t in
-    subst (λ (l : List ℕ). IsBestLabel A f.roads l c.args.v c.index.result.now) (λ i. (c.self.view_is i).sources)
-    (subst (λ (o : Option g.row.A-Value.Denot). IsBestLabel A f.roads (sources_of s.source) c.args.v o) (sym value) best)
+    subst (λ (l : List ℕ). IsBestLabel A f.roads l c.args.v c.get.result) (λ i. (c.self.view_is i).sources)
+    (subst (λ (o : Option g.row.A-Value.Denot). IsBestLabel A f.roads (sources_of s.source) c.args.v o) (sym (c.get.ensures ∙ value)) best)

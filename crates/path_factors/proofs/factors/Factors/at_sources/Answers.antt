@@ -1,4 +1,4 @@
-use Rattle.std.proofs.Common.{◌≡◌, ℕ, ◌+◌, ◌∙◌, arith, List, Option, None, take, sym, ap, length, replicate, ◌++◌, ◌∷◌, []}
+use Rattle.std.proofs.Common.{◌≡◌, ℕ, ◌+◌, ◌∙◌, arith, List, Option, Some, None, take, sym, ap, length, replicate, ◌++◌, ◌∷◌, []}
 use Rattle.std.proofs.lemmas.List.{take_more, length-replicate}
 use Rattle.std.proofs.lemmas.Grind.{common_steps}
 use Rattle.path_factors.specs.Substituting.{at}
@@ -26,6 +26,6 @@ loop-s-preserved g c =
     let more : take (i + 1) sources ≡ take i sources ++ s ∷ [] =
     take_more sources i s c.loop-s-test.true ∙ ap (λ (t : ℕ). take i sources ++ t ∷ []) (sym c.s-item.is) in
     let alg : c.self.inside.algebra ≡ c.args.self.now.algebra = λ j. (c.self.view_is j).algebra in
-    let origin : c.origin-origin.result ≡ A.origin = c.origin-origin.ensures ∙ ap (λ a. (g.A.PathAlgebra.meaning a).origin) alg in
+    let origin : c.origin.result ≡ Some A.origin = c.origin.ensures ∙ ap (λ a. Some (g.A.PathAlgebra.meaning a).origin) alg in
     rw (more, c.place.ensures.place, origin)
     (origins_more A c.args.self.now.roads F c.holds.ensures.factor.ordering (take i sources) s c.loop-s.labels.items (rw (← c.s-item.is) at in_s) c.loop-s.invariant)

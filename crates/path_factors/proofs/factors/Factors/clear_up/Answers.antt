@@ -12,9 +12,10 @@ loop-v-preserved g c =
     let count = c.loop-v.invariant.count in
     let low : v < G.vertices = omega (arith, c.loop-v-test.true, count) in
     record {
-      count = length-set c.loop-v.labels v None ∙ count;
+      count = length-set c.loop-v.labels v _ ∙ count;
       inside = c.parent-v.ensures.inside;
-      up = clear_more A holds.lawful C holds.composes G holds.roads c.args.self.now.factor holds.factor c.args.self.now.heads holds.outline.are v c.parent-v.result low c.parent-v.ensures.parent c.loop-v.labels count c.loop-v.invariant.up;
+      up = rw c.none.ensures
+          (clear_more A holds.lawful C holds.composes G holds.roads c.args.self.now.factor holds.factor c.args.self.now.heads holds.outline.are v c.parent-v.result low c.parent-v.ensures.parent c.loop-v.labels count c.loop-v.invariant.up);
     }
 
 pub returns-clause-none : goal.returns-clause-none

@@ -29,5 +29,5 @@ returns-clause-forward g c =
     let inside = All-cons (HasVertex G) s [] c.requires.source (All-nil (HasVertex G)) in
     let start = forward_starts A holds.lawful C holds.composes G holds.roads F holds.factor (s ∷ []) (set labels (place_of F s) (Some A.origin)) inside origins in
     let alg : c.self.inside.algebra ≡ c.args.self.now.algebra = λ i. (c.self.view_is i).algebra in
-    let origin : c.origin.result ≡ A.origin = c.origin.ensures ∙ ap (λ a. (g.A.PathAlgebra.meaning a).origin) alg in
+    let origin : c.origin.result ≡ Some A.origin = c.origin.ensures ∙ ap (λ a. Some (g.A.PathAlgebra.meaning a).origin) alg in
     c.climb.ensures.forward (s ∷ []) (rw (c.place-s.ensures.place, origin) start)

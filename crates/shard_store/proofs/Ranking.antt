@@ -112,7 +112,7 @@ module _ {V : Type 0} where
   pub in_third : (b : ℕ) (one two three all : List (Item V)) (x y z : Bool) → one ++ (two ++ three) ≡ all → x ≡ leb 1 (counted b one) → x ≡ false → y ≡ leb 1 (counted b two) → y ≡ false → z ≡ leb 1 (counted b three) → z ≡ leb 1 (counted b all)
   in_third b one two three all x y z e h f k t w = in_other b one (two ++ three) all x z e h f (in_other b two three (two ++ three) y z refl k t w)
 
-dropped_none : {X : Type 0} (n : ℕ) (xs : List X) → xs ≡ [] → drop n xs ≡ []
+pub dropped_none : {X : Type 0} (n : ℕ) (xs : List X) → xs ≡ [] → drop n xs ≡ []
 dropped_none zero xs e = e
 dropped_none (suc n) xs e = ap (drop (suc n)) e
 

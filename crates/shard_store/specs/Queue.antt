@@ -1,5 +1,5 @@
 -- What a contract sees of a queue, and what holds of its three lists.
-use Rattle.std.specs.Prelude.{◌≡◌, ℕ, ◌+◌, ◌≤◌, ◌++◌, ◌∷◌, Bool, false, IsTrue, List, [], length, All, Vec, vec_capacity}
+use Rattle.std.specs.Prelude.{⊤, ◌≡◌, ℕ, ◌+◌, ◌≤◌, ◌++◌, ◌∷◌, Bool, false, Option, Some, None, IsTrue, IfSome, List, [], length, All, Contains, Vec, vec_capacity}
 use Rattle.std.specs.BinaryHeap.{IsHeap}
 use Rattle.std.specs.declared.cmp.Ordering.{Ordering}
 use Rattle.scholten_core.specs.declared.item.Item.{Item}
@@ -49,6 +49,22 @@ module _ {V : Type 0} (no_worse : V → V → Bool) where
   -- so is all that waits: nothing may be taken before the limit moves on
   abbrev pub IsHeldBy : V → List (Item V) → Type 0
   IsHeldBy x waiting = All (IsWorseMessage x) waiting
+
+  -- there is a value, and it is no worse than y
+  abbrev pub IsAsGood : Option V → V → Type 0
+  IsAsGood None y = ⊥
+  IsAsGood (Some x) y = IsTrue (no_worse x y)
+
+  -- if the item is a message, there is a value no worse than its own
+  abbrev pub IsCovered : Option V → Item V → Type 0
+  IsCovered best (MessageOn b y) = IsAsGood best y
+  IsCovered best (SignalOn b) = ⊤
+
+  -- the best value of the messages that wait: one has it, and none has a better one; none if no
+  -- message waits
+  pub record IsBestWaiting (waiting : List (Item V)) (best : Option V) : Type 0 where
+    pub waits : IfSome best (λ x. (a : ℕ) × Contains waiting (MessageOn a x))
+    pub least : All (IsCovered best) waiting
 
   -- the item is the best of the messages that wait, and nothing else waits
   abbrev pub IsBestMessage : Item V → List (Item V) → Type 0

@@ -1,13 +1,14 @@
 //! Whether what waits in a queue is held back.
-ghost use Rattle.std.specs.Prelude.{◌≡◌, IsTrue, map};
+ghost use Rattle.std.specs.Prelude.{◌≡◌, ◌++◌, [], ◌∷◌, List, IsTrue, map};
 ghost use Rattle.std.specs.BinaryHeap.{heap_items, IsHeap};
 ghost use Rattle.ranked_queue.specs.Order.{ranked_cmp};
-ghost use Rattle.shard_store.specs.Queue.{ranked_item, IsWorseMessage, IsHeldBy};
+ghost use Rattle.shard_store.specs.Queue.{ranked_item, IsWorseMessage, IsHeldBy, IsBestWaiting};
+ghost use Rattle.scholten_core.specs.declared.item.Item.{Item};
 ghost use Rattle.shard_store.specs.declared.queue_order.QueueOrder.TheVariants.{BestFirst};
 
 use crate::queue::{Queue, RankedMessage};
 use crate::queue_order::QueueOrder;
-use path_algebra::PathAlgebra;
+use path_algebra::{PathAlgebra, better_label};
 use scholten_core::Item;
 use std::collections::BinaryHeap;
 
@@ -28,25 +29,44 @@ impl<A: PathAlgebra> Queue<A> {
     }
 
     /// The best value that waits; first come, first served none.
-    pub fn best(&self) -> Option<A::Value> {
-        let mut best = match self.ranked.peek() {
-            Some(top) => Some(top.value),
-            None => None,
-        };
-        for item in &self.back {
-            if let Item::Message { value, .. } = *item {
-                best = better::<A>(best, value);
-            }
-        }
-        best
+    pub fn best(&self) -> Option<A::Value>
+        ensures { self.now.room.order ≡ BestFirst → IsBestWaiting A.order self.now.items result }
+    {
+        best_with::<A>(top_value(&self.ranked), &self.back)
     }
 }
 
-/// The better of two values, if there is a first.
-fn better<A: PathAlgebra>(best: Option<A::Value>, value: A::Value) -> Option<A::Value> {
-    match best {
-        Some(best) if A::no_worse(best, value) => Some(best),
-        _ => Some(value),
+/// The best value of the ranked messages.
+fn top_value<A: PathAlgebra>(ranked: &BinaryHeap<RankedMessage<A>>) -> Option<A::Value>
+    requires { IsHeap (ranked_cmp (λ m. m.value) (λ m. m.rank) A.order) (heap_items ranked.now) }
+    ensures { IsBestWaiting A.order (map ranked_item (heap_items ranked.now)) result }
+{
+    match ranked.peek() {
+        Some(top) => Some(top.value),
+        None => None,
+    }
+}
+
+/// The best value, once more items wait.
+fn best_with<A: PathAlgebra>(best: Option<A::Value>, items: &[Item<A::Value>]) -> Option<A::Value>
+    ensures { (waiting : List (Item A.Value)) → IsBestWaiting A.order waiting best →
+        IsBestWaiting A.order (waiting ++ items.now) result }
+{
+    let mut best = best;
+    for i in 0..items.len() {
+        best = better::<A>(best, items[i]);
+    }
+    best
+}
+
+/// The best value, once one more item waits.
+fn better<A: PathAlgebra>(best: Option<A::Value>, item: Item<A::Value>) -> Option<A::Value>
+    ensures { (waiting : List (Item A.Value)) → IsBestWaiting A.order waiting best →
+        IsBestWaiting A.order (waiting ++ item ∷ []) result }
+{
+    match item {
+        Item::Message { value, .. } => better_label::<A>(best, Some(value)),
+        Item::Signal { .. } => best,
     }
 }
 

@@ -6,6 +6,8 @@ ghost use Rattle.shard_part.specs.Exchange.{Fits};
 ghost use Rattle.shard_part.specs.Readings.{IsOwn, has_ended, tally_in};
 ghost use Rattle.shard_part.specs.Part.{PartInvariant, IsOutgoingTo};
 ghost use Rattle.shard_store.specs.Capacities.{queue_bound, outbox_bound};
+ghost use Rattle.shard_store.specs.Queue.{IsBestWaiting};
+ghost use Rattle.shard_store.specs.declared.queue_order.QueueOrder.TheVariants.{BestFirst};
 ghost use Rattle.shard_store.specs.Setup.{network_of, place_in};
 
 use crate::part::Part;
@@ -89,7 +91,9 @@ impl<'g, A: PathAlgebra> Part<'g, A> {
     }
 
     /// The best value that waits to be handled, best first: a hint to other shards.
-    pub fn best_waiting(&self) -> Option<A::Value> {
+    pub fn best_waiting(&self) -> Option<A::Value>
+        ensures { self.now.setup.order ≡ BestFirst → IsBestWaiting A.order self.now.queue result }
+    {
         self.state.queue.best()
     }
 

@@ -4,7 +4,8 @@ use Rattle.std.specs.Prelude.{IsTrue, IfSome, if◌then◌else◌}
 use Rattle.std.proofs.lemmas.Bool.{cases_eq, false≢true}
 use Rattle.path_algebra.specs.Algebra.{Algebra, IsOrder}
 use Rattle.path_algebra.specs.Walks.{better_label}
-use Rattle.post_floor.specs.Hints.{IsAsGood, IsShown, IsBestShown}
+use Rattle.shard_store.specs.Queue.{IsAsGood}
+use Rattle.post_floor.specs.Hints.{IsShown, IsBestShown}
 
 module _ {V : Type 0} (A : Algebra V) (ordered : IsOrder A.no_worse) (shows : ℕ → ℕ → Type 0) (own : ℕ) where
   abbrev IsShownBelow : ℕ → V → Type 0

@@ -1,6 +1,10 @@
 -- How far a shard may run ahead of the others, by what a source of hints shows.
 use Rattle.std.specs.Prelude.{◌≡◌, ◌≢◌, ◌⊎◌, ℕ, ◌<◌, Bool, IsTrue, IfSome, Option, Some, None}
 use Rattle.path_algebra.specs.Algebra.{Algebra}
+use Rattle.shard_store.specs.Queue.{IsAsGood, IsBestWaiting}
+use Rattle.shard_store.specs.declared.queue_order.QueueOrder.TheVariants.{BestFirst}
+use Rattle.shard_part.specs.PartState.{PartData}
+use Rattle.post_floor.specs.Data.{FloorData}
 use Rattle.post_floor.specs.declared.hints.Limit.{Limit}
 
 -- the code that stands for no value
@@ -11,10 +15,15 @@ nothing = 18446744073709551615
 abbrev pub StandsFor : {V : Type 0} → Algebra V → ℕ → Option V → Type 0
 StandsFor A code o = (code ≡ nothing → o ≡ None) × (code ≢ nothing → o ≡ A.value_of code)
 
--- there is a value, and it is no worse than y
-abbrev pub IsAsGood : {V : Type 0} → (V → V → Bool) → Option V → V → Type 0
-IsAsGood no_worse None y = ⊥
-IsAsGood no_worse (Some x) y = IsTrue (no_worse x y)
+-- what a shard advertises of the best value that waits for it, if one does
+pub record Advert (V : Type 0) : Type 0 where
+  pub shard : ℕ
+  pub best : Option V
+
+-- the part advertised the best value that waits for it, if shards are held back
+abbrev pub IsAdvertised : {S V : Type 0} → (V → V → Bool) → FloorData S → PartData S V → Option (Advert V) → Type 0
+IsAdvertised no_worse f p None = f.ahead ≡ None
+IsAdvertised no_worse f p (Some a) = (a.shard ≡ p.shard) × (p.setup.order ≡ BestFirst → IsBestWaiting no_worse p.queue a.best)
 
 -- `shows` says which codes the source may show of a shard
 module _ {V : Type 0} (A : Algebra V) (shows : ℕ → ℕ → Type 0) where

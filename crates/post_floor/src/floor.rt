@@ -6,13 +6,13 @@ ghost use Rattle.post_floor.specs.Boxes.{box_count};
 ghost use Rattle.post_floor.specs.Closing.{AllSeated, IsClosed};
 ghost use Rattle.post_floor.specs.Data.{IsAt, IsFresh, IsSameSeat, fill_box, read_box, seat_of};
 ghost use Rattle.post_floor.specs.Floor.{fill_claims, read_claims};
-ghost use Rattle.post_floor.specs.Hints.{IsLimit};
+ghost use Rattle.post_floor.specs.Hints.{IsAdvertised, IsLimit};
 ghost use Rattle.post_floor.specs.Plays.{FillOutcome, PublishOutcome, ReadOutcome, ClearOutcome, LookOutcome, published_to};
 
 use crate::claims::rotate_to;
 use crate::close::{Closed, all_seated, free, join_all, pass_of};
 use crate::exchange::{publish_batch, read_batch};
-use crate::hints::{Hints, Limit, limit_by};
+use crate::hints::{Advertised, Hints, Limit, limit_by};
 use crate::mailbox::{DONE, EMPTY, mailbox_count, next_slot, word_of};
 use crate::open::{batches, seat_all};
 use crate::seat::Seat;
@@ -120,12 +120,15 @@ impl<A: PathAlgebra> Floor<A> {
         self.hints.ahead()
     }
 
-    /// Advertises the best value that waits at a part, if shards are held back.
-    pub fn advertise(&self, part: &Part<'_, A>) {
-        if self.hints.ahead().is_some() {
-            self.hints
-                .advertise(part.algebra(), part.shard(), part.best_waiting());
+    /// Advertises the best value that waits at a part, if shards are held back, and says so.
+    pub fn advertise(&self, part: &Part<'_, A>) -> Option<Advertised<A::Value>>
+        ensures { IsAdvertised A.order self.now part.now result }
+    {
+        if self.hints.ahead().is_none() {
+            return None;
         }
+        let best = part.best_waiting();
+        Some(self.hints.advertise(part.algebra(), part.shard(), best))
     }
 
     /// Whether the next mailbox to a shard is empty. If so, this seat is filling it now.

@@ -7,6 +7,7 @@ use crossbeam_utils::CachePadded;
 use path_algebra::{PathAlgebra, better_label, laws_hold};
 use shard_part::Shard;
 use std::alloc::{AllocError, Global};
+use std::marker::Model;
 use std::sync::atomic::{AtomicU64, Ordering};
 
 /// The code that stands for no value: nothing waits, or nothing was advertised yet.
@@ -22,6 +23,21 @@ pub struct Limit<V> {
     pub best: V,
     /// The same after one more arc: what is worse is held back.
     pub value: V,
+}
+
+/// What a shard has advertised: whoever has one cannot have forgotten to.
+#[derive(Drop)]
+pub struct Advertised<V: Copy> {
+    own: Shard,
+    best: Option<V>,
+}
+
+impl<V: Copy> Model for Advertised<V> {
+    ghost use Rattle.post_floor.specs.Hints.{Advert};
+
+    ghost Value = { Advert V };
+
+    ghost view = { λ a. record { shard = a.own; best = a.best } };
 }
 
 /// Shows of each shard the best value that waits for it, by its code: a hint, which may be late.
@@ -80,14 +96,18 @@ impl Hints {
     }
 
     /// Advertises the best value that waits at a shard.
-    pub(crate) fn advertise<A: PathAlgebra>(&self, algebra: A, own: Shard, best: Option<A::Value>) {
-        let code = match best {
-            Some(value) => algebra.code(value),
-            None => NOTHING,
-        };
+    pub(crate) fn advertise<A: PathAlgebra>(
+        &self,
+        algebra: A,
+        own: Shard,
+        best: Option<A::Value>,
+    ) -> Advertised<A::Value>
+        ensures { (result.shard ≡ own) × (result.best ≡ best) }
+    {
         if let Some(word) = self.words.get(own.0 as usize) {
-            word.store(code, Ordering::Relaxed);
+            word.store(code_of(algebra, best), Ordering::Relaxed);
         }
+        Advertised { own, best }
     }
 
     /// Advertises at a shard the best value that was sent to it, unless what it advertises is no
@@ -158,6 +178,14 @@ fn value_shown<A: PathAlgebra, H: HintSource>(
     ensures shown { IsShown (A.meaning algebra) (H.may_show hints.now) shard result }
 {
     value_of(algebra, hints.shown(shard))
+}
+
+/// The code of a value, or of none.
+fn code_of<A: PathAlgebra>(algebra: A, value: Option<A::Value>) -> u64 {
+    match value {
+        Some(value) => algebra.code(value),
+        None => NOTHING,
+    }
 }
 
 /// The value that a code stands for, if there is one.

@@ -17,7 +17,7 @@ mod view;
 
 pub use close::Closed;
 pub use floor::Floor;
-pub use hints::{HintSource, Limit, limit_by};
+pub use hints::{Advertised, HintSource, Limit, limit_by};
 pub use seat::Seat;
 pub use table::FloorRule;
 pub use view::{View, WordStep};

@@ -79,7 +79,7 @@ impl<'g, A: PathAlgebra> Station<'g, A> {
             };
         }
         let taken = read_all(floor, self.plan, &mut self.seat, &mut self.part);
-        let (handled, held) = handle_all(floor, self.plan, self.order, &mut self.part, budget);
+        let (handled, held, _) = handle_all(floor, self.plan, self.order, &mut self.part, budget);
         let published = fill_all(floor, self.plan, &mut self.seat, &mut self.part);
         self.ended = look_for_end(floor, &mut self.seat, &self.part);
         Report {

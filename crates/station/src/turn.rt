@@ -2,7 +2,7 @@
 ghost use Rattle.std.specs.Prelude.{◌≡◌, ◌⊎◌, ⊤, ℕ, ◌<◌, ◌≤◌, [], Option, None, Some, length, true, false, cond, IfSome, IsTrue};
 ghost use Rattle.shard_part.specs.Part.{HandledMany, HandledWithin, RunsOn};
 ghost use Rattle.shard_part.specs.Readings.{has_ended};
-ghost use Rattle.post_floor.specs.Hints.{IsLimit};
+ghost use Rattle.post_floor.specs.Hints.{IsAdvertised, IsLimit};
 ghost use Rattle.post_floor.specs.Plays.{HoldsEndedShare, HoldsReachedShare};
 ghost use Rattle.station.specs.Station.{IsOverPart};
 ghost use Rattle.station.specs.Steps.{AreReady, AreBehind, CameIn, AllCameIn, TriedFrom, AllTriedFrom, WentOff, TriedTo, AllTriedTo, Looked};
@@ -10,7 +10,7 @@ ghost use Rattle.shard_store.specs.declared.queue_order.QueueOrder.TheVariants.{
 ghost use Rattle.station.specs.Turn.{HoldsNothingBack, IsAsFar};
 
 use path_algebra::PathAlgebra;
-use post_floor::{Floor, Limit, Seat};
+use post_floor::{Advertised, Floor, Limit, Seat};
 use shard_part::laws::part_holds;
 use shard_part::{Part, Plan, QueueOrder, Shard};
 
@@ -112,15 +112,15 @@ fn ahead_of<A: PathAlgebra>(floor: &Floor<A>, may_wait: bool) -> Option<u32>
     if may_wait { floor.ahead() } else { None }
 }
 
-/// Handles items, at most `budget`, as far as the floor lets the part run ahead. Says how many, and
-/// whether others are held back.
+/// Handles items, at most `budget`, as far as the floor lets the part run ahead, and advertises the
+/// best that waits then. Says how many, whether others are held back, and what it advertised.
 pub(crate) fn handle_all<A: PathAlgebra>(
     floor: &Floor<A>,
     plan: &Plan,
     order: QueueOrder,
     part: &mut Part<'_, A>,
     budget: u32,
-) -> (u32, bool)
+) -> (u32, bool, Option<Advertised<A::Value>>)
     requires floor { floor.now.setup ≡ part.old.setup }
     requires plan { plan.now ≡ part.old.setup.plan }
     requires order { order ≡ part.old.setup.order }
@@ -134,6 +134,7 @@ pub(crate) fn handle_all<A: PathAlgebra>(
         result.0 result.1 limit floor.now.ahead part.new }
     ensures alone { HoldsNothingBack floor.now → (result.0 ≡ budget) ⊎ (part.new.queue ≡ []) }
     ensures held { IsTrue result.1 → (result.0 < budget) × (0 < length part.new.queue) }
+    ensures advertised { IsAdvertised A.order floor.now part.new result.2 }
 {
     let may_wait = may_be_held_back(plan, order);
     let limit = limit_of(floor, part, may_wait);
@@ -143,9 +144,9 @@ pub(crate) fn handle_all<A: PathAlgebra>(
     };
     let ahead = ahead_of(floor, may_wait);
     let handled = part.handle_within(budget, value, ahead);
-    floor.advertise(part);
+    let advertised = floor.advertise(part);
     let held = is_held_back(part, handled, budget);
-    (handled, held)
+    (handled, held, advertised)
 }
 
 /// Whether items wait, though not as many were handled as might have been.

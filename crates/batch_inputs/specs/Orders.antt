@@ -1,5 +1,6 @@
 -- How a run read an order of elimination, between two moments of its input, if there is one.
 use Rattle.std.specs.Prelude.{◌≡◌, ◌≢◌, ℕ, ◌+◌, ◌≤◌, ◌↔◌, ◌⊎◌, List, Option, None, Some, Result, Ok, Err, IfSome}
+use Rattle.std.specs.Option.{IsSomeAnd}
 use Rattle.std.specs.Io.KnownBytes.{IsAtEnd}
 use Rattle.road_graph.specs.GraphData.{GraphData}
 use Rattle.text_lines.specs.Reads.{BreaksNone, RunsOutAfter}
@@ -55,6 +56,11 @@ abbrev pub HasOrderFaultIn : {O : Type 0} → ℕ → (order order_after : Optio
 HasOrderFaultIn n None after f = ⊥
 HasOrderFaultIn n (Some order) None f = ⊥
 HasOrderFaultIn n (Some order) (Some after) f = HasOrderFault n order after f
+
+-- an input spells this order of n vertices; what is so of the order without one is `Without`
+abbrev pub SpellsOrder : {O : Type 0} → (Without : Option (List ℕ) → Type 0) → ℕ → Option (Input O) → Option (List ℕ) → Type 0
+SpellsOrder Without n None order = Without order
+SpellsOrder Without n (Some input) order = IsSomeAnd order (IsReadAs (order_rules n) input.left)
 
 -- P holds of the number of vertices of a graph that was read, with questions over it
 abbrev pub OfVertices : (GraphData → Asked → Type 0) → (ℕ → Type 0) → Type 0

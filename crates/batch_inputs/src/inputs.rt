@@ -1,5 +1,6 @@
 //! Reads the graph and the questions of a batch.
-ghost use Rattle.std.specs.Prelude.{◌≡◌, ◌≢◌, ◌+◌, ◌≤◌, ◌↔◌, ◌⊎◌, Result, Ok, Err, IfOk, OnOk, IfErr, IfSome, length};
+ghost use Rattle.std.specs.Prelude.{◌≡◌, ◌≢◌, ◌+◌, ◌≤◌, ◌↔◌, ◌⊎◌, ℕ, List, Option, None, Result, Ok, Err, IfOk, OnOk, IfErr, IfSome, length};
+ghost use Rattle.std.specs.Option.{option_map};
 ghost use Rattle.std.specs.Io.KnownBytes.{IsAtEnd};
 ghost use Rattle.road_graph.specs.GraphData.{GraphData};
 ghost use Rattle.road_files.specs.Asked.{AreQuestionsOf, Asked, asked_of};
@@ -31,6 +32,9 @@ pub trait BatchInput {
     // It spells this graph, and these questions over it.
     ghost is_read: { Self → GraphData → Asked → Type 0 };
 
+    // It spells this order of so many vertices, or none.
+    ghost spells_order: { Self → ℕ → Option (List ℕ) → Type 0 } = { λ _ _ order. order ≡ None };
+
     // A fault of it names this file.
     ghost is_own: { File → Type 0 };
 
@@ -43,6 +47,7 @@ pub trait BatchInput {
         ensures read { IfOk result (λ r. is_read self.old (G.roads r.graph) (asked_of r.questions)) }
         ensures within { IfOk result (λ r. AreQuestionsOf (G.roads r.graph).vertices r.questions) }
         ensures order { IfOk result (λ r. IfSome r.order (λ order. length order.vertices.items ≡ (G.roads r.graph).vertices)) }
+        ensures ordered { IfOk result (λ r. spells_order self.old (G.roads r.graph).vertices (option_map (λ o. o.vertices.items) r.order)) }
         ensures done { OnOk result (has_read self.old self.new (Ok tt)) }
         ensures fault { IfErr result (λ f. has_read self.old self.new (Err f)) }
         ensures kinds { IfErr result (λ f. is_own f.file × IsNumberOf f.file f.number) }

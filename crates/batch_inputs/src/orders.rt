@@ -1,7 +1,7 @@
 //! Reads an order of elimination after the graph and the questions of a batch.
-ghost use Rattle.std.specs.Prelude.{◌≡◌, ◌≤◌, IfOk, OnOk, IfErr, IfSome, length};
+ghost use Rattle.std.specs.Prelude.{◌≡◌, ◌≤◌, IfOk, OnOk, IfErr, IfSome, None, length};
 ghost use Rattle.std.specs.Option.{option_map};
-ghost use Rattle.batch_inputs.specs.Orders.{HasOrderFaultIn, HasReadOrderIf};
+ghost use Rattle.batch_inputs.specs.Orders.{HasOrderFaultIn, HasReadOrderIf, SpellsOrder};
 ghost use Rattle.batch_inputs.specs.InputFaults.{IsOrderNumber};
 
 use crate::faults::{File, RunFault, fault_in};
@@ -19,6 +19,8 @@ fn read_order_if<O: RoadRead>(
     vertices: u32,
 ) -> Result<Option<Order>, RunFault>
     ensures each { IfOk result (λ read. IfSome read (λ order. length order.vertices.items ≡ vertices)) }
+    ensures spelled { IfOk result (λ read. SpellsOrder (λ order. order ≡ None) vertices
+        (option_map O.seen from.old) (option_map (λ o. o.vertices.items) read)) }
     ensures read { OnOk result (HasReadOrderIf vertices (option_map O.seen from.old)
         (option_map O.seen from.new)) }
     ensures fault { IfErr result (HasOrderFaultIn vertices (option_map O.seen from.old)
@@ -47,9 +49,11 @@ impl<I: BatchInput, O: RoadRead> BatchInput for OrderedInput<'_, '_, I, O> {
     ghost use Rattle.std.specs.Prelude.{◌≡◌};
     ghost use Rattle.std.specs.Option.{option_map};
     ghost use Rattle.std.proofs.Common.{refl, inl, inr};
-    ghost use Rattle.batch_inputs.specs.Orders.{HasReadOrdered, IsOrderedFile, IsRunFile};
+    ghost use Rattle.batch_inputs.specs.Orders.{HasReadOrdered, IsOrderedFile, IsRunFile, SpellsOrder};
 
     ghost is_read = { λ s. I.is_read s.input.now };
+
+    ghost spells_order = { λ s n. SpellsOrder (I.spells_order s.input.now n) n (option_map O.seen s.order.now) };
 
     ghost is_own = { IsOrderedFile I.is_own };
 

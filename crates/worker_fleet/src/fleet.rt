@@ -1,17 +1,24 @@
 //! Workers on threads of their own.
-ghost use Rattle.std.specs.Prelude.{◌≡◌, ℕ, ◌<◌, IfOk, IfSome, vec_len, slice_index_or, IsTrue};
+ghost use Rattle.std.specs.Prelude.{◌≡◌, ℕ, ◌<◌, false, IfNone, IfOk, IfSome, vec_len, slice_index_or, IsTrue};
 ghost use Rattle.worker_fleet.specs.Assigned.{IsAssigned};
 
 use std::alloc::{AllocError, Global};
 use std::snapshot::Snapshot;
 use std::sync::Wait;
 use std::thread;
-use std::thread::{Promise, PromisedHandle, Scope, Threads};
+use std::thread::{Promise, PromisedHandle, Scope, SpawnError, Threads};
 
 /// What is asked of all workers together.
 pub trait Assignment<J, T> {
     /// What the worker of this number may answer to this job.
     ghost answers: { Self → ℕ → J → T → Type 0 };
+
+    /// That a thread for the worker of this number was refused.
+    ghost was_refused: { Self → ℕ → Type 0 };
+
+    /// Takes note that it was.
+    fn note_refusal<F: Drop>(&self, worker: u64, refusal: SpawnError<F>)
+        ensures { was_refused self.now worker };
 
     /// That its workers were called off.
     ghost called_off: { Self → Type 0 };
@@ -51,7 +58,8 @@ fn start_one<
 ) -> Option<PromisedHandle<T, Assigned<'s, J, K>>>
     requires can { W.pre work.now worker job }
     requires does { (r : T) → W.post work.now worker job r → K.answers assignment.now worker job r }
-    ensures { IfSome result (λ h. IsAssigned assignment.entry.now worker job h.promise) }
+    ensures some { IfSome result (λ h. IsAssigned assignment.entry.now worker job h.promise) }
+    ensures none { IfNone result (K.was_refused assignment.now worker) }
 {
     let assigned = Assigned {
         assignment,
@@ -67,7 +75,10 @@ fn start_one<
     );
     match started {
         Ok(handle) => Some(handle),
-        Err(_) => None,
+        Err(refusal) => {
+            assignment.note_refusal(worker, refusal);
+            None
+        }
     }
 }
 
@@ -92,6 +103,7 @@ fn start_all<
     requires does { (k : ℕ) (job : J) (r : T) → W.post work.now k job r → K.answers assignment.now k
         job r }
     ensures all { IfOk result (λ r. IsTrue r.1 → vec_len r.0 ≡ vec_len jobs) }
+    ensures refused { IfOk result (λ r. r.1 ≡ false → K.was_refused assignment.now (vec_len r.0)) }
     ensures assigned { IfOk result (λ r. (k : ℕ) (h : _) (job : J) → k < vec_len r.0 →
         IsAssigned assignment.entry.now k (slice_index_or jobs.items k job)
         (slice_index_or r.0.items k h).promise) }

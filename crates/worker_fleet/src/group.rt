@@ -18,7 +18,7 @@ use post_floor::Floor;
 use station::Station;
 use std::alloc::{AllocError, Global};
 use std::sync::Wait;
-use std::thread::Threads;
+use std::thread::{SpawnError, Threads};
 
 /// Why a group was not run to its end.
 #[derive(Clone, Copy, Debug, PartialEq, Eq)]
@@ -56,6 +56,12 @@ impl<'a, 't, 'g, A: PathAlgebra, G: Gate> Assignment<
     ghost answers = { λ o worker stations r. IfSome r (Drives A.meaning o.floors.now
         o.settings.now.budget o.settings.now.limit (G.may_answer o.settings.now.gate.now) worker
         stations.items) };
+
+    ghost was_refused = { λ _ _. ⊤ };
+
+    fn note_refusal<F: Drop>(&self, _worker: u64, _refusal: SpawnError<F>)
+        ensures { ⊤ }
+    {}
 
     ghost called_off = { λ _. ⊤ };
 

@@ -16,7 +16,7 @@ loop-job-preserved g c =
     let was = c.loop-job.invariant in
     let step = c.in-Some.ensures.steps in
     let push = c.push.ensures in
-    let one = c.in-Some-start_one.ensures in
+    let one = c.in-Some-start_one.ensures.some in
     let number : c.loop-job.worker ≡ length c.loop-job.handles.items = search rules in
     record {
       room = search rules;

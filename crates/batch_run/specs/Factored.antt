@@ -1,5 +1,6 @@
 -- Solvers that answer by factors, and what they may tell of factoring.
-use Rattle.std.specs.Prelude.{◌≡◌, ⊤, Bool, true, false, Option, None, IsSome, is_some}
+use Rattle.std.specs.Prelude.{◌≡◌, ⊤, ℕ, Bool, true, false, List, Option, None, IsSome, is_some}
+use Rattle.std.specs.Option.{option_map}
 use Rattle.path_algebra.specs.declared.algebra.PathAlgebra.{Ghosts}
 use Rattle.path_algebra.specs.Algebra.{Algebra}
 use Rattle.path_algebra.specs.declared.counted_sums.Cost.{Cost}
@@ -24,6 +25,12 @@ is_by_factors (Workers s) = false
 pub record IsChosen {S V : Type 0} {G : Ghosts S V} (how : Settings) (s : Solver S V G) : Type 0 where
   pub kind : is_without_diffusions s ≡ without_diffusions how
   pub factors : is_by_factors s ≡ how.factors
+
+-- this is so of the order by which it factors, if it solves by factors
+abbrev pub OfOrder : {S V : Type 0} {G : Ghosts S V} → Solver S V G → (Option (List ℕ) → Type 0) → Type 0
+OfOrder (Plain s) P = ⊤
+OfOrder (Factors s) P = P (option_map (λ order. order.vertices.items) s.order)
+OfOrder (Workers s) P = ⊤
 
 -- what comes of seeking an order for its graph: none is sought if it solves without factors
 abbrev pub IsSought : {S V : Type 0} {G : Ghosts S V} → Solver S V G → Option Counts → Type 0

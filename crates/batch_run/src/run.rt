@@ -5,7 +5,7 @@ ghost use Rattle.batch_run.specs.Reports.{Watched};
 ghost use Rattle.batch_run.specs.Runs.{Ran};
 ghost use Rattle.batch_run.specs.Stopping.{Stopped};
 ghost use Rattle.batch_inputs.specs.InputFaults.{IsNumberOf};
-ghost use Rattle.batch_run.specs.Factored.{IsChosen};
+ghost use Rattle.batch_run.specs.Factored.{IsChosen, OfOrder};
 ghost use Rattle.batch_run.specs.Solvers.{graph_of};
 ghost use Rattle.batch_run.specs.Unsuited.{IsRefusedUnsuited};
 
@@ -33,6 +33,8 @@ pub fn read_batch<A: PathAlgebra, I: BatchInput, R, T>(
     ensures chosen { IfOk result (λ r. IsChosen run.now.settings.now r.0) }
     ensures read { IfOk result (λ r. I.is_read input.old (graph_of r.0) (asked_of r.1)) }
     ensures within { IfOk result (λ r. AreQuestionsOf (graph_of r.0).vertices r.1) }
+    ensures ordered { IfOk result (λ r. OfOrder r.0 (I.spells_order input.old
+        (graph_of r.0).vertices)) }
     ensures done { OnOk result (I.has_read input.old input.new (Ok tt)) }
     ensures fault { IfErr result (λ f. I.has_read input.old input.new (Err f)) }
     ensures kinds { IfErr result (λ f. I.is_own f.file × IsNumberOf f.file f.number) }

@@ -1,18 +1,17 @@
 -- Lines that are certified are the right answer, and the right answer is certified.
-use Rattle.std.proofs.Common.{◌≡◌, ℕ, zero, suc, ◌+◌, ◌-◌, ◌<◌, ◌≤◌, ◌⊎◌, inl, inr, List, [], ◌∷◌, ◌++◌, length, map, refl, ap, sym, ◌∙◌, subst, arith, Option, Some, None}
+use Rattle.std.proofs.Common.{◌≡◌, ℕ, zero, suc, ◌+◌, ◌-◌, ◌<◌, ◌≤◌, ◌⊎◌, inl, inr, List, [], ◌∷◌, ◌++◌, length, map, refl, ap, sym, ◌∙◌, subst, arith, Option, Some, None, IsTrue, Contains, All}
 use Rattle.std.proofs.Math.ListN.{get_or-map}
 use Rattle.std.proofs.lemmas.List.{length-append, length-map}
-use Rattle.std.proofs.lemmas.List.Elements.{All-nil, All-cons, All-head, All-tail, All-append}
-use Rattle.std.proofs.lemmas.Bool.{cases_eq}
-use Rattle.std.specs.Prelude.{IsTrue, Contains, All}
 use Rattle.road_graph.specs.GraphData.{GraphData, IsGraph, HasArc, HasVertex, arc_of}
 use Rattle.road_graph.proofs.Lists.{not_in_empty, head_or_tail, here, later, same_some}
 use Rattle.path_algebra.specs.Algebra.{Algebra, IsLawful}
 use Rattle.path_algebra.specs.Walks.{IsWalk, IsWalkValue, IsBest, IsBestLabel, IsUnreached, AreBest, IsTight, IsTightWalk, AreHops, IsParent, label_of}
 use Rattle.path_algebra.proofs.Walks.{IsWalk-snoc, IsWalkValue-extend, walk_value_is_value, labels_are_best}
 use Rattle.path_algebra.proofs.Least.{same_no_worse}
-use Rattle.path_algebra.proofs.Tight.{never_better_along, best_is_one}
 use Rattle.answer_text.specs.declared.answers.Reached.{Reached}
+use Rattle.std.proofs.lemmas.List.Elements.{All-nil, All-cons, All-head, All-tail, All-append}
+use Rattle.std.proofs.lemmas.Bool.{cases_eq}
+use Rattle.path_algebra.proofs.Tight.{never_better_along, best_is_one}
 use Rattle.answer_text.specs.IsAnswer.{IsReachedLine, IsVertexLine, AreVertexLines}
 use Rattle.answer_check.specs.Reasons.{IsCodeOf, Offers, source_line}
 use Rattle.answer_check.specs.Certificates.{IsSupported, IsRightLine, IsCertifiedAt, AreCertified}
@@ -144,10 +143,6 @@ module _ {V : Type 0} (A : Algebra V) (lawful : IsLawful A) where
       told_at : (v : ℕ) (x : V) → HasVertex g v → label_of labels v ≡ Some x → (r : Reached) × (label_of lines v ≡ Some r) × IsWalkValue A g sources v x × (r.code ≡ A.code x)
       told_at v x in_v e = told_by v x in_v e (label_of lines v) refl
 
-      -- what a line says is its label
-      label_at : (v : ℕ) (r : Reached) → HasVertex g v → label_of lines v ≡ Some r → (x : V) × (label_of labels v ≡ Some x) × IsWalkValue A g sources v x × (r.code ≡ A.code x)
-      label_at v r in_v e = let t = tells v r in_v e in (t.0, label_told v r t.0 e (walk_has_code v r.code t.0 t.1 t.2), t.1, t.2)
-
       origin_label : (s : ℕ) → label_of lines s ≡ source_line A → label_of labels s ≡ Some A.origin
       origin_label s e = label_told s (record { code = A.code A.origin; hops = 0; parent = 0 }) A.origin e (lawful.origin_is_value, refl)
 
@@ -182,7 +177,7 @@ module _ {V : Type 0} (A : Algebra V) (lawful : IsLawful A) where
 
       -- the line of a vertex says its best value
       tells_best : (v : ℕ) (r : Reached) → HasVertex g v → label_of lines v ≡ Some r → (x : V) × IsBest A g sources v x × (r.code ≡ A.code x)
-      tells_best v r in_v e = let l = label_at v r in_v e in (l.0, best_at v l.0 in_v l.1, l.3)
+      tells_best v r in_v e = let t = tells v r in_v e in (t.0, best_at v t.0 in_v (label_told v r t.0 e (walk_has_code v r.code t.0 t.1 t.2)), t.2)
 
       -- a vertex with a best value has a line that says it
       line_by : (v : ℕ) (x : V) → HasVertex g v → IsBest A g sources v x → (l : Option Reached) → label_of lines v ≡ l → (r : Reached) × (label_of lines v ≡ Some r) × (r.code ≡ A.code x)

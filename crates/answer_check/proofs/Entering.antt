@@ -1,6 +1,5 @@
 -- The roads of the arcs into a vertex, reversed, lead to vertices.
-use Rattle.std.proofs.Common.{◌≡◌, ℕ, ◌≤◌, ◌<◌, List, length, get_or, ap, sym, subst, ◌∙◌, arith}
-use Rattle.std.specs.List.{All}
+use Rattle.std.proofs.Common.{◌≡◌, ℕ, ◌≤◌, ◌<◌, List, length, get_or, ap, sym, subst, ◌∙◌, arith, All}
 use Rattle.std.proofs.lemmas.List.{get_or-map, length-map, get_or_default}
 use Rattle.road_graph.specs.GraphData.{GraphData, IsGraph, HasVertex, ListsRoadsInto, arc_of, road_of, reversed_arc}
 use Rattle.road_graph.specs.declared.OutRoad.{OutRoad}

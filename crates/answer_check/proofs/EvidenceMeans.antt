@@ -1,25 +1,22 @@
 -- What the evidence of all arcs into a vertex means: the line is right, or the evidence gives the
 -- first reason against it.
-use Rattle.std.proofs.Common.{◌≡◌, ℕ, ◌+◌, ◌<◌, ◌≤◌, ◌^◌, inl, inr, Bool, true, false, not, ◌&&◌, ◌||◌, nat_eq, nat_lt, List, [], ◌∷◌, get_or, map, refl, ap, sym, ◌∙◌, subst, arith, Option, Some, None}
+use Rattle.std.proofs.Common.{◌≡◌, ℕ, ◌+◌, ◌<◌, ◌≤◌, ◌^◌, inl, inr, Bool, true, false, not, ◌&&◌, ◌||◌, nat_eq, nat_lt, List, [], ◌∷◌, get_or, map, refl, ap, sym, ◌∙◌, subst, arith, Option, Some, None, IsTrue, Contains, eqb-true, eq-eqb}
 use Rattle.std.proofs.lemmas.Grind.{common_steps}
-use Rattle.std.specs.Prelude.{IsTrue, Contains}
 use Rattle.std.specs.List.{list_any}
-use Rattle.std.proofs.Common.{eqb-true, eq-eqb}
-use Rattle.std.proofs.lemmas.Bool.{eqb-false, lt-ltb, ltb-true, ltb-false, and_parts, not-true, not-false, false_from_ne_true}
-use Rattle.std.proofs.lemmas.List.Folds.{list_any_at}
 use Rattle.road_graph.specs.GraphData.{GraphData, HasArc, ListsRoadsInto, arc_of, road_of, reversed_arc}
 use Rattle.road_graph.specs.declared.OutRoad.{OutRoad}
-use Rattle.road_graph.proofs.Lists.{here, later, same_some}
 use Rattle.path_algebra.specs.Algebra.{Algebra, IsLawful}
 use Rattle.path_algebra.specs.Walks.{label_of}
 use Rattle.path_algebra.proofs.Least.{same_no_worse}
 use Rattle.answer_text.specs.declared.answers.Reached.{Reached}
 use Rattle.answer_check.specs.declared.evidence.Evidence.{Evidence}
 use Rattle.answer_check.specs.declared.verdict.Reason.{Reason}
+use Rattle.std.proofs.lemmas.Bool.{eqb-false, lt-ltb, ltb-true, ltb-false, and_parts, not-true, not-false, false_from_ne_true}
+use Rattle.std.proofs.lemmas.List.Folds.{list_any_at, Any-from_list_any}
 use Rattle.answer_check.specs.declared.verdict.Reason.TheVariants.{Mismatch, NotBest, NoParent, OtherHops, LesserParent, HasWalk, OtherRoute}
 use Rattle.answer_check.specs.Reasons.{IsCodeOf, Offers, Gives, IsRefuted, IsFirstReason, reason_number}
 use Rattle.answer_check.specs.Certificates.{IsSupported, IsRightLine}
-use Rattle.answer_check.specs.Evidence.{decoded, extended, beside, candidate_from, candidate, is_same, passes, all_evidence, reason_by, is_there}
+use Rattle.answer_check.specs.Evidence.{decoded, candidate_from, candidate, is_same, passes, all_evidence, reason_by, is_there}
 use Rattle.answer_check.proofs.Certified.{code_of_one, arc_offers}
 
 -- an arc as it is seen from its head
@@ -30,14 +27,8 @@ any_seen : (g : GraphData) (p : OutRoad → Bool) (numbers : List ℕ) → list_
 any_seen g p [] = refl
 any_seen g p (a ∷ numbers) = ap (λ (b : Bool). p (seen g a) || b) (any_seen g p numbers)
 
-found_at_head : (p : ℕ → Bool) (x : ℕ) (xs : List ℕ) (b : Bool) → p x ≡ b → list_any p (x ∷ xs) ≡ true →
-    (list_any p xs ≡ true → (a : ℕ) × Contains xs a × (p a ≡ true)) → (a : ℕ) × Contains (x ∷ xs) a × (p a ≡ true)
-found_at_head p x xs true e h more = (x, here x xs, e)
-found_at_head p x xs false e h more = let rest = more (rw e at h) in (rest.0, later x rest.0 xs rest.1, rest.2)
-
 any_found : (p : ℕ → Bool) (xs : List ℕ) → list_any p xs ≡ true → (a : ℕ) × Contains xs a × (p a ≡ true)
-any_found p [] h = absurd (let bad : false ≡ true = h in cc)
-any_found p (x ∷ xs) h = found_at_head p x xs (p x) refl h (any_found p xs)
+any_found p xs h = let (k, a, lt, at, holds) = Any-from_list_any p xs h in (a, (k, lt, at), holds)
 
 any_missed : (p : ℕ → Bool) (xs : List ℕ) → list_any p xs ≡ false → (a : ℕ) → Contains xs a → p a ≡ false
 any_missed p xs h a c = false_from_ne_true (p a) (λ e. let bad : true ≡ false = sym (list_any_at p xs c.0 a c.1 (ap p c.2 ∙ e)) ∙ h in cc)
@@ -227,12 +218,17 @@ module _ {V : Type 0} (A : Algebra V) (lawful : IsLawful A) where
         abbrev Judged : Option Reason → Type 0
         Judged o = IsFirstReason (IsSupported A g lines v r) Refuted o
 
-        by_lesser : (b : Bool) → shown.better ≡ false → shown.supported ≡ true → shown.astray ≡ false → shown.nearer ≡ false → shown.lesser ≡ b → Judged (reason_by shown)
-        by_lesser true e f h k l = rw (e, f, h, k, l) (
-          has_lesser l,
+        -- the evidence is that the line is right, or the first reason against it
+        by_shown : (b s a n l : Bool) → shown.better ≡ b → shown.supported ≡ s → shown.astray ≡ a → shown.nearer ≡ n → shown.lesser ≡ l → Judged (reason_by shown)
+        by_shown true s a n l e f h k m = rw e (is_beaten e, no_earlier 2 (omega arith) (λ lt. absurd (omega (arith, lt))) (λ lt. absurd (omega (arith, lt))) (λ lt. absurd (omega (arith, lt))))
+        by_shown false false a n l e f h k m = rw (e, f) (no_parent f, no_earlier 3 (omega arith) (λ _. not_beaten e) (λ lt. absurd (omega (arith, lt))) (λ lt. absurd (omega (arith, lt))))
+        by_shown false true true n l e f h k m = rw (e, f, h) (goes_astray h, no_earlier 4 (omega arith) (λ _. not_beaten e) (λ _ no. let p = from_parent f in no p.0 p.1) (λ lt. absurd (omega (arith, lt))))
+        by_shown false true false true l e f h k m = rw (e, f, h, k) (has_nearer k, no_earlier 4 (omega arith) (λ _. not_beaten e) (λ _ no. let p = from_parent f in no p.0 p.1) (λ lt. absurd (omega (arith, lt))))
+        by_shown false true false false true e f h k m = rw (e, f, h, k, m) (
+          has_lesser m,
           no_earlier 5 (omega arith) (λ _. not_beaten e) (λ _ no. let p = from_parent f in no p.0 p.1) (λ _. same_hops h k),
         )
-        by_lesser false e f h k l = rw (e, f, h, k, l) (let p = from_parent f in record {
+        by_shown false true false false false e f h k m = rw (e, f, h, k, m) (let p = from_parent f in record {
           value = y;
           code_is = code;
           near = p.0;
@@ -240,25 +236,8 @@ module _ {V : Type 0} (A : Algebra V) (lawful : IsLawful A) where
           hops_are = hops_of_parent h p.0 p.1;
           not_beaten = none_better e;
           not_nearer = none_nearer k;
-          not_lesser = none_lesser l;
+          not_lesser = none_lesser m;
         })
 
-        by_nearer : (b : Bool) → shown.better ≡ false → shown.supported ≡ true → shown.astray ≡ false → shown.nearer ≡ b → Judged (reason_by shown)
-        by_nearer true e f h k = rw (e, f, h, k) (has_nearer k, no_earlier 4 (omega arith) (λ _. not_beaten e) (λ _ no. let p = from_parent f in no p.0 p.1) (λ lt. absurd (omega (arith, lt))))
-        by_nearer false e f h k = by_lesser shown.lesser e f h k refl
-
-        by_astray : (b : Bool) → shown.better ≡ false → shown.supported ≡ true → shown.astray ≡ b → Judged (reason_by shown)
-        by_astray true e f h = rw (e, f, h) (goes_astray h, no_earlier 4 (omega arith) (λ _. not_beaten e) (λ _ no. let p = from_parent f in no p.0 p.1) (λ lt. absurd (omega (arith, lt))))
-        by_astray false e f h = by_nearer shown.nearer e f h refl
-
-        by_supported : (b : Bool) → shown.better ≡ false → shown.supported ≡ b → Judged (reason_by shown)
-        by_supported true e f = by_astray shown.astray e f refl
-        by_supported false e f = rw (e, f) (no_parent f, no_earlier 3 (omega arith) (λ _. not_beaten e) (λ lt. absurd (omega (arith, lt))) (λ lt. absurd (omega (arith, lt))))
-
-        by_better : (b : Bool) → shown.better ≡ b → Judged (reason_by shown)
-        by_better true e = rw e (is_beaten e, no_earlier 2 (omega arith) (λ lt. absurd (omega (arith, lt))) (λ lt. absurd (omega (arith, lt))) (λ lt. absurd (omega (arith, lt))))
-        by_better false e = by_supported shown.supported e refl
-
-        -- the evidence is that the line is right, or the first reason against it
         pub evidence_judges : Judged (reason_by shown)
-        evidence_judges = by_better shown.better refl
+        evidence_judges = by_shown shown.better shown.supported shown.astray shown.nearer shown.lesser refl refl refl refl refl

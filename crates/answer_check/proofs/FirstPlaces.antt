@@ -1,24 +1,23 @@
 -- The first place that a pass over marked lines finds is the first where the answer is wrong; where
 -- it finds none, the answer is right.
-use Rattle.std.proofs.Common.{◌≡◌, ℕ, ◌+◌, inl, inr, List, ap, ◌∙◌, subst, arith, Option, Some, None, zero, suc, ◌-◌, ◌<◌, ◌≤◌, ◌^◌, min, Bool, true, false, [], ◌∷◌, length, refl, sym}
+use Rattle.std.proofs.Common.{◌≡◌, ℕ, ◌+◌, inl, inr, List, ap, ◌∙◌, subst, arith, Option, Some, None, zero, suc, ◌-◌, ◌<◌, ◌≤◌, ◌^◌, min, Bool, true, false, [], ◌∷◌, length, refl, sym, IsTrue, Contains, ◌↔◌, option_map}
 use Rattle.std.proofs.lemmas.Grind.{common_steps}
-use Rattle.std.specs.Prelude.{IsTrue, Contains, ◌↔◌, option_map}
 use Rattle.road_graph.specs.GraphData.{GraphData, IsGraph, HasVertex}
 use Rattle.road_graph.proofs.Lists.{same_some}
 use Rattle.path_algebra.specs.Algebra.{Algebra, IsLawful}
 use Rattle.path_algebra.specs.Walks.{label_of, is_marked}
 use Rattle.answer_text.specs.declared.answers.Reached.{Reached}
 use Rattle.answer_check.specs.declared.verdict.Reason.{Reason}
+use Rattle.std.specs.List.{range_with_len, AllZip}
+use Rattle.rayon.specs.Lists.{first_true}
+use Rattle.answer_check.specs.declared.place.Place.{Place}
+use Rattle.answer_check.specs.Marked.{IsMarkedRefused, IsMarkedRight, TellsRefused}
+use Rattle.answer_check.specs.Places.{IsJudgedAt, IsFirstNumber}
 use Rattle.answer_check.specs.declared.verdict.Reason.TheVariants.{Mismatch, NotBest, NoParent, OtherHops, LesserParent, HasWalk, OtherRoute}
 use Rattle.answer_check.specs.Reasons.{Offers, Gives, source_line, IsRefuted, IsLineRefused, reason_number}
 use Rattle.answer_check.specs.Certificates.{IsSupported, IsRightLine, IsCertifiedAt}
 use Rattle.answer_check.proofs.Certified.{code_of_one, lines_are_right}
-use Rattle.std.specs.List.{range_with_len, AllZip}
-use Rattle.rayon.specs.Lists.{first_true}
 use Rattle.answer_text.specs.IsAnswer.{AreVertexLines}
-use Rattle.answer_check.specs.declared.place.Place.{Place}
-use Rattle.answer_check.specs.Marked.{IsMarkedRefused, IsMarkedRight, TellsRefused}
-use Rattle.answer_check.specs.Places.{IsJudgedAt, IsFirstNumber}
 use Rattle.answer_check.specs.Verdicts.{IsEarlier}
 
 module _ {V : Type 0} (A : Algebra V) (lawful : IsLawful A) (g : GraphData) (lines : List (Option Reached)) where
@@ -60,36 +59,30 @@ module _ (R : ℕ → Bool → Type 0) where
   abbrev IsFirstFrom : ℕ → ℕ → Option ℕ → Type 0
   IsFirstFrom a n = IsFirstNumber n (λ k. R (a + k))
 
-  shifted : (a k : ℕ) (b : Bool) → R ((a + 1) + k) b → R (a + suc k) b
-  shifted a k b h = let same : (a + 1) + k ≡ a + suc k = omega arith in subst (λ (x : ℕ). R x b) same h
-
-  at_start : (a : ℕ) (b : Bool) → R a b → R (a + 0) b
-  at_start a b h = let same : a ≡ a + 0 = omega arith in subst (λ (x : ℕ). R x b) same h
+  moved : (m k : ℕ) (b : Bool) → m ≡ k → R m b → R k b
+  moved m k b same h = subst (λ (x : ℕ). R x b) same h
 
   none_from : (a n k : ℕ) → R a false → ((j : ℕ) → j < n → R ((a + 1) + j) false) → k < suc n → R (a + k) false
-  none_from a n zero h rest lt = at_start a false h
-  none_from a n (suc k) h rest lt = shifted a k false (rest k (omega (arith, lt)))
+  none_from a n zero h rest lt = moved a (a + 0) false (omega arith) h
+  none_from a n (suc k) h rest lt = moved ((a + 1) + k) (a + suc k) false (omega arith) (rest k (omega (arith, lt)))
 
   one_later : (a n : ℕ) (o : Option ℕ) → n < 2 ^ 64 - 1 → R a false → IsFirstFrom (a + 1) n o → IsFirstFrom a (suc n) (option_map (λ k. min (k + 1) (2 ^ 64 - 1)) o)
   one_later a n None short h rest = λ k lt. none_from a n k h rest lt
   one_later a n (Some i) short h rest =
       let low = rest.0 in
       let next : suc i ≡ min (i + 1) (2 ^ 64 - 1) = omega (arith, low, short) in
-      let found : IsFirstFrom a (suc n) (Some (suc i)) = (omega (arith, low), shifted a i true rest.1, λ k lt. none_from a i k h rest.2 lt) in
+      let found : IsFirstFrom a (suc n) (Some (suc i)) = (omega (arith, low), moved ((a + 1) + i) (a + suc i) true (omega arith) rest.1, λ k lt. none_from a i k h rest.2 lt) in
       subst (λ (j : ℕ). IsFirstFrom a (suc n) (Some j)) next found
 
   first_from : (a n : ℕ) (bs : List Bool) → n < 2 ^ 64 → AllZip R (range_with_len a n) bs → IsFirstNumber n (λ k. R (a + k)) (first_true bs)
   first_from a zero [] short z = λ k lt. absurd (omega (arith, lt))
-  first_from a (suc n) (true ∷ bs) short z = (omega arith, at_start a true z.0, λ k lt. absurd (omega (arith, lt)))
+  first_from a (suc n) (true ∷ bs) short z = (omega arith, moved a (a + 0) true (omega arith) z.0, λ k lt. absurd (omega (arith, lt)))
   first_from a (suc n) (false ∷ bs) short z = one_later a n (first_true bs) (omega (arith, short)) z.0 (first_from (a + 1) n bs (omega (arith, short)) z.1)
   first_from a n bs short z = absurd z
 
-  from_zero : (k : ℕ) (b : Bool) → R (0 + k) b → R k b
-  from_zero k b h = let same : 0 + k ≡ k = omega arith in subst (λ (x : ℕ). R x b) same h
-
   first_of : (n : ℕ) (o : Option ℕ) → IsFirstFrom 0 n o → IsFirstNumber n R o
-  first_of n None h = λ k lt. from_zero k false (h k lt)
-  first_of n (Some i) h = (h.0, from_zero i true h.1, λ k lt. from_zero k false (h.2 k lt))
+  first_of n None h = λ k lt. moved (0 + k) k false (omega arith) (h k lt)
+  first_of n (Some i) h = (h.0, moved (0 + i) i true (omega arith) h.1, λ k lt. moved (0 + k) k false (omega arith) (h.2 k lt))
 
   pub first_number : (n : ℕ) (bs : List Bool) → n < 2 ^ 64 → AllZip R (range_with_len 0 n) bs → IsFirstNumber n R (first_true bs)
   first_number n bs short z = first_of n (first_true bs) (first_from 0 n bs short z)

@@ -1,29 +1,29 @@
 -- The first place of the first answer that is wrong is the first place of the list; a list that is
 -- wrong nowhere is right.
-use Rattle.std.proofs.Common.{◌≡◌, ℕ, zero, suc, ◌+◌, ◌-◌, ◌<◌, ◌≤◌, ◌⊎◌, inl, inr, List, [], ◌∷◌, length, map, get_or, refl, ap, sym, ◌∙◌, subst, arith, Option, Some, None}
+use Rattle.std.proofs.Common.{◌≡◌, ℕ, zero, suc, ◌+◌, ◌-◌, ◌<◌, ◌≤◌, ◌⊎◌, inl, inr, List, [], ◌∷◌, length, map, get_or, refl, ap, sym, ◌∙◌, subst, arith, Option, Some, None, ◌↔◌, All, slice_get, option_map}
 use Rattle.std.proofs.lemmas.Grind.{common_steps}
-use Rattle.std.specs.Prelude.{◌↔◌, All, slice_get}
-use Rattle.std.proofs.lemmas.List.Elements.{All-head, All-tail, All-cons, All-nil}
-use Rattle.std.proofs.lemmas.Option.{slice_get_within, slice_get-get_or}
+use Rattle.std.proofs.lemmas.List.{length-map}
 use Rattle.road_graph.specs.GraphData.{GraphData, IsGraph, HasVertex}
 use Rattle.road_graph.proofs.Lists.{same_some}
 use Rattle.path_algebra.specs.Algebra.{Algebra, IsLawful}
 use Rattle.path_algebra.proofs.Walks.{all_inside}
 use Rattle.road_files.specs.Asked.{Question, FromSource, BetweenPair, FromSources, Asked, AskWithin, asked_of, of_source, of_pair, of_list}
-use Rattle.road_files.specs.declared.questions.Questions.{Questions}
-use Rattle.road_files.specs.declared.questions.Questions.TheVariants as variants
 use Rattle.answer_text.specs.AnswerData.{AnswerData, SourceAnswer, PairAnswer, SourcesAnswer, AnswerList}
-use Rattle.answer_text.specs.IsAnswer.{AreVertexLines, IsAnswer, AreAnswers, IsAnswerList}
 use Rattle.answer_text.proofs.OneAnswer.{answers_count}
 use Rattle.answer_check.specs.declared.place.Place.{Place}
 use Rattle.answer_check.specs.declared.verdict.Reason.{Reason}
-use Rattle.answer_check.specs.declared.verdict.Reason.TheVariants.{Mismatch, NotBest, NoParent, OtherHops, LesserParent, HasWalk, OtherRoute}
-use Rattle.answer_check.specs.declared.verdict.Verdict.{Verdict}
 use Rattle.answer_check.specs.declared.verdict.Verdict.TheVariants.{Valid, Invalid}
 use Rattle.answer_text.specs.declared.answers.Reached.{Reached}
+use Rattle.answer_check.specs.Places.{IsJudgedAt}
+use Rattle.std.proofs.lemmas.List.Elements.{All-cons, All-nil, All-map, All-contains}
+use Rattle.std.proofs.lemmas.Option.{slice_get_within, slice_get-get_or, slice_get-map, slice_get_read, get_or_from_slice_get}
+use Rattle.road_files.specs.declared.questions.Questions.{Questions}
+use Rattle.road_files.specs.declared.questions.Questions.TheVariants as variants
+use Rattle.answer_text.specs.IsAnswer.{AreVertexLines, IsAnswer, AreAnswers, IsAnswerList}
+use Rattle.answer_check.specs.declared.verdict.Reason.TheVariants.{Mismatch, NotBest, NoParent, OtherHops, LesserParent, HasWalk, OtherRoute}
+use Rattle.answer_check.specs.declared.verdict.Verdict.{Verdict}
 use Rattle.answer_check.specs.Reasons.{reason_number, IsLineRefused}
 use Rattle.answer_check.specs.Verdicts.{HasHeader, Names, IsRefusedAt, IsWrongIn, IsWrong, IsEarlier, IsFirstWrong, IsVerdict}
-use Rattle.answer_check.specs.Places.{IsJudgedAt}
 use Rattle.answer_check.proofs.Certified.{lines_are_certified}
 use Rattle.answer_check.proofs.FirstPlaces.{certified_not_refused}
 use Rattle.answer_check.proofs.PairsJudged.{pair_not_refused}
@@ -48,23 +48,19 @@ AsksOf g (BetweenPair s t) = HasVertex g s × HasVertex g t
 AsksOf g (FromSources ss) = All (HasVertex g) ss
 
 mapped_at : {X Y : Type 0} (P : Y → Type 0) (f : X → Y) (xs : List X) → All (λ x. P (f x)) xs → (k : ℕ) (y : Y) → slice_get (map f xs) k ≡ Some y → P y
-mapped_at {X} {Y} P f [] all k y e = let bad : None ≡ Some y = e in absurd (cc)
-mapped_at {X} {Y} P f (x ∷ xs) all zero y e = let same : f x ≡ y = cc in subst P same (All-head (λ z. P (f z)) x xs all)
-mapped_at {X} {Y} P f (x ∷ xs) all (suc k) y e = mapped_at P f xs (All-tail (λ z. P (f z)) x xs all) k y e
-
--- what is at a place of a list that was mapped
-pub mapped_is : {X Y : Type 0} (f : X → Y) (xs : List X) (k : ℕ) (x : X) (y : Y) → x ≡ get_or xs k x → slice_get (map f xs) k ≡ Some y → f x ≡ y
-mapped_is {X} {Y} f [] k x y is e = let bad : None ≡ Some y = e in absurd (cc)
-mapped_is f (z ∷ xs) zero x y is e = let same : f z ≡ y = cc in ap f is ∙ same
-mapped_is f (z ∷ xs) (suc k) x y is e = mapped_is f xs k x y is e
+mapped_at P f xs all k y e =
+    All-contains P (map f xs) y (All-map P f xs all) (k, slice_get_within (map f xs) k y e, get_or_from_slice_get (map f xs) k y y e)
 
 pub question_at : (qs : List Question) (i : ℕ) → i < length qs → (q : Question) × (slice_get qs i ≡ Some q)
 question_at qs i lt = (get_or qs i (FromSource 0), slice_get-get_or qs i (FromSource 0) lt)
 
 pub mapped_read : {X Y : Type 0} (f : X → Y) (xs : List X) (i : ℕ) (x : X) → x ≡ get_or xs i x → i < length xs → slice_get (map f xs) i ≡ Some (f x)
-mapped_read f [] i x is lt = absurd (omega (arith, lt))
-mapped_read {X} {Y} f (z ∷ xs) zero x is lt = ap (λ (y : X). Some (f y)) (sym is)
-mapped_read f (z ∷ xs) (suc i) x is lt = mapped_read f xs i x is (omega (arith, lt))
+mapped_read f xs i x is lt = slice_get-map f xs i ∙ ap (option_map f) (slice_get_read xs (length xs) i x refl lt is)
+
+-- what is at a place of a list that was mapped
+pub mapped_is : {X Y : Type 0} (f : X → Y) (xs : List X) (k : ℕ) (x : X) (y : Y) → x ≡ get_or xs k x → slice_get (map f xs) k ≡ Some y → f x ≡ y
+mapped_is f xs k x y is e =
+    same_some (slice_get (map f xs) k) (f x) y (mapped_read f xs k x is (omega (arith, slice_get_within (map f xs) k y e, length-map xs f))) e
 
 pub asks_of : (g : GraphData) (questions : Questions) → AskWithin g.vertices questions → (k : ℕ) (q : Question) → slice_get (asked_of questions).questions k ≡ Some q → AsksOf g q
 asks_of g (variants.Sources vs) within k q e = mapped_at (AsksOf g) of_source vs.items within k q e

@@ -1,22 +1,19 @@
 -- Answers are right up to a place if they are before the first run, and in each run up to there.
-use Rattle.std.proofs.Common.{◌≡◌, ℕ, ◌+◌, ◌<◌, ◌≤◌, ◌⊎◌, inl, inr, Bool, true, false, nat_lt, arith, subst, zero, suc}
+use Rattle.std.proofs.lemmas.Bool.{cases_lt}
+use Rattle.std.proofs.Common.{◌≡◌, ℕ, ◌+◌, ◌<◌, ◌≤◌, ◌⊎◌, inl, inr, Bool, true, false, nat_lt, arith, subst, zero, suc, ltb-false}
 use Rattle.std.proofs.lemmas.Grind.{common_steps}
-use Rattle.std.proofs.lemmas.Bool.{ltb-false}
 use Rattle.road_graph.specs.GraphData.{GraphData}
 use Rattle.road_files.specs.Asked.{Asked}
 use Rattle.path_algebra.specs.Algebra.{Algebra}
 use Rattle.answer_text.specs.AnswerData.{AnswerList}
 use Rattle.answer_check.specs.Pairs.{TellsSuspect, TellsSuspectIn}
-use Rattle.answer_check.specs.declared.runs.Runs.{Runs}
 use Rattle.answer_check.specs.Runs.{run_start}
-
-before_or_from : (a k : ℕ) → (k < a) ⊎ (a ≤ k)
-before_or_from a k = grind (arith)
+use Rattle.answer_check.specs.declared.runs.Runs.{Runs}
 
 module _ (R : ℕ → Type 0) where
   -- what holds before a place and from there on
   pub before_and_from : (a e : ℕ) → ((i : ℕ) → i < a → R i) → ((i : ℕ) → a ≤ i → i < e → R i) → (i : ℕ) → i < e → R i
-  before_and_from a e before rest i lt = elim (before_or_from a i) [
+  before_and_from a e before rest i lt = elim (cases_lt i a) [
     | inl less ↦ before i less
     | inr from ↦ rest i from lt
   ]
@@ -35,7 +32,7 @@ module _ {V : Type 0} (A : Algebra V) (g : GraphData) (asked : Asked) (told : An
 
   -- one right answer more
   pub told_more : (i : ℕ) → TellsSuspectIn A g asked told start i false → TellsSuspect A g asked told i false → TellsSuspectIn A g asked told start (i + 1) false
-  told_more i right here k low lt = elim (before_or_from i k) [
+  told_more i right here k low lt = elim (cases_lt k i) [
     | inl less ↦ right k low less
     | inr from ↦ let same : i ≡ k = omega (arith, from, lt) in subst (λ (j : ℕ). TellsSuspect A g asked told j false) same here
   ]

@@ -1,16 +1,16 @@
 use Rattle.std.proofs.Common.{rules, ◌≡◌, ℕ, ◌+◌, ◌-◌, ◌<◌, ◌≤◌, ◌^◌, ◌∙◌, Bool, length, List, ap, arith, subst}
 use Rattle.std.specs.List.{range_with_len, AllZip}
 use Rattle.std.proofs.Crossing.{crosses}
-use denote.Param.{copied}
-use denote.Param.Send.{IsSync, sendable}
-use denote.Ref.{NamedLft}
-use Rattle.answer_check.specs.contracts.case.Case as Case
 use Rattle.rayon.specs.Numbers.{nat_range}
 use Rattle.rayon.proofs.ToStd.{nat_range-All}
 use Rattle.road_files.specs.Asked.{asked_of}
 use Rattle.answer_text.specs.AnswerData.{answer_list}
 use Rattle.answer_check.specs.Pairs.{TellsSuspectIn}
 use Rattle.answer_check.specs.Runs.{run_start}
+use denote.Param.{copied}
+use denote.Param.Send.{IsSync, sendable}
+use denote.Ref.{NamedLft}
+use Rattle.answer_check.specs.contracts.case.Case as Case
 use Rattle.answer_check.proofs.FirstPlaces.{first_number}
 use Rattle.answer_check.proofs.Sharing.{Case-sync}
 use Rattle.answer_check.proofs.suspects.first_suspect_run.Goals as goal

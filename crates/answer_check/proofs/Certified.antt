@@ -1,14 +1,12 @@
 -- Lines that are certified are the right answer, and the right answer is certified.
 use Rattle.std.proofs.Common.{◌≡◌, ℕ, zero, suc, ◌+◌, ◌-◌, ◌<◌, ◌≤◌, ◌⊎◌, inl, inr, List, [], ◌∷◌, ◌++◌, length, map, refl, ap, sym, ◌∙◌, subst, arith, Option, Some, None, IsTrue, Contains, All}
 use Rattle.std.proofs.Math.ListN.{get_or-map}
-use Rattle.std.proofs.lemmas.List.{length-append, length-map}
-use Rattle.road_graph.specs.GraphData.{GraphData, IsGraph, HasArc, HasVertex, arc_of}
-use Rattle.road_graph.proofs.Lists.{not_in_empty, head_or_tail, here, later, same_some}
-use Rattle.path_algebra.specs.Algebra.{Algebra, IsLawful}
-use Rattle.path_algebra.specs.Walks.{IsWalk, IsWalkValue, IsBest, IsBestLabel, IsUnreached, AreBest, IsTight, IsTightWalk, AreHops, IsParent, label_of}
-use Rattle.path_algebra.proofs.Walks.{IsWalk-snoc, IsWalkValue-extend, walk_value_is_value, labels_are_best}
-use Rattle.path_algebra.proofs.Least.{same_no_worse}
-use Rattle.answer_text.specs.declared.answers.Reached.{Reached}
+use Rattle.answer_check.proofs.Words.{length-append, length-map, GraphData, IsGraph, HasArc}
+use Rattle.answer_check.proofs.Words.{HasVertex, arc_of, not_in_empty, head_or_tail, here, later}
+use Rattle.answer_check.proofs.Words.{same_some, Algebra, IsLawful, IsWalk, IsWalkValue, IsBest}
+use Rattle.answer_check.proofs.Words.{IsBestLabel, IsUnreached, AreBest, IsTight, IsTightWalk}
+use Rattle.answer_check.proofs.Words.{AreHops, IsParent, label_of, IsWalk-snoc, IsWalkValue-extend}
+use Rattle.answer_check.proofs.Words.{walk_value_is_value, labels_are_best, same_no_worse, Reached}
 use Rattle.std.proofs.lemmas.List.Elements.{All-nil, All-cons, All-head, All-tail, All-append}
 use Rattle.std.proofs.lemmas.Bool.{cases_eq}
 use Rattle.path_algebra.proofs.Tight.{never_better_along, best_is_one}

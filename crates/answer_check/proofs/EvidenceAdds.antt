@@ -1,10 +1,6 @@
 -- What is shown by one arc more.
 use Rattle.std.proofs.Common.{◌≡◌, ℕ, ◌+◌, ◌<◌, List, Bool, ◌||◌, length, get_or, take, ap, ◌∙◌, refl, sym, Option}
-use Rattle.std.specs.List.{list_any}
-use Rattle.road_graph.specs.declared.OutRoad.{OutRoad}
-use Rattle.path_algebra.specs.Algebra.{Algebra}
-use Rattle.answer_text.specs.declared.answers.Reached.{Reached}
-use Rattle.answer_check.specs.declared.evidence.Evidence.{Evidence}
+use Rattle.answer_check.proofs.Words.{list_any, OutRoad, Algebra, Reached, Evidence}
 use Rattle.std.proofs.lemmas.List.Folds.{list_any_more}
 use Rattle.answer_check.specs.Evidence.{evidence_of, all_evidence, either}
 

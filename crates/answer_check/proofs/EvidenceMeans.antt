@@ -1,16 +1,9 @@
 -- What the evidence of all arcs into a vertex means: the line is right, or the evidence gives the
 -- first reason against it.
 use Rattle.std.proofs.Common.{◌≡◌, ℕ, ◌+◌, ◌<◌, ◌≤◌, ◌^◌, inl, inr, Bool, true, false, not, ◌&&◌, ◌||◌, nat_eq, nat_lt, List, [], ◌∷◌, get_or, map, refl, ap, sym, ◌∙◌, subst, arith, Option, Some, None, IsTrue, Contains, eqb-true, eq-eqb}
-use Rattle.std.proofs.lemmas.Grind.{common_steps}
-use Rattle.std.specs.List.{list_any}
-use Rattle.road_graph.specs.GraphData.{GraphData, HasArc, ListsRoadsInto, arc_of, road_of, reversed_arc}
-use Rattle.road_graph.specs.declared.OutRoad.{OutRoad}
-use Rattle.path_algebra.specs.Algebra.{Algebra, IsLawful}
-use Rattle.path_algebra.specs.Walks.{label_of}
-use Rattle.path_algebra.proofs.Least.{same_no_worse}
-use Rattle.answer_text.specs.declared.answers.Reached.{Reached}
-use Rattle.answer_check.specs.declared.evidence.Evidence.{Evidence}
-use Rattle.answer_check.specs.declared.verdict.Reason.{Reason}
+use Rattle.answer_check.proofs.Words.{common_steps, list_any, GraphData, HasArc, ListsRoadsInto}
+use Rattle.answer_check.proofs.Words.{arc_of, road_of, reversed_arc, OutRoad, Algebra}
+use Rattle.answer_check.proofs.Words.{IsLawful, label_of, same_no_worse, Reached, Evidence, Reason}
 use Rattle.std.proofs.lemmas.Bool.{eqb-false, lt-ltb, ltb-true, ltb-false, and_parts, not-true, not-false, false_from_ne_true}
 use Rattle.std.proofs.lemmas.List.Folds.{list_any_at, Any-from_list_any}
 use Rattle.answer_check.specs.declared.verdict.Reason.TheVariants.{Mismatch, NotBest, NoParent, OtherHops, LesserParent, HasWalk, OtherRoute}

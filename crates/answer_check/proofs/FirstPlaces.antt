@@ -1,18 +1,10 @@
 -- The first place that a pass over marked lines finds is the first where the answer is wrong; where
 -- it finds none, the answer is right.
 use Rattle.std.proofs.Common.{◌≡◌, ℕ, ◌+◌, inl, inr, List, ap, ◌∙◌, subst, arith, Option, Some, None, zero, suc, ◌-◌, ◌<◌, ◌≤◌, ◌^◌, min, Bool, true, false, [], ◌∷◌, length, refl, sym, IsTrue, Contains, ◌↔◌, option_map}
-use Rattle.std.proofs.lemmas.Grind.{common_steps}
-use Rattle.road_graph.specs.GraphData.{GraphData, IsGraph, HasVertex}
-use Rattle.road_graph.proofs.Lists.{same_some}
-use Rattle.path_algebra.specs.Algebra.{Algebra, IsLawful}
-use Rattle.path_algebra.specs.Walks.{label_of, is_marked}
-use Rattle.answer_text.specs.declared.answers.Reached.{Reached}
-use Rattle.answer_check.specs.declared.verdict.Reason.{Reason}
-use Rattle.std.specs.List.{range_with_len, AllZip}
-use Rattle.rayon.specs.Lists.{first_true}
-use Rattle.answer_check.specs.declared.place.Place.{Place}
-use Rattle.answer_check.specs.Marked.{IsMarkedRefused, IsMarkedRight, TellsRefused}
-use Rattle.answer_check.specs.Places.{IsJudgedAt, IsFirstNumber}
+use Rattle.answer_check.proofs.Words.{common_steps, GraphData, IsGraph, HasVertex, same_some}
+use Rattle.answer_check.proofs.Words.{Algebra, IsLawful, label_of, is_marked, Reached, Reason}
+use Rattle.answer_check.proofs.Words.{range_with_len, AllZip, first_true, Place, IsMarkedRefused}
+use Rattle.answer_check.proofs.Words.{IsMarkedRight, TellsRefused, IsJudgedAt, IsFirstNumber}
 use Rattle.answer_check.specs.declared.verdict.Reason.TheVariants.{Mismatch, NotBest, NoParent, OtherHops, LesserParent, HasWalk, OtherRoute}
 use Rattle.answer_check.specs.Reasons.{Offers, Gives, source_line, IsRefuted, IsLineRefused, reason_number}
 use Rattle.answer_check.specs.Certificates.{IsSupported, IsRightLine, IsCertifiedAt}

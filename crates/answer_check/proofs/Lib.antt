@@ -1,3 +1,4 @@
+mod Words
 pub mod Certified
 mod Entering
 mod EvidenceAdds

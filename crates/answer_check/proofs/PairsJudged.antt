@@ -1,12 +1,7 @@
 -- How what is told of a pair differs from the right answer is the first reason against it.
 use Rattle.std.proofs.Common.{◌≡◌, ℕ, ◌<◌, [], ◌∷◌, sym, subst, arith, Option, Some, None}
-use Rattle.road_graph.specs.GraphData.{GraphData}
-use Rattle.path_algebra.specs.Algebra.{Algebra, IsLawful}
-use Rattle.path_algebra.specs.Walks.{IsUnreached, AreHops}
-use Rattle.answer_text.specs.AnswerData.{FoundData}
-use Rattle.answer_text.proofs.OneAnswer.{code_once, hops_once, route_once}
-use Rattle.answer_check.specs.declared.verdict.Reason.{Reason}
-use Rattle.answer_check.specs.Pairs.{IsOther}
+use Rattle.answer_check.proofs.Words.{GraphData, Algebra, IsLawful, IsUnreached, AreHops, FoundData}
+use Rattle.answer_check.proofs.Words.{code_once, hops_once, route_once, Reason, IsOther}
 use Rattle.answer_text.specs.IsAnswer.{IsBestCode, IsRouteBetween, IsFoundBetween, IsPairAnswer}
 use Rattle.answer_check.specs.declared.verdict.Reason.TheVariants.{Mismatch, NotBest, NoParent, OtherHops, LesserParent, HasWalk, OtherRoute}
 use Rattle.answer_check.specs.Reasons.{IsPairRefused, IsFirstReason, reason_number}

@@ -1,13 +1,8 @@
 -- Answers are right up to a place if they are before the first run, and in each run up to there.
 use Rattle.std.proofs.lemmas.Bool.{cases_lt}
 use Rattle.std.proofs.Common.{◌≡◌, ℕ, ◌+◌, ◌<◌, ◌≤◌, ◌⊎◌, inl, inr, Bool, true, false, nat_lt, arith, subst, zero, suc, ltb-false}
-use Rattle.std.proofs.lemmas.Grind.{common_steps}
-use Rattle.road_graph.specs.GraphData.{GraphData}
-use Rattle.road_files.specs.Asked.{Asked}
-use Rattle.path_algebra.specs.Algebra.{Algebra}
-use Rattle.answer_text.specs.AnswerData.{AnswerList}
-use Rattle.answer_check.specs.Pairs.{TellsSuspect, TellsSuspectIn}
-use Rattle.answer_check.specs.Runs.{run_start}
+use Rattle.answer_check.proofs.Words.{common_steps, GraphData, Asked, Algebra, AnswerList}
+use Rattle.answer_check.proofs.Words.{TellsSuspect, TellsSuspectIn, run_start}
 use Rattle.answer_check.specs.declared.runs.Runs.{Runs}
 
 module _ (R : ℕ → Type 0) where

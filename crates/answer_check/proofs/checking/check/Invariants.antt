@@ -1,5 +1,4 @@
-use Rattle.road_files.specs.Asked.{asked_of}
-use Rattle.answer_text.specs.AnswerData.{answer_list}
+use Rattle.answer_check.proofs.Words.{asked_of, answer_list}
 use Rattle.answer_check.proofs.FirstWrong.{AreRightUpTo}
 use Rattle.answer_check.proofs.checking.check.Given as goal
 

@@ -1,6 +1,5 @@
 use Rattle.std.proofs.Common.{ℕ, ◌≤◌, ◌↔◌, Contains, IsTrue, arith}
-use Rattle.path_algebra.specs.Walks.{is_marked}
-use Rattle.path_algebra.proofs.Walks.{all_inside}
+use Rattle.answer_check.proofs.Words.{is_marked, all_inside}
 use Rattle.answer_check.proofs.FirstPlaces.{lines_judged}
 use Rattle.answer_check.proofs.lines.judge_lines.Goals as goal
 

@@ -1,6 +1,5 @@
 use Rattle.std.proofs.Common.{ℕ, ◌+◌, ◌<◌}
-use Rattle.path_algebra.specs.Walks.{is_marked}
-use Rattle.answer_check.specs.Marked.{IsMarkedRight}
+use Rattle.answer_check.proofs.Words.{is_marked, IsMarkedRight}
 use Rattle.answer_check.proofs.pass.first_place.Given as goal
 
 abbrev pub invariant-loop-i : goal.invariant-loop-i

@@ -1,11 +1,6 @@
 use Rattle.std.proofs.Common.{rules, ◌≡◌, ℕ, ◌<◌, ◌-◌, ◌+◌, ◌^◌, ◌∙◌, Bool, length, List, ap, arith, subst}
-use Rattle.std.specs.List.{range_with_len, AllZip}
-use Rattle.std.proofs.Crossing.{crosses}
-use Rattle.rayon.specs.Numbers.{nat_range}
-use Rattle.rayon.specs.Lists.{first_true}
-use Rattle.rayon.proofs.ToStd.{nat_range-All}
-use Rattle.answer_check.specs.Marked.{TellsRefused}
-use Rattle.answer_check.specs.Places.{IsFirstNumber}
+use Rattle.answer_check.proofs.Words.{range_with_len, AllZip, crosses, nat_range, first_true}
+use Rattle.answer_check.proofs.Words.{nat_range-All, TellsRefused, IsFirstNumber}
 use denote.Param.Send.{sendable}
 use Rattle.answer_check.proofs.FirstPlaces.{first_number}
 use Rattle.answer_check.proofs.pass.first_refused.Goals as goal

@@ -1,7 +1,5 @@
 use Rattle.std.proofs.Common.{◌∙◌, Bool, false, subst}
-use Rattle.road_files.specs.Asked.{asked_of}
-use Rattle.answer_text.specs.AnswerData.{answer_list}
-use Rattle.answer_check.specs.Pairs.{TellsSuspect}
+use Rattle.answer_check.proofs.Words.{asked_of, answer_list, TellsSuspect}
 use Rattle.answer_check.proofs.RunsAreRight.{told_more}
 use Rattle.answer_check.proofs.suspects.first_suspect.Goals as goal
 

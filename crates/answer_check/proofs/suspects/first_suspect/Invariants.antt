@@ -1,7 +1,5 @@
 use Rattle.std.proofs.Common.{◌≡◌, false}
-use Rattle.road_files.specs.Asked.{asked_of}
-use Rattle.answer_text.specs.AnswerData.{answer_list}
-use Rattle.answer_check.specs.Pairs.{TellsSuspectIn}
+use Rattle.answer_check.proofs.Words.{asked_of, answer_list, TellsSuspectIn}
 use Rattle.answer_check.proofs.suspects.first_suspect.Given as goal
 
 -- the searcher is of the graph, by the algebra, and the answers before this one are right

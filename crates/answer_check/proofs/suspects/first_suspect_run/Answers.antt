@@ -1,12 +1,6 @@
 use Rattle.std.proofs.Common.{rules, ◌≡◌, ℕ, ◌+◌, ◌-◌, ◌<◌, ◌≤◌, ◌^◌, ◌∙◌, Bool, length, List, ap, arith, subst}
-use Rattle.std.specs.List.{range_with_len, AllZip}
-use Rattle.std.proofs.Crossing.{crosses}
-use Rattle.rayon.specs.Numbers.{nat_range}
-use Rattle.rayon.proofs.ToStd.{nat_range-All}
-use Rattle.road_files.specs.Asked.{asked_of}
-use Rattle.answer_text.specs.AnswerData.{answer_list}
-use Rattle.answer_check.specs.Pairs.{TellsSuspectIn}
-use Rattle.answer_check.specs.Runs.{run_start}
+use Rattle.answer_check.proofs.Words.{range_with_len, AllZip, crosses, nat_range, nat_range-All}
+use Rattle.answer_check.proofs.Words.{asked_of, answer_list, TellsSuspectIn, run_start}
 use denote.Param.{copied}
 use denote.Param.Send.{IsSync, sendable}
 use denote.Ref.{NamedLft}

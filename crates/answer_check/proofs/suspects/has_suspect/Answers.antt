@@ -1,8 +1,5 @@
 use Rattle.std.proofs.Common.{ℕ, ◌+◌, nat_lt, refl, subst}
-use Rattle.road_files.specs.Asked.{asked_of}
-use Rattle.answer_text.specs.AnswerData.{answer_list}
-use Rattle.answer_check.specs.Pairs.{TellsSuspectIn}
-use Rattle.answer_check.specs.Runs.{run_start}
+use Rattle.answer_check.proofs.Words.{asked_of, answer_list, TellsSuspectIn, run_start}
 use Rattle.answer_check.proofs.RunsAreRight.{told_before}
 use Rattle.answer_check.proofs.suspects.has_suspect.Goals as goal
 

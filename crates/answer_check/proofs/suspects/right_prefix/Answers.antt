@@ -1,9 +1,6 @@
 use Rattle.std.proofs.Common.{rules, ℕ, ◌+◌, ◌<◌, ◌≡◌, ◌∙◌, Bool, false, arith, Option, ap, subst, sym}
-use Rattle.road_files.specs.Asked.{asked_of}
-use Rattle.answer_text.specs.AnswerData.{answer_list}
-use Rattle.answer_check.specs.Pairs.{TellsSuspect, TellsSuspectIn}
-use Rattle.answer_check.specs.Places.{IsFirstNumber}
-use Rattle.answer_check.specs.Runs.{run_start}
+use Rattle.answer_check.proofs.Words.{asked_of, answer_list, TellsSuspect, TellsSuspectIn}
+use Rattle.answer_check.proofs.Words.{IsFirstNumber, run_start}
 use Rattle.answer_check.proofs.RunsAreRight.{before_and_from, right_up_to}
 use Rattle.answer_check.proofs.suspects.right_prefix.Goals as goal
 

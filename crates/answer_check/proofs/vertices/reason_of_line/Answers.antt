@@ -1,6 +1,5 @@
 use Rattle.std.proofs.Common.{rules, ◌≡◌, Some, None, sym, ◌∙◌, arith}
-use Rattle.std.proofs.lemmas.Grind.{common_steps}
-use Rattle.path_algebra.specs.Walks.{label_of}
+use Rattle.answer_check.proofs.Words.{common_steps, label_of}
 use Rattle.answer_check.specs.Evidence.{decoded}
 use Rattle.answer_check.proofs.Entering.{ends_inside}
 use Rattle.answer_check.proofs.EvidenceMeans.{evidence_judges, walk_judged, walk_missed, decoded_is}

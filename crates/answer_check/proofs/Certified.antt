@@ -2,13 +2,12 @@
 use Rattle.std.proofs.Common.{◌≡◌, ℕ, zero, suc, ◌+◌, ◌-◌, ◌<◌, ◌≤◌, ◌⊎◌, inl, inr, List, [], ◌∷◌, ◌++◌, length, map, refl, ap, sym, ◌∙◌, subst, arith, Option, Some, None, IsTrue, Contains, All}
 use Rattle.std.proofs.Math.ListN.{get_or-map}
 use Rattle.answer_check.proofs.Words.{length-append, length-map, GraphData, IsGraph, HasArc}
-use Rattle.answer_check.proofs.Words.{HasVertex, arc_of, not_in_empty, head_or_tail, here, later}
-use Rattle.answer_check.proofs.Words.{same_some, Algebra, IsLawful, IsWalk, IsWalkValue, IsBest}
-use Rattle.answer_check.proofs.Words.{IsBestLabel, IsUnreached, AreBest, IsTight, IsTightWalk}
-use Rattle.answer_check.proofs.Words.{AreHops, IsParent, label_of, IsWalk-snoc, IsWalkValue-extend}
-use Rattle.answer_check.proofs.Words.{walk_value_is_value, labels_are_best, same_no_worse, Reached}
+use Rattle.answer_check.proofs.Words.{HasVertex, arc_of, same_some, Algebra, IsLawful, IsWalk}
+use Rattle.answer_check.proofs.Words.{IsWalkValue, IsBest, IsBestLabel, IsUnreached, AreBest}
+use Rattle.answer_check.proofs.Words.{IsTight, IsTightWalk, AreHops, IsParent, label_of}
+use Rattle.answer_check.proofs.Words.{IsWalk-snoc, IsWalkValue-extend, walk_value_is_value}
+use Rattle.answer_check.proofs.Words.{labels_are_best, same_no_worse, Reached}
 use Rattle.std.proofs.lemmas.List.Elements.{All-nil, All-cons, All-head, All-tail, All-append}
-use Rattle.std.proofs.lemmas.Bool.{cases_eq}
 use Rattle.path_algebra.proofs.Tight.{never_better_along, best_is_one}
 use Rattle.answer_text.specs.IsAnswer.{IsReachedLine, IsVertexLine, AreVertexLines}
 use Rattle.answer_check.specs.Reasons.{IsCodeOf, Offers, source_line}
@@ -138,9 +137,6 @@ module _ {V : Type 0} (A : Algebra V) (lawful : IsLawful A) where
           let same : t.0 ≡ x = same_some (label_of labels v) t.0 x (label_told v r t.0 f (walk_has_code v r.code t.0 t.1 t.2)) e in
           (r, f, subst (λ (y : V). IsWalkValue A g sources v y) same t.1, t.2 ∙ ap A.code same)
 
-      told_at : (v : ℕ) (x : V) → HasVertex g v → label_of labels v ≡ Some x → (r : Reached) × (label_of lines v ≡ Some r) × IsWalkValue A g sources v x × (r.code ≡ A.code x)
-      told_at v x in_v e = told_by v x in_v e (label_of lines v) refl
-
       origin_label : (s : ℕ) → label_of lines s ≡ source_line A → label_of labels s ≡ Some A.origin
       origin_label s e = label_told s (record { code = A.code A.origin; hops = 0; parent = 0 }) A.origin e (lawful.origin_is_value, refl)
 
@@ -161,12 +157,12 @@ module _ {V : Type 0} (A : Algebra V) (lawful : IsLawful A) where
           (y : V) × (label_of labels (arc_of g a).head ≡ Some y) × IsTrue (A.no_worse y z)
       not_improving a h x z e f =
           let ends = roads.ends a h in
-          let t = told_at (arc_of g a).tail x ends.0 e in
+          let t = told_by (arc_of g a).tail x ends.0 e (label_of lines (arc_of g a).tail) refl in
           head_label (arc_of g a).head (arc_of g a).tail t.0 x z ends.1 (arc_offers A g lines a t.0 x z h t.1 (walk_has_code (arc_of g a).tail t.0.code x t.2 t.3) f)
           (IsWalkValue-extend A g sources (arc_of g a).tail a x z t.2 h refl f) (label_of lines (arc_of g a).head) refl (certified.each (arc_of g a).head ends.1)
 
       best : AreBest A g sources labels
-      best = labels_are_best A lawful g roads sources labels (λ v x in_v e. (told_at v x in_v e).2) not_improving in_s
+      best = labels_are_best A lawful g roads sources labels (λ v x in_v e. (told_by v x in_v e (label_of lines v) refl).2) not_improving in_s
           (λ s h. (A.origin, origin_label s (source_is s h), same_no_worse A.no_worse lawful.ordered A.origin))
           (length-map lines (value_told A) ∙ certified.count)
 
@@ -185,9 +181,6 @@ module _ {V : Type 0} (A : Algebra V) (lawful : IsLawful A) where
       line_by v x in_v b (Some r) e =
           let t = tells_best v r in_v e in
           (r, e, t.2 ∙ ap A.code (best_is_one A lawful g roads sources v t.0 x t.1 b))
-
-      line_of_best : (v : ℕ) (x : V) → HasVertex g v → IsBest A g sources v x → (r : Reached) × (label_of lines v ≡ Some r) × (r.code ≡ A.code x)
-      line_of_best v x in_v b = line_by v x in_v b (label_of lines v) refl
 
       -- the value of a supported line is the best
       support_best : (v : ℕ) (r : Reached) → HasVertex g v → label_of lines v ≡ Some r → (sup : IsSupported A g lines v r) → IsBest A g sources v sup.value
@@ -226,7 +219,7 @@ module _ {V : Type 0} (A : Algebra V) (lawful : IsLawful A) where
           let ends = roads.ends a t.arc in
           let v = (arc_of g a).head in
           let u = tells_best (arc_of g a).tail near ends.0 e in
-          let line = line_of_best v t.head ends.1 t.head_best in
+          let line = line_by v t.head ends.1 t.head_best (label_of lines v) refl in
           let b = tight_offers a near u.0 t.head t e u.2 u.1 t.head_best in (
             line.0,
             line.1,
@@ -272,7 +265,7 @@ module _ {V : Type 0} (A : Algebra V) (lawful : IsLawful A) where
         least = λ t n.
             let (a, tight, at, to, k) = n in
             let ends = roads.ends a tight.arc in
-            let line = line_of_best (arc_of g a).tail tight.tail ends.0 tight.tail_best in
+            let line = line_by (arc_of g a).tail tight.tail ends.0 tight.tail_best (label_of lines (arc_of g a).tail) refl in
             let b : Offers A g lines (arc_of g a).tail (arc_of g a).head line.0 tight.head = tight_offers a line.0 tight.tail tight.head tight line.1 line.2 tight.tail_best tight.head_best in
             let c : Offers A g lines t v line.0 tight.head = subst (λ (u : ℕ). Offers A g lines t u line.0 tight.head) to
             (subst (λ (u : ℕ). Offers A g lines u (arc_of g a).head line.0 tight.head) at b) in
@@ -298,16 +291,6 @@ module _ {V : Type 0} (A : Algebra V) (lawful : IsLawful A) where
       -- lines that are certified are right
       pub lines_are_right : AreVertexLines A g sources lines
       lines_are_right = record { count = certified.count; each = λ v in_v. line_is_right v in_v (label_of lines v) refl }
-
-    source_or_not : (xs : List ℕ) (v : ℕ) → Contains xs v ⊎ (Contains xs v → ⊥)
-    source_or_not [] v = inr (not_in_empty v)
-    source_or_not (x ∷ xs) v = elim (cases_eq x v) [
-      | inl same ↦ inl (subst (Contains (x ∷ xs)) same (here x xs))
-      | inr other ↦ elim (source_or_not xs v) [
-        | inl h ↦ inl (later x v xs h)
-        | inr none ↦ inr (λ h. elim (head_or_tail x v xs h) [ inl e ↦ other e | inr t ↦ none t ])
-      ]
-    ]
 
     module _ (right : AreVertexLines A g sources lines) where
       line_at : (v : ℕ) (r : Reached) → HasVertex g v → label_of lines v ≡ Some r → IsReachedLine A g sources v r
@@ -370,21 +353,19 @@ module _ {V : Type 0} (A : Algebra V) (lawful : IsLawful A) where
                 p.least u (b.arc, tight, b.tail_is, b.head_is, (other.hops, tail.hops, subst (λ (k : ℕ). AreHops A g sources v k) (sym one) line.hops));
           }
 
-      right_line : (v : ℕ) → HasVertex g v → (Contains sources v → ⊥) → (l : Option Reached) → label_of lines v ≡ l → IsRightLine A g lines v l
-      right_line v in_v no_source None e = λ u near z b.
-          let tail = line_at u near (tail_in u v near z b) b.line_is in
-          let none : IsUnreached A g sources v = subst (λ (l : Option Reached). IsVertexLine A g sources v l) e (right.each v in_v) in
-          none z (offers_walk u v near tail.code.0 z tail.code.1.attained tail.code.2 b)
-      right_line v in_v no_source (Some r) e =
-          let line = line_at v r in_v e in
-          line_supported v r in_v e (elim line.parent [ inl p ↦ absurd (no_source p.0) | inr p ↦ p ])
-
       -- right lines are certified
+      certified_at : (v : ℕ) → HasVertex g v → (l : Option Reached) → label_of lines v ≡ l → IsCertifiedAt A g sources lines v
+      certified_at v in_v None e =
+          let none : IsUnreached A g sources v = subst (λ (l : Option Reached). IsVertexLine A g sources v l) e (right.each v in_v) in
+          let right_none : IsRightLine A g lines v None = λ u near z b.
+          let tail = line_at u near (tail_in u v near z b) b.line_is in
+          none z (offers_walk u v near tail.code.0 z tail.code.1.attained tail.code.2 b)
+          in
+          inr (λ h. none A.origin (origin_walk v h), subst (IsRightLine A g lines v) (sym e) right_none)
+      certified_at v in_v (Some r) e = elim (line_at v r in_v e).parent [
+        | inl p ↦ inl (p.0, source_certified v in_v p.0)
+        | inr p ↦ inr (p.no_source, subst (IsRightLine A g lines v) (sym e) (line_supported v r in_v e p))
+      ]
+
       pub lines_are_certified : AreCertified A g sources lines
-      lines_are_certified = record {
-        count = right.count;
-        each = λ v in_v. elim (source_or_not sources v) [
-          | inl h ↦ inl (h, source_certified v in_v h)
-          | inr other ↦ inr (other, right_line v in_v other (label_of lines v) refl)
-        ];
-      }
+      lines_are_certified = record { count = right.count; each = λ v in_v. certified_at v in_v (label_of lines v) refl }

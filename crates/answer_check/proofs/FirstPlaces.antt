@@ -5,8 +5,8 @@ use Rattle.answer_check.proofs.Words.{common_steps, GraphData, IsGraph, HasVerte
 use Rattle.answer_check.proofs.Words.{Algebra, IsLawful, label_of, is_marked, Reached, Reason}
 use Rattle.answer_check.proofs.Words.{range_with_len, AllZip, first_true, Place, IsMarkedRefused}
 use Rattle.answer_check.proofs.Words.{IsMarkedRight, TellsRefused, IsJudgedAt, IsFirstNumber}
-use Rattle.answer_check.specs.declared.verdict.Reason.TheVariants.{Mismatch, NotBest, NoParent, OtherHops, LesserParent, HasWalk, OtherRoute}
-use Rattle.answer_check.specs.Reasons.{Offers, Gives, source_line, IsRefuted, IsLineRefused, reason_number}
+use Rattle.answer_check.specs.declared.verdict.Reason.TheVariants.{Mismatch, NotBest, NoParent, OtherHops, LesserParent, HasWalk}
+use Rattle.answer_check.specs.Reasons.{Offers, Gives, IsRefuted, IsLineRefused, reason_number}
 use Rattle.answer_check.specs.Certificates.{IsSupported, IsRightLine, IsCertifiedAt}
 use Rattle.answer_check.proofs.Certified.{code_of_one, lines_are_right}
 use Rattle.answer_text.specs.IsAnswer.{AreVertexLines}
@@ -34,17 +34,11 @@ module _ {V : Type 0} (A : Algebra V) (lawful : IsLawful A) (g : GraphData) (lin
   not_refused v l reason right h = h
 
   module _ (sources : List ℕ) (v : ℕ) where
-    by_source : (reason : Reason) → Contains sources v → label_of lines v ≡ source_line A → IsLineRefused A g sources lines v reason → ⊥
-    by_source Mismatch s e h = h.1 e
-    by_source reason s e h = h.0 s
-
-    by_others : (reason : Reason) → (Contains sources v → ⊥) → IsRightLine A g lines v (label_of lines v) → IsLineRefused A g sources lines v reason → ⊥
-    by_others Mismatch n right h = n h.0
-    by_others reason n right h = not_refused v (label_of lines v) reason right h.1
-
     pub certified_not_refused : IsCertifiedAt A g sources lines v → (reason : Reason) → IsLineRefused A g sources lines v reason → ⊥
-    certified_not_refused (inl s) reason h = by_source reason s.0 s.1 h
-    certified_not_refused (inr n) reason h = by_others reason n.0 n.1 h
+    certified_not_refused (inl s) Mismatch h = h.1 s.1
+    certified_not_refused (inl s) reason h = h.0 s.0
+    certified_not_refused (inr n) Mismatch h = n.0 h.0
+    certified_not_refused (inr n) reason h = not_refused v (label_of lines v) reason n.1 h.1
 
 module _ (R : ℕ → Bool → Type 0) where
   -- the first of the numbers from a on
@@ -76,8 +70,10 @@ module _ (R : ℕ → Bool → Type 0) where
   first_of n None h = λ k lt. moved (0 + k) k false (omega arith) (h k lt)
   first_of n (Some i) h = (h.0, moved (0 + i) i true (omega arith) h.1, λ k lt. moved (0 + k) k false (omega arith) (h.2 k lt))
 
-  pub first_number : (n : ℕ) (bs : List Bool) → n < 2 ^ 64 → AllZip R (range_with_len 0 n) bs → IsFirstNumber n R (first_true bs)
-  first_number n bs short z = first_of n (first_true bs) (first_from 0 n bs short z)
+  pub first_number : (n : ℕ) (xs : List ℕ) (bs : List Bool) → n < 2 ^ 64 → xs ≡ range_with_len 0 (n - 0) → AllZip R xs bs → IsFirstNumber n R (first_true bs)
+  first_number n xs bs short is z =
+      let whole : n - 0 ≡ n = omega arith in
+      first_of n (first_true bs) (first_from 0 n bs short (subst (λ (ys : List ℕ). AllZip R ys bs) (is ∙ ap (range_with_len 0) whole) z))
 
 module _ {V : Type 0} (A : Algebra V) (lawful : IsLawful A) (g : GraphData) (lines : List (Option Reached)) where
   pub marked_not_refused : (v : ℕ) (b : Bool) (r : Reason) → IsMarkedRight A g lines v b → IsMarkedRefused A g lines v b r → ⊥

@@ -1,12 +1,13 @@
 -- The first place of the first answer that is wrong is the first place of the list; a list that is
 -- wrong nowhere is right.
 use Rattle.std.proofs.Common.{◌≡◌, ℕ, zero, suc, ◌+◌, ◌-◌, ◌<◌, ◌≤◌, ◌⊎◌, inl, inr, List, [], ◌∷◌, length, map, get_or, refl, ap, sym, ◌∙◌, subst, arith, Option, Some, None, ◌↔◌, All, slice_get, option_map}
-use Rattle.answer_check.proofs.Words.{common_steps, length-map, GraphData, IsGraph, HasVertex, same_some}
-use Rattle.answer_check.proofs.Words.{Algebra, IsLawful, all_inside, Question, FromSource}
-use Rattle.answer_check.proofs.Words.{BetweenPair, FromSources, Asked, AskWithin, asked_of}
-use Rattle.answer_check.proofs.Words.{of_source, of_pair, of_list, AnswerData, SourceAnswer}
-use Rattle.answer_check.proofs.Words.{PairAnswer, SourcesAnswer, AnswerList, answers_count, Place}
-use Rattle.answer_check.proofs.Words.{Reason, Valid, Invalid, Reached, IsJudgedAt}
+use Rattle.answer_check.proofs.Words.{common_steps, length-map, GraphData, IsGraph, HasVertex}
+use Rattle.answer_check.proofs.Words.{same_some, Algebra, IsLawful, all_inside, Question}
+use Rattle.answer_check.proofs.Words.{FromSource, BetweenPair, FromSources, Asked, AskWithin}
+use Rattle.answer_check.proofs.Words.{asked_of, of_source, of_pair, of_list, AnswerData}
+use Rattle.answer_check.proofs.Words.{SourceAnswer, PairAnswer, SourcesAnswer, AnswerList}
+use Rattle.answer_check.proofs.Words.{answers_count, Place, Reason, Valid, Invalid, Reached}
+use Rattle.answer_check.proofs.Words.{IsJudgedAt}
 use Rattle.std.proofs.lemmas.List.Elements.{All-cons, All-nil, All-map, All-contains}
 use Rattle.std.proofs.lemmas.Option.{slice_get_within, slice_get-get_or, slice_get-map, slice_get_read, get_or_from_slice_get}
 use Rattle.road_files.specs.declared.questions.Questions.{Questions}

@@ -3,7 +3,7 @@ use Rattle.std.proofs.Common.{◌≡◌, ℕ, ◌<◌, [], ◌∷◌, sym, subst
 use Rattle.answer_check.proofs.Words.{GraphData, Algebra, IsLawful, IsUnreached, AreHops, FoundData}
 use Rattle.answer_check.proofs.Words.{code_once, hops_once, route_once, Reason, IsOther}
 use Rattle.answer_text.specs.IsAnswer.{IsBestCode, IsRouteBetween, IsFoundBetween, IsPairAnswer}
-use Rattle.answer_check.specs.declared.verdict.Reason.TheVariants.{Mismatch, NotBest, NoParent, OtherHops, LesserParent, HasWalk, OtherRoute}
+use Rattle.answer_check.specs.declared.verdict.Reason.TheVariants.{NotBest, OtherHops, HasWalk, OtherRoute}
 use Rattle.answer_check.specs.Reasons.{IsPairRefused, IsFirstReason, reason_number}
 
 module _ {V : Type 0} (A : Algebra V) (lawful : IsLawful A) (g : GraphData) (s t : ℕ) where

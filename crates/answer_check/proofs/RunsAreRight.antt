@@ -1,6 +1,6 @@
 -- Answers are right up to a place if they are before the first run, and in each run up to there.
 use Rattle.std.proofs.lemmas.Bool.{cases_lt}
-use Rattle.std.proofs.Common.{◌≡◌, ℕ, ◌+◌, ◌<◌, ◌≤◌, ◌⊎◌, inl, inr, Bool, true, false, nat_lt, arith, subst, zero, suc, ltb-false}
+use Rattle.std.proofs.Common.{◌≡◌, ℕ, ◌+◌, ◌<◌, ◌≤◌, inl, inr, Bool, true, false, nat_lt, arith, subst, zero, suc, ltb-false}
 use Rattle.answer_check.proofs.Words.{common_steps, GraphData, Asked, Algebra, AnswerList}
 use Rattle.answer_check.proofs.Words.{TellsSuspect, TellsSuspectIn, run_start}
 use Rattle.answer_check.specs.declared.runs.Runs.{Runs}

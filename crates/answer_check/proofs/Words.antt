@@ -23,7 +23,7 @@ pub use Rattle.rayon.specs.Lists.{first_true}
 pub use Rattle.rayon.specs.Numbers.{nat_range}
 pub use Rattle.road_files.specs.Asked.{AskWithin, Asked, BetweenPair, FromSource, FromSources}
 pub use Rattle.road_files.specs.Asked.{Question, asked_of, of_list, of_pair, of_source}
-pub use Rattle.road_graph.proofs.Lists.{head_or_tail, here, later, not_in_empty, same_some}
+pub use Rattle.road_graph.proofs.Lists.{same_some}
 pub use Rattle.road_graph.specs.GraphData.{GraphData, HasArc, HasVertex, IsGraph, ListsRoadsInto}
 pub use Rattle.road_graph.specs.GraphData.{arc_of, reversed_arc, road_of}
 pub use Rattle.road_graph.specs.declared.OutRoad.{OutRoad}

@@ -1,6 +1,6 @@
-use Rattle.std.proofs.Common.{rules, ◌≡◌, ℕ, ◌<◌, ◌-◌, ◌+◌, ◌^◌, ◌∙◌, Bool, length, List, ap, arith, subst}
-use Rattle.answer_check.proofs.Words.{range_with_len, AllZip, crosses, nat_range, first_true}
-use Rattle.answer_check.proofs.Words.{nat_range-All, TellsRefused, IsFirstNumber}
+use Rattle.std.proofs.Common.{rules, ◌≡◌, ℕ, ◌<◌, ◌-◌, ◌+◌, ◌^◌, ◌∙◌, Bool, length, arith, subst}
+use Rattle.answer_check.proofs.Words.{crosses, nat_range, first_true, nat_range-All, TellsRefused}
+use Rattle.answer_check.proofs.Words.{IsFirstNumber}
 use denote.Param.Send.{sendable}
 use Rattle.answer_check.proofs.FirstPlaces.{first_number}
 use Rattle.answer_check.proofs.pass.first_refused.Goals as goal
@@ -17,10 +17,8 @@ pub returns : goal.returns
 returns g c =
     let ends = c.into_par_iter.ensures in
     let n = length c.args.marks.now in
-    let whole : n - 0 ≡ n = omega arith in
     let done = c.position_first.ensures in
     let tells = λ (i : ℕ) (b : Bool). TellsRefused (g.A.PathAlgebra.meaning c.args.algebra) c.args.by_head.now (g.L.VertexLines.list c.args.lines.now) c.args.marks.now (i + 1) b in
     let short : n < 2 ^ 64 = search rules in
-    let places : done.0 ≡ range_with_len 0 n = done.2 ∙ (λ i. nat_range (ends.0 i) (ends.1 i)) ∙ ap (range_with_len 0) whole in
-    let told : AllZip tells (range_with_len 0 n) done.1 = subst (λ (xs : List ℕ). AllZip tells xs done.1) places done.3 in
-    rw done.4 (subst (λ (m : ℕ). IsFirstNumber m tells (first_true done.1)) c.requires.marks (first_number tells n done.1 short told))
+    rw done.4 (subst (λ (m : ℕ). IsFirstNumber m tells (first_true done.1)) c.requires.marks
+    (first_number tells n done.0 done.1 short (done.2 ∙ (λ i. nat_range (ends.0 i) (ends.1 i))) done.3))

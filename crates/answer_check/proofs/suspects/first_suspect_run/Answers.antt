@@ -1,6 +1,6 @@
-use Rattle.std.proofs.Common.{rules, ◌≡◌, ℕ, ◌+◌, ◌-◌, ◌<◌, ◌≤◌, ◌^◌, ◌∙◌, Bool, length, List, ap, arith, subst}
-use Rattle.answer_check.proofs.Words.{range_with_len, AllZip, crosses, nat_range, nat_range-All}
-use Rattle.answer_check.proofs.Words.{asked_of, answer_list, TellsSuspectIn, run_start}
+use Rattle.std.proofs.Common.{rules, ℕ, ◌+◌, ◌-◌, ◌<◌, ◌≤◌, ◌^◌, ◌∙◌, Bool, length}
+use Rattle.answer_check.proofs.Words.{crosses, nat_range, nat_range-All, asked_of, answer_list}
+use Rattle.answer_check.proofs.Words.{TellsSuspectIn, run_start}
 use denote.Param.{copied}
 use denote.Param.Send.{IsSync, sendable}
 use denote.Ref.{NamedLft}
@@ -27,11 +27,8 @@ returns g c =
     let base = c.with_min_len.ensures.base in
     let ends = c.into_par_iter.ensures in
     let n = c.args.runs.count in
-    let whole : n - 0 ≡ n = omega arith in
     let done = rw base at c.position_first.ensures in
     let tells = λ (k : ℕ) (b : Bool). TellsSuspectIn (g.A.PathAlgebra.meaning c.args.case.now.algebra) c.args.case.now.graph.now (asked_of c.args.case.now.questions.now) (answer_list c.args.case.now.answers.now)
     (run_start c.args.runs k) (run_start c.args.runs (k + 1)) b in
     let short : n < 2 ^ 64 = search rules in
-    let places : done.0 ≡ range_with_len 0 n = done.2 ∙ (λ i. nat_range (ends.0 i) (ends.1 i)) ∙ ap (range_with_len 0) whole in
-    let judged : AllZip tells (range_with_len 0 n) done.1 = subst (λ (xs : List ℕ). AllZip tells xs done.1) places done.3 in
-    rw done.4 (first_number tells n done.1 short judged)
+    rw done.4 (first_number tells n done.0 done.1 short (done.2 ∙ (λ i. nat_range (ends.0 i) (ends.1 i))) done.3)

@@ -1,22 +1,30 @@
--- What a batch wrote, as an answer of a service.
-use Rattle.std.proofs.Common.{◌≡◌, ◌≢◌, ℕ, ◌+◌, inl, inr, Bool, true, List, [], ◌++◌, Result, refl, sym, append-nil}
+-- What a batch wrote, as an answer of a service; and what may be one.
+use Rattle.std.proofs.Common.{◌≡◌, ◌≢◌, ℕ, ◌+◌, inl, inr, Bool, true, List, [], ◌++◌, Result, refl, sym, append-nil, ◌*◌, ◌<◌, ◌≤◌, Err, subst}
 use Rattle.road_graph.specs.GraphData.{GraphData}
-use Rattle.text_lines.specs.Streams.{Output}
 use Rattle.text_lines.specs.Written.{WrotePrefix, FailedAfterPrefix, WritesText}
-use Rattle.text_lines.proofs.WriteLaws.{wrote_then}
 use Rattle.road_files.specs.Asked.{Asked}
 use Rattle.path_algebra.specs.Algebra.{Algebra}
-use Rattle.answer_text.specs.AnswerText.{answers_text}
+use Rattle.batch_settings.specs.declared.settings.Settings.{Settings}
+use Rattle.batch_run.specs.Solvers.{IsSameSolver, graph_of, is_without_diffusions}
+use Rattle.text_lines.proofs.WriteLaws.{wrote_then}
+use Rattle.batch_run.proofs.Stopped.{stopped_for}
 use Rattle.batch_run.specs.declared.cause.Cause.{Cause}
 use Rattle.batch_run.specs.declared.cause.Cause.TheVariants.{Unsolved, Write}
+use Rattle.batch_run.specs.Stopping.{IsEnoughFor, Stops}
+use Rattle.worker_fleet.specs.Stops.{Says, StopsGroup}
+use Rattle.batch_run.specs.Causes.{MayStop, number_of, fault_of}
+use Rattle.path_algebra.specs.declared.algebra.PathAlgebra.{Ghosts}
+use Rattle.batch_run.specs.declared.solve.Solver.{Solver}
+use Rattle.batch_settings.specs.Choice.{without_diffusions}
+use Rattle.text_lines.specs.Streams.{Output}
+use Rattle.answer_text.specs.AnswerText.{answers_text}
 use Rattle.worker_fleet.specs.declared.group.GroupFault.TheVariants.{Memory, Stalled, Gated}
-use Rattle.batch_settings.specs.declared.settings.Settings.{Settings}
-use Rattle.batch_run.specs.Stopping.{IsEnoughFor}
 use Rattle.batch_run.specs.Answered.{WroteAnswers, WroteAnswersPrefix, WroteWhole, begun_text}
-use Rattle.worker_fleet.specs.Stops.{Says}
-use Rattle.batch_run.specs.Causes.{MayStop, number_of}
 use Rattle.service.specs.Replies.{fault_text}
-use Rattle.service.specs.Answering.{MayAnswerAs}
+use Rattle.service.specs.Answering.{MayAnswerAs, MayAnswer, MayAnswerBy}
+use Rattle.batch_settings.specs.declared.dealing.Dealing.{Dealing}
+use Rattle.worker_fleet.specs.OneShard.{IsBrief}
+use Rattle.batch_run.proofs.OneShard.{not_stalled}
 
 module _ {V : Type 0} (A : Algebra V) (undiffused : Bool) (how : Settings) (gate : ℕ → ℕ → Bool → Type 0) (g : GraphData) (asked : Asked) {X : Type 0} (old : Output X) where
   -- the right answers were written, whole
@@ -57,3 +65,25 @@ module _ {V : Type 0} (A : Algebra V) (undiffused : Bool) (how : Settings) (gate
         }),
         wrote_then old mid new begun (fault_text (number_of cause) 0) res first line,
       )
+
+-- With one shard, best first, a limit of turns that is enough for the graph stops no answer of a
+-- service.
+module _ {S V : Type 0} (meaning : S → Algebra V) (algebra : S) (how : Settings) (answers : ℕ → ℕ → Bool → Type 0) (working : 0 < how.budget)
+    (none : (rule : Dealing) (workers width budget limit turns : ℕ) → 0 < budget → width * turns ≤ limit → StopsGroup meaning (IsBrief algebra turns) rule workers width budget limit answers Stalled → ⊥) where
+  pub never_stalls : (g : GraphData) (asked : Asked) (undiffused : Bool) (cause : Cause) → MayStop undiffused (Stops meaning algebra g how answers) cause
+      → how.shards ≡ 1 → how.best_first ≡ true → IsEnoughFor how g → number_of cause ≢ 40
+  never_stalls g asked undiffused cause may one best enough =
+      not_stalled meaning algebra how answers (λ roads _. roads ≡ g) working none
+      (record { one = one; best_first = best; enough = λ roads _ same graph. subst (IsEnoughFor how) (sym same) enough })
+      (Err (fault_of cause)) (stopped_for meaning algebra g how answers undiffused cause may (λ roads _. roads ≡ g) asked refl)
+
+-- What may reply stays the same while a solver answers.
+module _ {S V : Type 0} {G : Ghosts S V} (A : Algebra V) (how : Settings) (gate : ℕ → ℕ → Bool → Type 0) (s t : Solver S V G) (same : IsSameSolver s t) where
+  pub stays : (P : (Asked → List ℕ → Type 0) → Type 0) → P (MayAnswerBy A how gate t) → P (MayAnswerBy A how gate s)
+  stays P h =
+      subst (λ (b : Bool). P (MayAnswerAs A b how gate (graph_of s))) same.kind
+      (subst (λ (g : GraphData). P (MayAnswerAs A (is_without_diffusions t) how gate g)) same.graph h)
+
+  -- it is the solver that the settings choose
+  pub stays_own : is_without_diffusions s ≡ without_diffusions how → (P : (Asked → List ℕ → Type 0) → Type 0) → P (MayAnswerBy A how gate t) → P (MayAnswer A how gate (graph_of s))
+  stays_own kind P h = subst (λ (b : Bool). P (MayAnswerAs A b how gate (graph_of s))) kind (stays P h)

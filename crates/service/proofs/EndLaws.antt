@@ -1,29 +1,19 @@
 -- A service at the end of its text.
-use Rattle.std.proofs.Common.{◌≡◌, ℕ, ◌+◌, min, true, false, List, [], ◌∷◌, ◌++◌, length, map, None, Option, Result, Ok, Err, refl, sym, ap, ◌∙◌, subst, append_assoc, append-nil, length-append, arith}
-use Rattle.std.specs.List.{All}
-use Rattle.std.specs.Result.{OnOk, OnErr}
+use Rattle.std.proofs.Common.{◌≡◌, ℕ, ◌+◌, min, true, false, List, [], ◌∷◌, ◌++◌, length, map, None, Result, Ok, Err, refl, sym, ap, ◌∙◌, subst, append_assoc, append-nil, length-append, arith, OnOk, OnErr}
 use Rattle.std.specs.Str.Lines.{strip_carriage_return}
 use Rattle.text_lines.specs.Cuts.{IsPresent, IsLine}
-use Rattle.text_lines.specs.Lines.{lines, has_bytes, is_line_end}
+use Rattle.text_lines.specs.Lines.{lines, has_bytes}
 use Rattle.text_lines.specs.Rules.{at_line, fault_at}
-use Rattle.text_lines.specs.Streams.{Output}
 use Rattle.text_lines.specs.Written.{WritesText}
-use Rattle.text_lines.proofs.TextLaws.{lines_last, lines_none}
 use Rattle.road_files.specs.Asked.{Asked}
 use Rattle.road_files.specs.RequestTakes.{parser_state, RequestSoFar}
-use Rattle.road_files.specs.ServiceText.{Request, ServiceState, Gives, LinesMay, service_end}
+use Rattle.text_lines.proofs.TextLaws.{lines_of_last, lines_of_none}
 use Rattle.service.specs.declared.service.Service.{Service}
+use Rattle.text_lines.specs.Streams.{Output}
+use Rattle.road_files.specs.ServiceText.{Request, ServiceState, Gives, LinesMay, service_end}
 use Rattle.service.specs.Fed.{held_line, fault_text, WasFed, HasLines, HasRequests, LineEnded, LastFed, LastFedPart, Finished, FinishedPart, Replied, RepliedOrFell}
 use Rattle.service.proofs.FedLaws.{replied_none, replied_one, replied_then, fell_before}
 use Rattle.service.proofs.ServiceLaws.{lines_may_then}
-
-last_of : (present : List ℕ) → has_bytes present ≡ true → All (λ b. is_line_end b ≡ false) present → lines false present ≡ strip_carriage_return present ∷ []
-last_of [] e h = cc
-last_of (b ∷ present) e h = lines_last b present h
-
-none_of : (present : List ℕ) → has_bytes present ≡ false → lines false present ≡ []
-none_of [] e = lines_none
-none_of (b ∷ present) e = cc
 
 -- the lines of the whole text
 all_lines : (t : Service) (fed : List ℕ) (rs : List Request) (h : WasFed t fed rs) → lines false fed ≡ lines true fed ++ lines false h.present
@@ -34,7 +24,7 @@ module _ (answers : Asked → List ℕ → Type 0) (t v u : Service) {X : Type 0
   pub no_last : u.cutter.taker.questions.list.vertices ≡ t.cutter.taker.questions.list.vertices → parser_state u.cutter.taker ≡ parser_state t.cutter.taker → u.line ≡ t.line
       → ((present : List ℕ) → IsPresent RequestSoFar t.cutter present → has_bytes present ≡ false) → LastFed answers t u old old
   no_last same state line none = λ fed rs h.
-      let all : lines false fed ≡ lines true fed = all_lines t fed rs h ∙ ap (λ ls. lines true fed ++ ls) (none_of h.present (none h.present h.held)) ∙ append-nil (lines true fed) in
+      let all : lines false fed ≡ lines true fed = all_lines t fed rs h ∙ ap (λ ls. lines true fed ++ ls) (lines_of_none h.present (none h.present h.held)) ∙ append-nil (lines true fed) in
       ([], record { made = rw (same, all, state, append-nil rs) h.made; line = line ∙ h.line ∙ ap (λ (ls : List (List ℕ)). held_line (1 + length ls)) (sym all) }, replied_none answers old)
 
   -- the last line
@@ -49,7 +39,7 @@ module _ (answers : Asked → List ℕ → Type 0) (t v u : Service) {X : Type 0
         let (some, here) = last h.present h.held in
         let (step, may, next, _, replied) = did at l (line ∙ h.line) here in
         let more : List Request = map (at_line at) step.ended in
-        let all : lines false fed ≡ lines true fed ++ l ∷ [] = all_lines t fed rs h ∙ ap (λ ls. lines true fed ++ ls) (last_of h.present some h.held.whole) in
+        let all : lines false fed ≡ lines true fed ++ l ∷ [] = all_lines t fed rs h ∙ ap (λ ls. lines true fed ++ ls) (lines_of_last h.present some h.held.whole) in
         let count : length (lines false fed) ≡ length (lines true fed) + 1 = ap length all ∙ length-append (lines true fed) (l ∷ []) in (
           more,
           record {

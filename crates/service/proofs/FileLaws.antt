@@ -1,23 +1,19 @@
 -- Question files in a row are as many requests.
-use Rattle.std.proofs.Common.{◌≡◌, ℕ, ◌+◌, Bool, true, false, cond, not, nat_lt, ◌==◌, List, [], ◌∷◌, ◌++◌, length, map, take, drop, flat_map, refl, ap, ◌∙◌, sym, subst, append-nil, None, Some, Option, Result, Ok, Err, arith}
-use Rattle.std.specs.Prelude.{codes, bytes_eq, slice_index}
+use Rattle.std.proofs.Common.{◌≡◌, ℕ, ◌+◌, Bool, true, false, cond, not, nat_lt, ◌==◌, List, [], ◌∷◌, ◌++◌, length, map, take, drop, flat_map, refl, ap, ◌∙◌, sym, subst, append-nil, None, Some, Option, Result, Ok, Err, arith, codes, bytes_eq, slice_index, ne_eqb}
 use Rattle.std.specs.List.{AllZip}
-use Rattle.std.proofs.lemmas.Bool.{ne_eqb}
-use Rattle.std.proofs.lemmas.Slice.Eq.{bytes_eq-Decides}
 use Rattle.text_lines.specs.Lines.{lines, fields}
 use Rattle.text_lines.specs.Rules.{Rules, at_line, value_of_lines, text_read, unless, ◌>>=◌}
-use Rattle.text_lines.specs.Words.{Word, word_of, word_at}
-use Rattle.text_lines.proofs.TextLaws.{lines_none, lines_cut}
 use Rattle.road_files.specs.Asked.{Asked, Question}
+use Rattle.text_lines.proofs.TextLaws.{lines_none, lines_cut}
+use Rattle.std.proofs.lemmas.Slice.Eq.{bytes_eq-Decides}
+use Rattle.text_lines.specs.declared.faults.ReadFault.{ReadFault}
+use Rattle.text_lines.specs.Words.{Word, word_of, word_at}
 use Rattle.road_files.specs.declared.questions.Kind.{Kind}
 use Rattle.road_files.specs.declared.questions.Kind.TheVariants.{Sources, Pairs, Multi}
 use Rattle.road_files.specs.QuestionFiles.{AskedSoFar, question_rules, question_end, question_line, question_line_of, question_problem, source_of_line, pair_of_line, sources_of_line, one_question, same_kind, begins_list, vertices_in}
 use Rattle.road_files.specs.ServiceText.{Request, requests, requests_of, state_after_lines, ServiceState, Gives, begins_request, given, whole_or_on}
 use Rattle.service.specs.Files.{IsFileOf}
 use Rattle.service.proofs.RequestLaws.{requests_go_on, line_closed}
-
-is_word : (f w : List ℕ) → bytes_eq f w ≡ true → f ≡ w
-is_word f w h = (bytes_eq-Decides f w).0 h
 
 problem_word : (n : ℕ) (q : AskedSoFar) (fs : List (List ℕ)) → question_line n None (Some q) (map word_of (codes "p" ∷ fs)) ≡ Err 11
 unfolding question_line_of question_problem
@@ -26,7 +22,7 @@ problem_word n q fs = rw (ne_eqb (length (map word_of (codes "p" ∷ fs))) 0 (λ
 -- a second problem line is fault 11
 second_problem : (n : ℕ) (q : AskedSoFar) (fs : List (List ℕ)) → begins_request fs ≡ true → question_line n None (Some q) (map word_of fs) ≡ Err 11
 second_problem n q [] h = cc
-second_problem n q (f ∷ fs) h = subst (λ w. question_line n None (Some q) (map word_of (w ∷ fs)) ≡ Err 11) (sym (is_word f (codes "p") h)) (problem_word n q fs)
+second_problem n q (f ∷ fs) h = subst (λ w. question_line n None (Some q) (map word_of (w ∷ fs)) ≡ Err 11) (sym ((bytes_eq-Decides f (codes "p")).0 h)) (problem_word n q fs)
 
 -- a request that is whole takes blank lines and comments alone, which change nothing between
 -- requests
@@ -82,6 +78,11 @@ full_end (Some q) a h = (q, refl, by_count (record { kind = q.kind; questions = 
 abbrev Makes : ℕ → ℕ → ServiceState → List (List ℕ) → List Request → Type 0
 Makes n at state ls rs = (requests_of true n at state ls ≡ rs) × (state_after_lines n state ls ≡ Gives None)
 
+-- lines that have a value go on after the first
+line_taken : {S V : Type 0} (at : ℕ) (r : Result S ℕ) (f : S → Result V ReadFault) (v : V) → (at_line at r >>= f) ≡ Ok v → (s : S) × (r ≡ Ok s) × (f s ≡ Ok v)
+line_taken at (Ok s) f v h = (s, refl, h)
+line_taken at (Err e) f v h = cc
+
 -- after the last line of a request that is a file
 rest_of_file : (n at k : ℕ) (q : AskedSoFar) (a b : Asked) (ls : List (List ℕ)) → nat_lt (length q.questions) q.announced ≡ false → question_end (Some q) ≡ Ok b
     → value_of_lines false (question_rules n None) at (Some q) ls ≡ Ok a → (a ≡ b) × Makes n k (Gives None) ls []
@@ -89,15 +90,10 @@ rest_of_file n at k q a b [] full whole h = (rest_end h, (refl, refl))
   where
     rest_end : at_line at (question_end (Some q)) ≡ Ok a → a ≡ b
     rest_end g = let e = rw whole at g in cc
-rest_of_file n at k q a b (l ∷ ls) full whole h = by_line (question_line n None (Some q) (map word_of (fields l))) refl (λ g. rest_of_file n (at + 1) (k + 1) q a b ls full whole g) h
-  where
-    by_line : (r : Result (Option AskedSoFar) ℕ) → question_line n None (Some q) (map word_of (fields l)) ≡ r
-        → (value_of_lines false (question_rules n None) (at + 1) (Some q) ls ≡ Ok a → (a ≡ b) × Makes n (k + 1) (Gives None) ls [])
-        → (at_line at r >>= λ t. value_of_lines false (question_rules n None) (at + 1) t ls) ≡ Ok a → (a ≡ b) × Makes n k (Gives None) (l ∷ ls) []
-    by_line (Err e) f next g = cc
-    by_line (Ok u) f next g =
-        let (same, blank) = full_line n q u (map word_of (fields l)) full f in
-        rw blank (next (subst (λ t. value_of_lines false (question_rules n None) (at + 1) t ls ≡ Ok a) same g))
+rest_of_file n at k q a b (l ∷ ls) full whole h =
+    let (u, f, g) = line_taken at (question_line n None (Some q) (map word_of (fields l))) (λ t. value_of_lines false (question_rules n None) (at + 1) t ls) a h in
+    let (same, blank) = full_line n q u (map word_of (fields l)) full f in
+    rw blank (rest_of_file n (at + 1) (k + 1) q a b ls full whole (subst (λ t. value_of_lines false (question_rules n None) (at + 1) t ls ≡ Ok a) same g))
 
 -- a request that goes on, or none yet
 abbrev IsOpen : Option AskedSoFar → Type 0
@@ -143,11 +139,8 @@ file_of n at k s a (l ∷ ls) going h = by_state s (λ t o g. file_of n (at + 1)
 -- a text that is cut short has no value
 never_cut : {S V : Type 0} (rules : Rules S V) (at : ℕ) (s : S) (ls : List (List ℕ)) (v : V) → value_of_lines true rules at s ls ≡ Ok v → ⊥
 never_cut rules at s [] v h = cc
-never_cut {S = S} {V = V} rules at s (l ∷ ls) v h = by_line (rules.line s (fields l)) (λ t g. never_cut rules (at + 1) t ls v g) h
-  where
-    by_line : (r : Result S ℕ) → ((t : S) → value_of_lines true rules (at + 1) t ls ≡ Ok v → ⊥) → (at_line at r >>= λ t. value_of_lines true rules (at + 1) t ls) ≡ Ok v → ⊥
-    by_line (Ok t) next g = next t g
-    by_line (Err e) next g = cc
+never_cut rules at s (l ∷ ls) v h =
+    let (t, _, g) = line_taken at (rules.line s (fields l)) (λ t. value_of_lines true rules (at + 1) t ls) v h in never_cut rules (at + 1) t ls v g
 
 value_of_file : (n : ℕ) (file : List ℕ) (a : Asked) → text_read (question_rules n None) file ≡ Ok a → value_of_lines false (question_rules n None) 1 None (lines false file) ≡ Ok a
 value_of_file n file a h = by_length (nat_lt 4294967296 (length file)) h

@@ -5,10 +5,7 @@ mod FedLaws
 mod ServiceLaws
 mod EndLaws
 mod ServeLaws
-mod ReadLaws
 mod Pieces
 mod AnswerLaws
-mod OneShard
 mod OverLaws
 mod RunLaws
-mod Staying

@@ -3,36 +3,20 @@ use Rattle.std.proofs.Common.{◌≡◌, ◌≢◌, inl, inr, Bool, true, ℕ, �
 use Rattle.std.specs.Io.KnownBytes.{IsAtEnd}
 use Rattle.road_graph.specs.GraphData.{GraphData}
 use Rattle.path_algebra.specs.Algebra.{Algebra}
-use Rattle.batch_inputs.specs.declared.faults.File.TheVariants.{Questions, NoFile}
 use Rattle.batch_inputs.specs.declared.faults.RunFault.{RunFault}
 use Rattle.batch_settings.specs.declared.settings.Settings.{Settings}
-use Rattle.text_lines.specs.Streams.{Input, Output}
 use Rattle.service.specs.declared.serving.Stopped.{Stopped}
+use Rattle.service.specs.Over.{RanOver, fault_of_stop}
+use Rattle.batch_inputs.specs.declared.faults.File.TheVariants.{Questions, NoFile}
+use Rattle.text_lines.specs.Streams.{Input, Output}
 use Rattle.service.specs.declared.serving.Stopped.TheVariants.{Read, Write, TooLong}
 use Rattle.service.specs.Fed.{Served, ServedSoFar, ServedToLimit, ServedPart}
 use Rattle.service.specs.Answering.{MayAnswer}
-use Rattle.service.specs.Over.{RanOver, fault_of_stop}
 
 -- an outcome is no other
-no_fault : (r : Result (Unit {0}) RunFault) (f : RunFault) → r ≡ Ok tt → r ≡ Err f → ⊥
-no_fault r f p q = cc
-
 other_number : (r : Result (Unit {0}) RunFault) (f h : RunFault) → f.number ≢ h.number → r ≡ Err f → r ≡ Err h → ⊥
 other_number r f h ne p q =
     let same : f ≡ h = cc in ne (ap (λ (x : RunFault). x.number) same)
-
--- nor is a reason to stop
-read_no_write : (r : Result (Unit {0}) Stopped) → r ≡ Err Read → r ≡ Err Write → ⊥
-read_no_write r p e = cc
-
-long_no_write : (r : Result (Unit {0}) Stopped) → r ≡ Err TooLong → r ≡ Err Write → ⊥
-long_no_write r p e = cc
-
-long_no_read : (r : Result (Unit {0}) Stopped) → r ≡ Err TooLong → r ≡ Err Read → ⊥
-long_no_read r p e = cc
-
-write_no_read : (r : Result (Unit {0}) Stopped) → r ≡ Err Write → r ≡ Err Read → ⊥
-write_no_read r p e = cc
 
 module _ {V Q W : Type 0} (A : Algebra V) (how : Settings) (gate : ℕ → ℕ → Bool → Type 0) (g : GraphData) (input input_after : Input Q) (out out_after : Output W) where
   -- all requests were replied to
@@ -47,7 +31,7 @@ module _ {V Q W : Type 0} (A : Algebra V) (how : Settings) (gate : ℕ → ℕ �
     too_long = tt;
     nothing_held = tt;
     fell = tt;
-    read_input = (λ e. absurd (no_fault _ _ refl e), λ lost. absurd (lost sound));
+    read_input = (λ e. absurd (cc), λ lost. absurd (lost sound));
     kinds = tt;
     unfactored = tt;
   }
@@ -82,7 +66,7 @@ module _ {V Q W : Type 0} (A : Algebra V) (how : Settings) (gate : ℕ → ℕ �
     ends = tt;
     stopped = λ file one. (read is).0;
     too_long = λ file two. absurd (omega (arith, two));
-    nothing_held = λ file. held (read_no_write r is);
+    nothing_held = λ file. held (λ e. cc);
     fell = λ write. absurd (omega (arith, write));
     read_input = (λ e. λ same. omega (arith, same, (read is).1), λ lost. refl);
     kinds = inl (refl, (inl refl, refl));
@@ -95,9 +79,9 @@ module _ {V Q W : Type 0} (A : Algebra V) (how : Settings) (gate : ℕ → ℕ �
     ends = tt;
     stopped = λ file one. absurd (omega (arith, one));
     too_long = λ file two. long is;
-    nothing_held = λ file. held (long_no_write r is);
+    nothing_held = λ file. held (λ e. cc);
     fell = λ write. absurd (omega (arith, write));
-    read_input = (λ e. absurd (other_number _ _ _ (λ n. omega (arith, n)) refl e), λ lost. absurd (lost (sound (long_no_read r is))));
+    read_input = (λ e. absurd (other_number _ _ _ (λ n. omega (arith, n)) refl e), λ lost. absurd (lost (sound (λ e. cc))));
     kinds = inl (refl, (inr refl, refl));
     unfactored = λ file three. absurd (omega (arith, three));
   }
@@ -110,7 +94,7 @@ module _ {V Q W : Type 0} (A : Algebra V) (how : Settings) (gate : ℕ → ℕ �
     too_long = λ file two. absurd (omega (arith, two));
     nothing_held = λ file. absurd (let bad : NoFile ≡ Questions = file in cc);
     fell = λ _. write is;
-    read_input = (λ e. absurd (other_number _ _ _ (λ n. omega (arith, n)) refl e), λ lost. absurd (lost (sound (write_no_read r is))));
+    read_input = (λ e. absurd (other_number _ _ _ (λ n. omega (arith, n)) refl e), λ lost. absurd (lost (sound (λ e. cc))));
     kinds = inr (refl, refl, inr refl);
     unfactored = λ file three. absurd (omega (arith, three));
   }

@@ -1,22 +1,22 @@
 -- What a service promises of its inputs and its output, from what reading and serving promise.
 use Rattle.std.proofs.Common.{◌≡◌, ◌≢◌, ◌⊎◌, ◌↔◌, inl, inr, Bool, true, false, ℕ, ◌≤◌, Option, None, Some, Result, Ok, Err, refl, sym, ap, ◌∙◌, subst, arith}
 use Rattle.road_graph.specs.GraphData.{GraphData}
-use Rattle.graph_text.specs.GraphFiles.{gr_rules}
 use Rattle.path_algebra.specs.Algebra.{Algebra}
-use Rattle.path_algebra.specs.declared.counted_sums.Cost.{Cost}
-use Rattle.batch_inputs.specs.declared.faults.File.{File}
-use Rattle.batch_inputs.specs.declared.faults.File.TheVariants.{Graph, Questions, Order, NoFile}
 use Rattle.batch_inputs.specs.declared.faults.RunFault.{RunFault}
 use Rattle.batch_settings.specs.declared.settings.Settings.{Settings}
-use Rattle.batch_inputs.specs.Orders.{HasOrderFaultIn, IsOrderedFile}
+use Rattle.service.specs.Over.{IsOverFault, RanOver}
+use Rattle.graph_text.specs.GraphFiles.{gr_rules}
+use Rattle.batch_inputs.specs.declared.faults.File.{File}
+use Rattle.batch_inputs.specs.declared.faults.File.TheVariants.{Graph, Questions, Order, NoFile}
 use Rattle.batch_inputs.specs.Spelled.{IsReadAs}
+use Rattle.path_algebra.specs.declared.counted_sums.Cost.{Cost}
+use Rattle.batch_inputs.specs.Orders.{HasOrderFaultIn, IsOrderedFile}
 use Rattle.batch_inputs.specs.InputFaults.{IsNumberOf, IsOrderNumber, IsRoadNumber}
 use Rattle.batch_settings.specs.Unsuited.{IsUnsuited}
 use Rattle.batch_run.specs.Unsuited.{IsRefusedUnsuited}
 use Rattle.batch_run.proofs.Suiting.{suited_by, suited_whole}
 use Rattle.batch_run.specs.Runs.{Input, Output}
 use Rattle.service.specs.GraphInput.{HasReadGraph, HasReadGraphOrdered, IsGraphFile, IsServingFile, graph_later}
-use Rattle.service.specs.Over.{IsOverFault, RanOver}
 use Rattle.service.specs.Served.{IsStopOfInput, RanService}
 
 -- one outcome is one fault

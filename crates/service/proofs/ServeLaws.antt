@@ -1,18 +1,18 @@
--- A service that goes on through its input.
-use Rattle.std.proofs.Common.{◌≡◌, ℕ, ◌+◌, true, List, [], ◌++◌, Option, None, Some, refl, sym, ap, ◌∙◌, subst, append_assoc, append-nil, inl, inr, arith}
+-- A service that goes on through its input, and a watcher that is told of its reads.
+use Rattle.std.proofs.Common.{◌≡◌, ℕ, ◌+◌, true, List, [], ◌++◌, Option, None, Some, refl, sym, ap, ◌∙◌, subst, append_assoc, append-nil, inl, inr, arith, ◌∷◌, length, length-append}
 use Rattle.std.specs.Io.KnownBytes.{Consumes, IsAtEnd, Keeps, Appends}
-use Rattle.std.proofs.KnownBytes.{Consumes-nil, Consumes-trans, Consumes-whole, Appends-nil}
-use Rattle.text_lines.specs.Streams.{Output}
 use Rattle.road_files.specs.Asked.{Asked}
-use Rattle.road_files.specs.ServiceText.{Request}
+use Rattle.text_lines.specs.Lines.{lines}
+use Rattle.road_files.specs.RequestTakes.{parser_state}
 use Rattle.service.specs.declared.service.Service.{Service}
+use Rattle.text_lines.proofs.TextLaws.{lines_cut}
+use Rattle.std.proofs.KnownBytes.{Consumes-kept, Consumes-nil, Consumes-trans, Consumes-whole, Appends-nil}
+use Rattle.text_lines.specs.Streams.{Output, Input}
+use Rattle.road_files.specs.ServiceText.{Request, Gives, LinesMay}
 use Rattle.service.specs.Fed.{WasFed, IsUnfinished, HasRequests, MakesWhole, BeginsWith, Fed, FedPart, FedLong, Finished, FinishedPart, HasServed, Served, ServedSoFar, ServedToLimit, ServedPart, Replied, FellIn}
 use Rattle.service.proofs.FedLaws.{replied_then}
 use Rattle.service.proofs.ServiceLaws.{Done, Failed}
-use Rattle.text_lines.specs.Lines.{lines}
-use Rattle.text_lines.proofs.TextLaws.{lines_cut}
-use Rattle.road_files.specs.RequestTakes.{parser_state}
-use Rattle.road_files.specs.ServiceText.{Gives, LinesMay}
+use Rattle.service.specs.Reading.{ReadMoment, IsReadMoment, AreReadMoments, FollowsReads, ToldReads}
 
 kept_first : (a b c : Option (List ℕ)) (x : List ℕ) → Keeps a b → Appends b c x → Appends a c x
 kept_first None b c x k p = tt
@@ -61,13 +61,6 @@ module _ (answers : Asked → List ℕ → Type 0) where
       begins_less left (fed ++ prefix) rest (subst (BeginsWith left) (ap (λ x. fed ++ x) e ∙ sym (append_assoc fed prefix rest))
       (begins left now (fed ++ piece) (Consumes-trans left mid now fed piece g h)))
 
-  -- what a read that failed left is still there
-  consumes_kept : (left mid now : Option (List ℕ)) (text : List ℕ) → Consumes left mid text → Keeps mid now → Consumes left now text
-  consumes_kept None mid now text g k = tt
-  consumes_kept (Some all) None now text g k = absurd g
-  consumes_kept (Some all) (Some rest) None text g k = absurd k
-  consumes_kept (Some all) (Some rest) (Some same) text g k = g ∙ ap (λ y. text ++ y) (sym k)
-
   replied_kept : (rs : List Request) {X : Type 0} (first old new : Output X) → Keeps first.written old.written → old.failures ≡ first.failures → Replied answers rs old new → Replied answers rs first new
   replied_kept rs first old new kept sound r = record { texts = r.texts; right = r.right; bytes = kept_first first.written old.written new.written _ kept r.bytes; sound = r.sound ∙ sound }
 
@@ -98,7 +91,7 @@ module _ (answers : Asked → List ℕ → Type 0) where
 
     -- a read failed
     pub read_failed : Keeps mid now → ServedSoFar answers n left now first was
-    read_failed stays = let (fed, rs, gone, all, replied) = so_far in (fed, rs, consumes_kept left mid now fed gone stays, all, replied)
+    read_failed stays = let (fed, rs, gone, all, replied) = so_far in (fed, rs, Consumes-kept left mid now fed gone stays, all, replied)
 
     -- a write failed in the replies to what a piece makes whole
     pub feed_fell : (t : Service) (piece : List ℕ) → t.cutter.taker.questions.list.vertices ≡ n → Consumes mid now piece → FedPart answers s t piece was new →
@@ -162,3 +155,39 @@ module _ (answers : Asked → List ℕ → Type 0) where
       wrote = record { prefix = []; rest = []; text_is = refl; bytes = kept_first first.written new.written new.written [] kept (Appends-nil new.written); failed = failed };
     },
   )
+
+-- A watcher that is told of one read after another.
+module _ {S Q W : Type 0} (answers : Asked → List ℕ → Type 0) (n : ℕ) (may_become : S → Input Q → Output W → S → Type 0) (input : Input Q) (out : Output W) where
+  -- nothing was read yet
+  pub told_none : (watcher : S) → ToldReads answers n may_become watcher watcher input input out
+  told_none watcher = record { moments = []; are_moments = tt; told = refl; each = omega arith }
+
+  -- one more moment
+  moments_then : (reads : ℕ) (ms : List (ReadMoment Q W)) (m : ReadMoment Q W) → AreReadMoments answers n input out reads ms → IsReadMoment answers n input out (reads + length ms) m
+      → AreReadMoments answers n input out reads (ms ++ m ∷ [])
+  moments_then reads [] m before one = (subst (λ k. IsReadMoment answers n input out k m) (omega arith) one, tt)
+  moments_then reads (x ∷ ms) m before one = (before.0, moments_then (reads + 1) ms m before.1 (subst (λ k. IsReadMoment answers n input out k m) (omega arith) one))
+
+  follows_then : (ms : List (ReadMoment Q W)) (m : ReadMoment Q W) (old mid new : S) → FollowsReads may_become old ms mid → may_become mid m.input m.out new
+      → FollowsReads may_become old (ms ++ m ∷ []) new
+  follows_then [] m old mid new same one = (new, subst (λ s. may_become s m.input m.out new) same one, refl)
+  follows_then (x ∷ ms) m old mid new (next, first, rest) one = (next, first, follows_then ms m next mid new rest one)
+
+  -- one more read, before which the watcher was told
+  pub told_then : (old mid new : S) (now after : Input Q) (shown : Output W) → ToldReads answers n may_become old mid input now out → ServedSoFar answers n input.left now.left out shown
+      → shown.held ≡ [] → may_become mid now shown new → after.asked ≡ now.asked + 1 → ToldReads answers n may_become old new input after out
+  told_then old mid new now after shown before served held one counted =
+      let m : ReadMoment Q W = record { input = now; out = shown } in
+      record {
+        moments = before.moments ++ m ∷ [];
+        are_moments = moments_then 0 before.moments m before.are_moments (record { asked = omega (arith, before.each); served = served; passed_on = held });
+        told = follows_then before.moments m old mid new before.told one;
+        each = omega (arith, counted, before.each, length-append before.moments (m ∷ []));
+      }
+
+  -- so it is of a service that serves its input
+  pub told_served : (s : Service) (old mid new : S) (now after : Input Q) (flushed was : Output W) → s.cutter.taker.questions.list.vertices ≡ n → HasServed answers s input.left now.left flushed was
+      → Keeps out.written flushed.written → flushed.failures ≡ out.failures → was.held ≡ [] → ToldReads answers n may_become old mid input now out → may_become mid now was new
+      → after.asked ≡ now.asked + 1 → ToldReads answers n may_become old new input after out
+  told_served s old mid new now after flushed was same served kept sound held before one counted =
+      told_then old mid new now after was before (so_far answers s n input.left now.left now.left out flushed was was same served kept sound) held one counted

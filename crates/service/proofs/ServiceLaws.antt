@@ -1,26 +1,23 @@
 -- A service that goes on through its text.
-use Rattle.std.proofs.Common.{◌≡◌, ℕ, ◌+◌, min, Bool, true, false, cond, not, drop, List, [], ◌∷◌, ◌++◌, length, take, map, None, Option, Result, Ok, Err, refl, sym, ap, ◌∙◌, subst, append_assoc, append-nil, length-append, take-append-drop, length-drop, ◌<◌, inl, inr, arith}
+use Rattle.std.proofs.Common.{◌≡◌, ℕ, ◌+◌, min, Bool, true, false, cond, not, drop, List, [], ◌∷◌, ◌++◌, length, take, map, None, Result, Ok, Err, refl, sym, ap, ◌∙◌, subst, append_assoc, append-nil, length-append, take-append-drop, length-drop, ◌<◌, inl, inr, arith}
 use Rattle.std.specs.Str.Lines.{strip_carriage_return}
-use Rattle.std.proofs.lemmas.List.{append_cancel_left}
 use Rattle.text_lines.specs.Cuts.{IsPresent, IsLine, EndsLine, StaysInLine}
 use Rattle.text_lines.specs.Lines.{lines, fields}
 use Rattle.text_lines.specs.Rules.{at_line}
-use Rattle.text_lines.proofs.TextLaws.{lines_first, lines_cut}
-use Rattle.text_lines.specs.Streams.{Output}
 use Rattle.road_files.specs.Asked.{Asked}
-use Rattle.road_files.specs.declared.request_parser.LineDone.{LineDone}
 use Rattle.road_files.specs.RequestTakes.{parser_state, RequestSoFar, ended_of, ended_list}
-use Rattle.road_files.specs.ServiceText.{Request, ServiceState, Gives, Step, LineMay, LinesMay}
+use Rattle.text_lines.proofs.TextLaws.{lines_first, lines_cut}
 use Rattle.service.specs.declared.service.Service.{Service}
+use Rattle.std.proofs.lemmas.Bool.{not-false}
+use Rattle.std.proofs.lemmas.List.{append_cancel_left}
+use Rattle.text_lines.specs.Streams.{Output}
+use Rattle.road_files.specs.declared.request_parser.LineDone.{LineDone}
+use Rattle.road_files.specs.ServiceText.{Request, ServiceState, Gives, Step, LineMay, LinesMay}
 use Rattle.service.specs.Fed.{held_line, WasFed, IsUnfinished, goes_on, counts_anew, LinesGoOn, LineEnded, Fed, FedPart, FedLong, RepliedOrFell}
 use Rattle.service.proofs.FedLaws.{replied_none, replied_then}
 
-not_late : {A : Type 0} (b : Bool) (x y : A) → not b ≡ false → cond b x y ≡ x
-not_late true x y h = refl
-not_late false x y h = cc
-
 pub ended_early : (d : LineDone) → not d.early ≡ false → ended_of d ≡ Err 19 ∷ ended_list d.ended
-ended_early d h = not_late d.early (Err 19 ∷ ended_list d.ended) (ended_list d.ended) h
+ended_early d h = ap (λ (b : Bool). cond b (Err 19 ∷ ended_list d.ended) (ended_list d.ended)) (not-false d.early h)
 
 -- lines after lines
 pub lines_may_then : (n at : ℕ) (s m t : ServiceState) (ls ms : List (List ℕ)) (rs qs : List Request) → LinesMay n at s ls rs m → LinesMay n (at + length ls) m ms qs t →
@@ -75,12 +72,8 @@ lines_go_on_then : (n : ℕ) (s m t : ServiceState) (ls : List (List ℕ)) (l : 
 lines_go_on_then n s m t [] l e goes may = (t, goes, subst (λ x. LineMay n x (fields l) (record { ended = []; next = t })) e may, refl)
 lines_go_on_then n s m t (k ∷ ls) l (mid, on, did, rest) goes may = (mid, on, did, lines_go_on_then n mid m t ls l rest goes may)
 
-going : (b : Bool) → not b ≡ false → b ≡ true
-going true h = refl
-going false h = cc
-
 goes_further : (ended : List (Result Asked ℕ)) (next : ServiceState) → counts_anew ended next ≡ false → (ended ≡ []) × (goes_on next ≡ true)
-goes_further [] next h = (refl, going (goes_on next) h)
+goes_further [] next h = (refl, not-false (goes_on next) h)
 goes_further (e ∷ es) next h = cc
 
 -- after a line

@@ -1,9 +1,9 @@
 use Rattle.std.proofs.Common.{Ok, Err, ap}
 use Rattle.text_lines.specs.Rules.{fault_at}
 use Rattle.road_files.specs.Asked.{asked_of}
+use Rattle.service.specs.Giving.{MayGive}
 use Rattle.service.specs.Fed.{fault_text}
 use Rattle.service.proofs.FedLaws.{replied_one}
-use Rattle.service.specs.Giving.{MayGive}
 use Rattle.service.proofs.replies.send_end.Goals as goal
 
 pub returns-in-Some-Fault-clause-replied : goal.returns-in-Some-Fault-clause-replied

@@ -6,7 +6,7 @@ use Rattle.service.specs.declared.serving.Stopped.{Stopped}
 use Rattle.service.specs.Over.{RanOver, fault_of_stop}
 use Rattle.service.specs.Answering.{MayAnswer}
 use Rattle.service.specs.Reading.{ToldReads}
-use Rattle.service.proofs.ReadLaws.{told_none}
+use Rattle.service.proofs.ServeLaws.{told_none}
 use Rattle.service.proofs.OverLaws.{all_served, stopped, unfactored}
 use Rattle.service.proofs.run.serve_over.Goals as goal
 

@@ -2,12 +2,11 @@ use Rattle.std.proofs.Common.{◌<◌, ℕ, List, [], take, length, rules, Err, 
 use Rattle.std.specs.Io.KnownBytes.{Consumes}
 use Rattle.road_files.specs.Asked.{Asked}
 use Rattle.batch_run.specs.Solvers.{graph_of}
-use Rattle.service.specs.Fed.{Fed, FedPart, FedLong, Finished, FinishedPart}
-use Rattle.service.proofs.Staying.{stays_own}
-use Rattle.service.specs.declared.feeding.Unfed.{Unfed}
-use Rattle.service.proofs.ServeLaws.{served_more, served_all, read_failed, feed_fell, feed_long, end_fell, flush_fell}
 use Rattle.service.specs.Giving.{MayGiveOver}
-use Rattle.service.proofs.ReadLaws.{told_none, told_served}
+use Rattle.service.specs.Fed.{Fed, FedPart, FedLong, Finished, FinishedPart}
+use Rattle.service.proofs.AnswerLaws.{stays_own}
+use Rattle.service.specs.declared.feeding.Unfed.{Unfed}
+use Rattle.service.proofs.ServeLaws.{served_more, served_all, read_failed, feed_fell, feed_long, end_fell, flush_fell, told_none, told_served}
 use Rattle.service.proofs.serving.serve.Goals as goal
 
 pub returns-in-Ok-finish-clause-served : goal.returns-in-Ok-finish-clause-served
@@ -16,9 +15,7 @@ returns-in-Ok-finish-clause-served g c =
     let nothing : Consumes (g.I.RoadRead.seen c.loop.input).left (g.I.RoadRead.seen c.read_piece.new.input).left [] =
     subst (λ k. Consumes (g.I.RoadRead.seen c.loop.input).left (g.I.RoadRead.seen c.read_piece.new.input).left (take k buffer)) c.in-Ok-eq0.field-0-test c.in-Ok-eq0.ensures.bytes.0 in
     let room : 0 < length buffer = search rules in
-    served_all (MayGiveOver g.A.PathAlgebra.meaning g.T.Gate.may_answer c.args.answers.now (graph_of c.args.solver.now)) c.loop.service (graph_of c.args.solver.now).vertices (g.I.RoadRead.seen c.args.input.now).left
-    (g.I.RoadRead.seen c.loop.input).left (g.I.RoadRead.seen c.read_piece.new.input).left
-    (g.W.RoadWrite.seen c.args.out.now) (g.W.RoadWrite.seen c.flush.new.self) (g.W.RoadWrite.seen c.loop.out) (g.W.RoadWrite.seen c.finish.new.out)
+    served_all _ c.loop.service _ _ _ _ (g.W.RoadWrite.seen c.args.out.now) (g.W.RoadWrite.seen c.flush.new.self) (g.W.RoadWrite.seen c.loop.out) (g.W.RoadWrite.seen c.finish.new.out)
     c.loop.invariant.vertices c.loop.invariant.served nothing (c.in-Ok-eq0.ensures.bytes.1 c.in-Ok-eq0.field-0-test room) c.flush.ensures.bytes c.in-Ok.ensures.sound (stays_own (g.A.PathAlgebra.meaning c.args.answers.now.algebra) c.args.answers.now.run.now.settings.now (g.T.Gate.may_answer c.args.answers.now.run.now.gate.now) c.args.solver.now c.loop.solver c.loop.invariant.same c.requires.kind
     (λ (may : Asked → List ℕ → Type 0). Finished may c.loop.service (g.W.RoadWrite.seen c.loop.out) (g.W.RoadWrite.seen c.finish.new.out)) c.in-Ok-finish.ensures.finished)
 
@@ -26,9 +23,7 @@ pub loop-preserved : goal.loop-preserved
 loop-preserved g c = record {
   can = tt;
   finite = tt;
-  served = served_more (MayGiveOver g.A.PathAlgebra.meaning g.T.Gate.may_answer c.args.answers.now (graph_of c.args.solver.now)) c.loop.service c.feed.new.self (take c.in-Ok-read_piece.n c.read_piece.new.buffer)
-      (g.I.RoadRead.seen c.args.input.now).left (g.I.RoadRead.seen c.loop.input).left (g.I.RoadRead.seen c.read_piece.new.input).left
-      (g.W.RoadWrite.seen c.flush.new.self) (g.W.RoadWrite.seen c.loop.out) (g.W.RoadWrite.seen c.feed.new.out)
+  served = served_more _ c.loop.service c.feed.new.self (take c.in-Ok-read_piece.n c.read_piece.new.buffer) _ _ _ (g.W.RoadWrite.seen c.flush.new.self) (g.W.RoadWrite.seen c.loop.out) (g.W.RoadWrite.seen c.feed.new.out)
       c.loop.invariant.served c.in-Ok-read_piece.ensures.bytes.0 (stays_own (g.A.PathAlgebra.meaning c.args.answers.now.algebra) c.args.answers.now.run.now.settings.now (g.T.Gate.may_answer c.args.answers.now.run.now.gate.now) c.args.solver.now c.loop.solver c.loop.invariant.same c.requires.kind
       (λ (may : Asked → List ℕ → Type 0). Fed may c.loop.service c.feed.new.self (take c.in-Ok-read_piece.n c.read_piece.new.buffer) (g.W.RoadWrite.seen c.loop.out) (g.W.RoadWrite.seen c.feed.new.out)) c.in-Ok-feed.ensures.fed);
   held = c.in-Ok-feed.ensures.passed_on (λ e. cc) c.loop.invariant.held;
@@ -45,25 +40,20 @@ returns-in-Err-clause-write g c = λ is. flush_fell (MayGiveOver g.A.PathAlgebra
 
 pub returns-in-Err-read_piece-clause-read : goal.returns-in-Err-read_piece-clause-read
 returns-in-Err-read_piece-clause-read g c = λ is. (
-  read_failed (MayGiveOver g.A.PathAlgebra.meaning g.T.Gate.may_answer c.args.answers.now (graph_of c.args.solver.now)) c.loop.service (graph_of c.args.solver.now).vertices (g.I.RoadRead.seen c.args.input.now).left
-      (g.I.RoadRead.seen c.loop.input).left (g.I.RoadRead.seen c.read_piece.new.input).left
-      (g.W.RoadWrite.seen c.args.out.now) (g.W.RoadWrite.seen c.flush.new.self) (g.W.RoadWrite.seen c.loop.out) (g.W.RoadWrite.seen c.loop.out)
+  read_failed _ c.loop.service _ _ _ _ (g.W.RoadWrite.seen c.args.out.now) (g.W.RoadWrite.seen c.flush.new.self) (g.W.RoadWrite.seen c.loop.out) (g.W.RoadWrite.seen c.loop.out)
       c.loop.invariant.vertices c.loop.invariant.served c.flush.ensures.bytes c.in-Ok.ensures.sound c.in-Err-read_piece.ensures.bytes,
   c.in-Err-read_piece.ensures.failed ∙ ap (λ k. k + 1) c.loop.invariant.sound,
 )
 
 pub returns-in-Err-finish-clause-write : goal.returns-in-Err-finish-clause-write
-returns-in-Err-finish-clause-write g c = λ is. end_fell (MayGiveOver g.A.PathAlgebra.meaning g.T.Gate.may_answer c.args.answers.now (graph_of c.args.solver.now)) c.loop.service (graph_of c.args.solver.now).vertices (g.I.RoadRead.seen c.args.input.now).left
-    (g.I.RoadRead.seen c.loop.input).left (g.I.RoadRead.seen c.loop.input).left
+returns-in-Err-finish-clause-write g c = λ is. end_fell _ c.loop.service _ _ _ (g.I.RoadRead.seen c.loop.input).left
     (g.W.RoadWrite.seen c.args.out.now) (g.W.RoadWrite.seen c.flush.new.self) (g.W.RoadWrite.seen c.loop.out) (g.W.RoadWrite.seen c.finish.new.out)
     c.loop.invariant.vertices c.loop.invariant.served c.flush.ensures.bytes c.in-Ok.ensures.sound (stays_own (g.A.PathAlgebra.meaning c.args.answers.now.algebra) c.args.answers.now.run.now.settings.now (g.T.Gate.may_answer c.args.answers.now.run.now.gate.now) c.args.solver.now c.loop.solver c.loop.invariant.same c.requires.kind
     (λ (may : Asked → List ℕ → Type 0). FinishedPart may c.loop.service (g.W.RoadWrite.seen c.loop.out) (g.W.RoadWrite.seen c.finish.new.out)) c.in-Err-finish.ensures.fell)
 
 pub returns-in-Err-Write-clause-write : goal.returns-in-Err-Write-clause-write
 returns-in-Err-Write-clause-write g c = λ is.
-    feed_fell (MayGiveOver g.A.PathAlgebra.meaning g.T.Gate.may_answer c.args.answers.now (graph_of c.args.solver.now)) c.loop.service (graph_of c.args.solver.now).vertices (g.I.RoadRead.seen c.args.input.now).left
-    (g.I.RoadRead.seen c.loop.input).left (g.I.RoadRead.seen c.read_piece.new.input).left
-    (g.W.RoadWrite.seen c.args.out.now) (g.W.RoadWrite.seen c.flush.new.self) (g.W.RoadWrite.seen c.loop.out) (g.W.RoadWrite.seen c.feed.new.out)
+    feed_fell _ c.loop.service _ _ _ _ (g.W.RoadWrite.seen c.args.out.now) (g.W.RoadWrite.seen c.flush.new.self) (g.W.RoadWrite.seen c.loop.out) (g.W.RoadWrite.seen c.feed.new.out)
     c.loop.invariant.vertices c.loop.invariant.served c.flush.ensures.bytes c.in-Ok.ensures.sound
     c.feed.new.self (take c.in-Ok-read_piece.n c.read_piece.new.buffer) (c.feed.ensures.vertices ∙ c.loop.invariant.vertices) c.in-Ok-read_piece.ensures.bytes.0
     (stays_own (g.A.PathAlgebra.meaning c.args.answers.now.algebra) c.args.answers.now.run.now.settings.now (g.T.Gate.may_answer c.args.answers.now.run.now.gate.now) c.args.solver.now c.loop.solver c.loop.invariant.same c.requires.kind
@@ -71,9 +61,7 @@ returns-in-Err-Write-clause-write g c = λ is.
 
 pub returns-in-Err-TooLong-clause-long : goal.returns-in-Err-TooLong-clause-long
 returns-in-Err-TooLong-clause-long g c = λ is.
-    feed_long (MayGiveOver g.A.PathAlgebra.meaning g.T.Gate.may_answer c.args.answers.now (graph_of c.args.solver.now)) c.loop.service (graph_of c.args.solver.now).vertices (g.I.RoadRead.seen c.args.input.now).left
-    (g.I.RoadRead.seen c.loop.input).left (g.I.RoadRead.seen c.read_piece.new.input).left
-    (g.W.RoadWrite.seen c.args.out.now) (g.W.RoadWrite.seen c.flush.new.self) (g.W.RoadWrite.seen c.loop.out) (g.W.RoadWrite.seen c.feed.new.out)
+    feed_long _ c.loop.service _ _ _ _ (g.W.RoadWrite.seen c.args.out.now) (g.W.RoadWrite.seen c.flush.new.self) (g.W.RoadWrite.seen c.loop.out) (g.W.RoadWrite.seen c.feed.new.out)
     c.loop.invariant.vertices c.loop.invariant.served c.flush.ensures.bytes c.in-Ok.ensures.sound
     c.feed.new.self (take c.in-Ok-read_piece.n c.read_piece.new.buffer) (c.feed.ensures.vertices ∙ c.loop.invariant.vertices) c.in-Ok-read_piece.ensures.bytes.0
     (stays_own (g.A.PathAlgebra.meaning c.args.answers.now.algebra) c.args.answers.now.run.now.settings.now (g.T.Gate.may_answer c.args.answers.now.run.now.gate.now) c.args.solver.now c.loop.solver c.loop.invariant.same c.requires.kind

@@ -1,18 +1,15 @@
 use Rattle.std.proofs.Common.{ap, take-append-drop, ◌≡◌, ℕ, ◌+◌, ◌-◌, ◌≤◌, List, ◌++◌, length, take, drop, subst, sym, ◌∙◌, arith, refl, Result, Ok, Err}
 use Rattle.road_files.specs.Asked.{Asked}
-use Rattle.text_lines.specs.Cuts.{IsLine}
-use Rattle.service.specs.Replies.{held_line}
-use Rattle.service.specs.Fed.{LineEnded}
-use Rattle.service.proofs.Staying.{stays}
+use Rattle.text_lines.specs.Cuts.{IsLine, EndsLine, StaysInLine}
 use Rattle.road_files.specs.RequestTakes.{RequestSoFar}
-use Rattle.text_lines.specs.Cuts.{EndsLine, StaysInLine}
 use Rattle.service.specs.declared.service.Service.{Service}
-use Rattle.service.specs.Fed.{Fed}
-use Rattle.std.proofs.lemmas.List.{take_all}
-use Rattle.std.proofs.lemmas.List.{length-take-le}
+use Rattle.service.specs.Giving.{MayGive}
+use Rattle.service.specs.Replies.{held_line}
+use Rattle.service.specs.Fed.{LineEnded, Fed}
+use Rattle.service.proofs.AnswerLaws.{stays}
+use Rattle.std.proofs.lemmas.List.{take_all, length-take-le}
 use Rattle.service.proofs.Pieces.{next_prefix, next_all, next_within, next_fits}
 use Rattle.service.proofs.ServiceLaws.{fed_none, fed_stay, fed_line, fed_part, fed_long}
-use Rattle.service.specs.Giving.{MayGive}
 use Rattle.service.proofs.service.Service.feed.Goals as goal
 
 pub loop-at-init : goal.loop-at-init

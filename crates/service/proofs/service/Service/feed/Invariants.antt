@@ -1,7 +1,7 @@
 use Rattle.std.proofs.Common.{◌≡◌, ◌-◌, ◌≤◌, [], take, length}
 use Rattle.batch_run.specs.Solvers.{IsSameSolver}
-use Rattle.service.specs.Fed.{Fed}
 use Rattle.service.specs.Giving.{MayGive}
+use Rattle.service.specs.Fed.{Fed}
 use Rattle.service.proofs.service.Service.feed.Given as goal
 
 -- the bytes so far were taken, and just the requests that they make whole replied to

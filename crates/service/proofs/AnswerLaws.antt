@@ -1,13 +1,8 @@
 -- What a batch wrote, as an answer of a service; and what may be one.
 use Rattle.std.proofs.Common.{◌≡◌, ◌≢◌, ℕ, ◌+◌, inl, inr, Bool, true, List, [], ◌++◌, Result, refl, sym, append-nil, ◌*◌, ◌<◌, ◌≤◌, Err, subst}
-use Rattle.road_graph.specs.GraphData.{GraphData}
-use Rattle.text_lines.specs.Written.{WrotePrefix, FailedAfterPrefix, WritesText}
-use Rattle.road_files.specs.Asked.{Asked}
-use Rattle.path_algebra.specs.Algebra.{Algebra}
-use Rattle.batch_settings.specs.declared.settings.Settings.{Settings}
-use Rattle.batch_run.specs.Solvers.{IsSameSolver, graph_of, is_without_diffusions}
-use Rattle.text_lines.proofs.WriteLaws.{wrote_then}
-use Rattle.batch_run.proofs.Stopped.{stopped_for}
+use Rattle.service.proofs.Words.{GraphData, WrotePrefix, FailedAfterPrefix, WritesText, Asked}
+use Rattle.service.proofs.Words.{Algebra, Settings, IsSameSolver, graph_of, is_without_diffusions}
+use Rattle.service.proofs.Words.{wrote_then, stopped_for}
 use Rattle.batch_run.specs.declared.cause.Cause.{Cause}
 use Rattle.batch_run.specs.declared.cause.Cause.TheVariants.{Unsolved, Write}
 use Rattle.batch_run.specs.Stopping.{IsEnoughFor, Stops}

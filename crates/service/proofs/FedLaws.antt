@@ -1,9 +1,6 @@
 -- Replies that are written one after the other.
 use Rattle.std.proofs.Common.{◌≡◌, ℕ, ◌+◌, List, [], ◌∷◌, ◌++◌, Result, Ok, Err, refl, sym, ap, ◌∙◌, subst, append_assoc, append-nil}
-use Rattle.std.specs.Io.KnownBytes.{Appends}
-use Rattle.text_lines.specs.Written.{FailedAfterPrefix, WritesText}
-use Rattle.road_files.specs.Asked.{Asked}
-use Rattle.text_lines.proofs.WriteLaws.{fell_first}
+use Rattle.service.proofs.Words.{Appends, FailedAfterPrefix, WritesText, Asked, fell_first}
 use Rattle.std.proofs.KnownBytes.{Appends-trans, Appends-nil}
 use Rattle.text_lines.specs.Streams.{Output}
 use Rattle.road_files.specs.ServiceText.{Request}

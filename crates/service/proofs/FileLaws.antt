@@ -1,10 +1,7 @@
 -- Question files in a row are as many requests.
 use Rattle.std.proofs.Common.{◌≡◌, ℕ, ◌+◌, Bool, true, false, cond, not, nat_lt, ◌==◌, List, [], ◌∷◌, ◌++◌, length, map, take, drop, flat_map, refl, ap, ◌∙◌, sym, subst, append-nil, None, Some, Option, Result, Ok, Err, arith, codes, bytes_eq, slice_index, ne_eqb}
-use Rattle.std.specs.List.{AllZip}
-use Rattle.text_lines.specs.Lines.{lines, fields}
-use Rattle.text_lines.specs.Rules.{Rules, at_line, value_of_lines, text_read, unless, ◌>>=◌}
-use Rattle.road_files.specs.Asked.{Asked, Question}
-use Rattle.text_lines.proofs.TextLaws.{lines_none, lines_cut}
+use Rattle.service.proofs.Words.{AllZip, lines, fields, Rules, at_line, value_of_lines, text_read}
+use Rattle.service.proofs.Words.{unless, ◌>>=◌, Asked, Question, lines_none, lines_cut}
 use Rattle.std.proofs.lemmas.Slice.Eq.{bytes_eq-Decides}
 use Rattle.text_lines.specs.declared.faults.ReadFault.{ReadFault}
 use Rattle.text_lines.specs.Words.{Word, word_of, word_at}

@@ -1,3 +1,4 @@
+mod Words
 mod RequestLaws
 mod TextLaws
 mod FileLaws

@@ -1,12 +1,7 @@
 -- What serving over a graph promises, by how it ends.
 use Rattle.std.proofs.Common.{◌≡◌, ◌≢◌, inl, inr, Bool, true, ℕ, ◌+◌, [], Result, Ok, Err, refl, ap, arith}
-use Rattle.std.specs.Io.KnownBytes.{IsAtEnd}
-use Rattle.road_graph.specs.GraphData.{GraphData}
-use Rattle.path_algebra.specs.Algebra.{Algebra}
-use Rattle.batch_inputs.specs.declared.faults.RunFault.{RunFault}
-use Rattle.batch_settings.specs.declared.settings.Settings.{Settings}
-use Rattle.service.specs.declared.serving.Stopped.{Stopped}
-use Rattle.service.specs.Over.{RanOver, fault_of_stop}
+use Rattle.service.proofs.Words.{IsAtEnd, GraphData, Algebra, RunFault, Settings, Stopped, RanOver}
+use Rattle.service.proofs.Words.{fault_of_stop}
 use Rattle.batch_inputs.specs.declared.faults.File.TheVariants.{Questions, NoFile}
 use Rattle.text_lines.specs.Streams.{Input, Output}
 use Rattle.service.specs.declared.serving.Stopped.TheVariants.{Read, Write, TooLong}

@@ -1,11 +1,7 @@
 -- A service that goes on through its input, and a watcher that is told of its reads.
 use Rattle.std.proofs.Common.{◌≡◌, ℕ, ◌+◌, true, List, [], ◌++◌, Option, None, Some, refl, sym, ap, ◌∙◌, subst, append_assoc, append-nil, inl, inr, arith, ◌∷◌, length, length-append}
-use Rattle.std.specs.Io.KnownBytes.{Consumes, IsAtEnd, Keeps, Appends}
-use Rattle.road_files.specs.Asked.{Asked}
-use Rattle.text_lines.specs.Lines.{lines}
-use Rattle.road_files.specs.RequestTakes.{parser_state}
-use Rattle.service.specs.declared.service.Service.{Service}
-use Rattle.text_lines.proofs.TextLaws.{lines_cut}
+use Rattle.service.proofs.Words.{Consumes, IsAtEnd, Keeps, Appends, Asked, lines, parser_state}
+use Rattle.service.proofs.Words.{Service, lines_cut}
 use Rattle.std.proofs.KnownBytes.{Consumes-kept, Consumes-nil, Consumes-trans, Consumes-whole, Appends-nil}
 use Rattle.text_lines.specs.Streams.{Output, Input}
 use Rattle.road_files.specs.ServiceText.{Request, Gives, LinesMay}

@@ -1,13 +1,8 @@
 -- A service that goes on through its text.
 use Rattle.std.proofs.Common.{◌≡◌, ℕ, ◌+◌, min, Bool, true, false, cond, not, drop, List, [], ◌∷◌, ◌++◌, length, take, map, None, Result, Ok, Err, refl, sym, ap, ◌∙◌, subst, append_assoc, append-nil, length-append, take-append-drop, length-drop, ◌<◌, inl, inr, arith}
-use Rattle.std.specs.Str.Lines.{strip_carriage_return}
-use Rattle.text_lines.specs.Cuts.{IsPresent, IsLine, EndsLine, StaysInLine}
-use Rattle.text_lines.specs.Lines.{lines, fields}
-use Rattle.text_lines.specs.Rules.{at_line}
-use Rattle.road_files.specs.Asked.{Asked}
-use Rattle.road_files.specs.RequestTakes.{parser_state, RequestSoFar, ended_of, ended_list}
-use Rattle.text_lines.proofs.TextLaws.{lines_first, lines_cut}
-use Rattle.service.specs.declared.service.Service.{Service}
+use Rattle.service.proofs.Words.{strip_carriage_return, IsPresent, IsLine, EndsLine, StaysInLine}
+use Rattle.service.proofs.Words.{lines, fields, at_line, Asked, parser_state, RequestSoFar}
+use Rattle.service.proofs.Words.{ended_of, ended_list, lines_first, lines_cut, Service}
 use Rattle.std.proofs.lemmas.Bool.{not-false}
 use Rattle.std.proofs.lemmas.List.{append_cancel_left}
 use Rattle.text_lines.specs.Streams.{Output}

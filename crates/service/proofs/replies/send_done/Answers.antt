@@ -1,7 +1,5 @@
 use Rattle.std.proofs.Common.{[], ◌∷◌, Ok, Err, Result, ap, map}
-use Rattle.text_lines.specs.Rules.{fault_at, at_line}
-use Rattle.road_files.specs.RequestTakes.{ended_list}
-use Rattle.service.specs.Giving.{MayGive}
+use Rattle.service.proofs.Words.{fault_at, at_line, ended_list, MayGive}
 use Rattle.service.specs.Fed.{fault_text}
 use Rattle.service.proofs.FedLaws.{replied_one, replied_then, fell_before}
 use Rattle.service.proofs.ServiceLaws.{ended_early}

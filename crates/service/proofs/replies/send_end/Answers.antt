@@ -1,7 +1,5 @@
 use Rattle.std.proofs.Common.{Ok, Err, ap}
-use Rattle.text_lines.specs.Rules.{fault_at}
-use Rattle.road_files.specs.Asked.{asked_of}
-use Rattle.service.specs.Giving.{MayGive}
+use Rattle.service.proofs.Words.{fault_at, asked_of, MayGive}
 use Rattle.service.specs.Fed.{fault_text}
 use Rattle.service.proofs.FedLaws.{replied_one}
 use Rattle.service.proofs.replies.send_end.Goals as goal

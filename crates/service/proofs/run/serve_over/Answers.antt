@@ -1,9 +1,6 @@
 use Rattle.std.proofs.Common.{◌≡◌, ◌∙◌, Result, Ok, Err, sym, subst, refl}
 use Rattle.std.proofs.lemmas.Result.{err_from_is_err_and}
-use Rattle.road_graph.specs.GraphData.{GraphData}
-use Rattle.batch_run.specs.Solvers.{graph_of}
-use Rattle.service.specs.declared.serving.Stopped.{Stopped}
-use Rattle.service.specs.Over.{RanOver, fault_of_stop}
+use Rattle.service.proofs.Words.{GraphData, graph_of, Stopped, RanOver, fault_of_stop}
 use Rattle.service.specs.Answering.{MayAnswer}
 use Rattle.service.specs.Reading.{ToldReads}
 use Rattle.service.proofs.ServeLaws.{told_none}

@@ -1,8 +1,5 @@
 use Rattle.std.proofs.Common.{◌<◌, ℕ, List, [], take, length, rules, Err, ◌+◌, subst, ap, ◌∙◌}
-use Rattle.std.specs.Io.KnownBytes.{Consumes}
-use Rattle.road_files.specs.Asked.{Asked}
-use Rattle.batch_run.specs.Solvers.{graph_of}
-use Rattle.service.specs.Giving.{MayGiveOver}
+use Rattle.service.proofs.Words.{Consumes, Asked, graph_of, MayGiveOver}
 use Rattle.service.specs.Fed.{Fed, FedPart, FedLong, Finished, FinishedPart}
 use Rattle.service.proofs.AnswerLaws.{stays_own}
 use Rattle.service.specs.declared.feeding.Unfed.{Unfed}

@@ -1,7 +1,5 @@
 use Rattle.std.proofs.Common.{Err}
-use Rattle.road_files.specs.Asked.{asked_of}
-use Rattle.batch_run.specs.Solvers.{graph_of, is_without_diffusions}
-use Rattle.batch_run.proofs.Stopped.{says_of_cause}
+use Rattle.service.proofs.Words.{asked_of, graph_of, is_without_diffusions, says_of_cause}
 use Rattle.batch_run.proofs.Prefixes.{all_or_prefix}
 use Rattle.service.proofs.AnswerLaws.{never_stalls, answered, fell, stopped}
 use Rattle.service.proofs.batch_answers.BatchAnswers.answer.Goals as goal

@@ -1,9 +1,6 @@
 use Rattle.std.proofs.Common.{ap, take-append-drop, ◌≡◌, ℕ, ◌+◌, ◌-◌, ◌≤◌, List, ◌++◌, length, take, drop, subst, sym, ◌∙◌, arith, refl, Result, Ok, Err}
-use Rattle.road_files.specs.Asked.{Asked}
-use Rattle.text_lines.specs.Cuts.{IsLine, EndsLine, StaysInLine}
-use Rattle.road_files.specs.RequestTakes.{RequestSoFar}
-use Rattle.service.specs.declared.service.Service.{Service}
-use Rattle.service.specs.Giving.{MayGive}
+use Rattle.service.proofs.Words.{Asked, IsLine, EndsLine, StaysInLine, RequestSoFar, Service}
+use Rattle.service.proofs.Words.{MayGive}
 use Rattle.service.specs.Replies.{held_line}
 use Rattle.service.specs.Fed.{LineEnded, Fed}
 use Rattle.service.proofs.AnswerLaws.{stays}

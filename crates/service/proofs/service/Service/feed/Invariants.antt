@@ -1,6 +1,5 @@
 use Rattle.std.proofs.Common.{◌≡◌, ◌-◌, ◌≤◌, [], take, length}
-use Rattle.batch_run.specs.Solvers.{IsSameSolver}
-use Rattle.service.specs.Giving.{MayGive}
+use Rattle.service.proofs.Words.{IsSameSolver, MayGive}
 use Rattle.service.specs.Fed.{Fed}
 use Rattle.service.proofs.service.Service.feed.Given as goal
 

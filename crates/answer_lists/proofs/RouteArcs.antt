@@ -10,7 +10,6 @@ use Rattle.path_algebra.specs.declared.choice.AlgebraChoice.TheVariants.{Shortes
 use Rattle.route_tree.specs.Found.{FoundData, IsFoundBetween, IsRouteBetween}
 use Rattle.arc_numbers.specs.RouteArcs.{AreRouteArcs}
 use Rattle.answer_lists.specs.Answers.{IsFound, IsOneOf, ReportsRoute}
-use Rattle.answer_lists.proofs.NearListed.{under_weaker}
 
 -- what follows of each algebra from two facts follows of the one that was chosen
 under_both : (chosen : AlgebraChoice) (P Q R : (V : Type 0) → Algebra V → Type 0) → ((V : Type 0) (A : Algebra V) → P V A → Q V A → R V A) → Under chosen P → Under chosen Q → Under chosen R
@@ -20,6 +19,9 @@ under_both Reach P Q R follows p q = follows _ _ p q
 under_both Hops P Q R follows p q = follows _ _ p q
 under_both Reliable P Q R follows p q = follows _ _ p q
 under_both (Within w) P Q R follows p q = follows _ _ p q
+
+under_weaker : (chosen : AlgebraChoice) (P Q : (V : Type 0) → Algebra V → Type 0) → ((V : Type 0) (A : Algebra V) → P V A → Q V A) → Under chosen P → Under chosen Q
+under_weaker chosen P Q follows p = under_both chosen P P Q (λ V A h _. follows V A h) p p
 
 module _ (chosen : AlgebraChoice) (g : GraphData) (s t : ℕ) (f : FoundData) (found : Under chosen (λ V A. IsFoundBetween A g s t f)) (room : List ℕ) where
   module _ (written : take (f.hops + 1) room ≡ f.route) where

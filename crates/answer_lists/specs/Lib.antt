@@ -1,7 +1,6 @@
 pub mod Answers
 pub mod Factoring
 pub mod Kept
-pub mod KeptTree
 pub mod Near
 pub mod Reweighing
 pub mod Route

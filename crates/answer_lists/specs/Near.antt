@@ -1,11 +1,12 @@
 -- The vertices that are reached from the nearest of some sources, the best first, in four lists.
-use Rattle.std.specs.Prelude.{◌≡◌, ◌≤◌, ◌⊎◌, ℕ, ℤ, pos, List, [], Option, length, take, drop}
+use Rattle.std.specs.Prelude.{◌≡◌, ◌≤◌, ◌⊎◌, ℕ, ℤ, pos, List, [], Option, All, length, map, take, drop}
 use Rattle.std.specs.List.{AllZip}
 use Rattle.road_graph.specs.GraphData.{GraphData, HasVertex}
 use Rattle.path_algebra.specs.Algebra.{Algebra}
 use Rattle.path_algebra.specs.Walks.{label_of}
 use Rattle.route_tree.specs.Tree.{Branches, hops_of, parent_of}
 use Rattle.tree_search.specs.Nearest.{AreNearest}
+use Rattle.tree_search.specs.Searcher.{TreeSearcherState}
 use Rattle.answer_text.specs.IsAnswer.{IsVertexLine}
 use Rattle.answer_lists.specs.Answers.{HavePlaces, IsFound}
 use Rattle.answer_lists.specs.Tree.{code_for, line_of, lines_of, number_for}
@@ -82,6 +83,10 @@ hops_at tree v = number_for (hops_of tree v)
 abbrev pub parent_at : Branches → ℕ → ℕ
 parent_at tree v = number_for (parent_of tree v)
 
--- each vertex has the line of this code, these hops and this parent
-abbrev pub HaveLines : {V : Type 0} → Algebra V → GraphData → List ℕ → (ℕ → ℕ) → Branches → Type 0
-HaveLines A g sources code tree = (v : ℕ) → HasVertex g v → IsVertexLine A g sources v (line_of (code v) (hops_at tree v) (parent_at tree v))
+-- a searcher of trees of this graph has reached from these sources what is reached: it has the line
+-- of each vertex, and lists those that are reached, the best first
+pub record HasReached {V : Type 0} (A : Algebra V) (g : GraphData) (sources : List ℕ) (t : TreeSearcherState V) : Type 0 where
+  pub roads : t.roads ≡ g
+  pub vertices : All (HasVertex g) t.reached
+  pub near : AreNearLines A g sources t.reached (map (code_at A t.labels) t.reached) (map (hops_at t.tree) t.reached) (map (parent_at t.tree) t.reached)
+  pub lines : (v : ℕ) → HasVertex g v → IsVertexLine A g sources v (line_of (code_at A t.labels v) (hops_at t.tree v) (parent_at t.tree v))

@@ -16,7 +16,7 @@ ghost use Rattle.answer_lists.specs.Tree.{HasLowCodes};
 use crate::codes::{code_for, push_code};
 use crate::stopping::is_stopped;
 use crate::table_rows::RowEnds;
-use factor_routes::{RoadFactors, RouteAsker, Unweighed};
+use factor_routes::{Pair, RoadFactors, RouteAsker, Unweighed};
 use path_algebra::{Cost, Labels, PathAlgebra, laws_hold};
 use path_plain::Stop;
 use road_graph::{InGraph, Memory, OutGraph, Vertex};
@@ -166,18 +166,19 @@ impl FactoredGraph {
         &mut self,
         algebra: A,
         by_head: &InGraph,
-        ends: (Vertex, Vertex),
+        pair: Pair,
     ) -> Result<Option<Found>, Memory>
         requires carried { IsCarried (A.meaning algebra) (cost_of self.old.algebra.cost) }
         requires by_head { by_head.now ≡ self.old.roads }
-        requires ends { HasBoth self.old.roads ends.0 ends.1 }
+        requires pair { HasBoth self.old.roads pair.source pair.target }
         ensures kept { self.new ≡ self.old }
-        ensures found { IfOk result (IsPairFound (A.meaning algebra) self.old.roads ends.0 ends.1) }
+        ensures found { IfOk result (IsPairFound (A.meaning algebra) self.old.roads pair.source
+            pair.target) }
     {
         let mut asker = self.take_asker()?;
         let found = self
             .factors
-            .find(self.alloc, algebra, by_head, &mut asker, ends);
+            .find(self.alloc, algebra, by_head, &mut asker, pair);
         self.asker = Some(asker);
         found
     }

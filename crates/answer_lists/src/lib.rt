@@ -2,13 +2,26 @@
 //! lends.
 #![tactic(auto)]
 
+// The value of an expression with the searchers that are kept, whatever their algebra.
+macro_rules! with_kept {
+    ($kept:expr, |$searchers:ident| $value:expr) => {
+        match $kept {
+            $crate::kept::Kept::Shortest($searchers) => $value,
+            $crate::kept::Kept::Widest($searchers) => $value,
+            $crate::kept::Kept::Reach($searchers) => $value,
+            $crate::kept::Kept::Hops($searchers) => $value,
+            $crate::kept::Kept::Reliable($searchers) => $value,
+            $crate::kept::Kept::Within($searchers) => $value,
+        }
+    };
+}
+
 mod algebra_number;
 mod codes;
 mod factored_graph;
 mod factoring;
 mod judging;
-mod kept_searcher;
-mod kept_tree;
+mod kept;
 mod lines;
 mod near;
 mod near_lists;

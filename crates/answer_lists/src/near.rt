@@ -1,48 +1,81 @@
 //! What is reached from the nearest of some sources, the best first, written to four lists of the
 //! caller.
 
-ghost use Rattle.std.specs.Prelude.{◌≡◌, ◌∷◌, [], IfOk, IsSome, IsTrue, false, map, pos};
+ghost use Rattle.std.specs.Prelude.{◌≡◌, ◌∷◌, [], IsSome, pos};
 ghost use Rattle.std.specs.List.{All};
 ghost use Rattle.road_graph.specs.GraphData.{HasVertex};
 ghost use Rattle.path_algebra.specs.Choices.{OfAlgebra, Under};
 ghost use Rattle.path_plain.specs.Halting.{CanHalt};
 ghost use Rattle.answer_lists.specs.Answers.{IsFound, IsOneOf, ReportsRefusals};
-ghost use Rattle.answer_lists.specs.KeptTree.{code_in, graph_in, tree_in, vertices_in};
-ghost use Rattle.answer_lists.specs.Near.{AreNearLines, HaveLines, HaveNear, IsReachedCount, IsWrittenNear, hops_at, parent_at};
+ghost use Rattle.answer_lists.specs.Kept.{AreSearchersOf, IsKeptOver, algebra_of};
+ghost use Rattle.answer_lists.specs.Near.{HaveNear, IsReachedCount, IsWrittenNear};
+ghost use Rattle.answer_lists.specs.Tree.{HasLowCodes};
 
 use crate::algebra_number::AlgebraNumber;
-use crate::kept_tree::KeptTree;
+use crate::kept::{Kept, Searchers};
 use crate::near_lists::{NearLists, write_lists};
 use crate::shared_graph::SharedGraph;
 use crate::sources::{are_vertices, vertices_of};
 use crate::status::{MEMORY, NO_ALGEBRA, NO_VERTEX, STOPPED};
-use path_algebra::AlgebraChoice;
+use path_algebra::{AlgebraChoice, PathAlgebra};
 use path_plain::{Halt, Stop};
-use road_graph::{Memory, Vertex};
+use road_graph::{Memory, OutGraph, Vertex};
 
-/// Searches by the chosen algebra, unless the search is to give up; with the searcher, which is
-/// taken out of the graph, comes whether there is an answer.
-pub(crate) fn search(
-    chosen: AlgebraChoice,
-    shared: &mut SharedGraph,
+/// Searches, counts what is reached, and writes it if there is room, unless the search gives up.
+fn search<A: PathAlgebra>(
+    searchers: &mut Searchers<A>,
+    graph: &OutGraph,
     sources: &[Vertex],
     halt: &mut Halt<'_>,
-) -> Result<(KeptTree, bool), Memory>
-    requires { All (HasVertex shared.old.roads) sources.now }
-    ensures graph { shared.new ≡ shared.old }
-    ensures roads { IfOk result (λ k. graph_in k.0 ≡ shared.old.roads) }
-    ensures vertices { IfOk result (λ k. IsTrue k.1 →
-        All (HasVertex shared.old.roads) (vertices_in k.0)) }
-    ensures near { Under chosen (λ V A. IfOk result (λ k. IsTrue k.1 → AreNearLines A
-        shared.old.roads sources.now (vertices_in k.0) (map (code_in k.0) (vertices_in k.0))
-        (map (hops_at (tree_in k.0)) (vertices_in k.0))
-        (map (parent_at (tree_in k.0)) (vertices_in k.0)))) }
-    ensures all { Under chosen (λ V A. IfOk result (λ k. IsTrue k.1 → HaveLines A shared.old.roads
-        sources.now (code_in k.0) (tree_in k.0))) }
-    ensures halts { IfOk result (λ k. k.1 ≡ false → CanHalt halt.old) }
+    lists: &mut NearLists<'_>,
+) -> i32
+    requires low { HasLowCodes (A.meaning searchers.old.algebra) }
+    requires over { AreSearchersOf graph.now searchers.old }
+    requires sources { All (HasVertex graph.now) sources.now }
+    ensures over { AreSearchersOf graph.now searchers.new }
+    ensures count { IsFound result → IsReachedCount (A.meaning searchers.old.algebra) graph.now
+        sources.now lists.new.count.now }
+    ensures lists { result ≡ pos 0 → HaveNear (A.meaning searchers.old.algebra) graph.now
+        sources.now lists.new }
+    ensures written { IsWrittenNear lists.old lists.new result }
+    ensures halts { result ≡ pos 45 → CanHalt halt.old }
+    ensures status { IsOneOf (0 ∷ 2 ∷ 3 ∷ 45 ∷ []) result }
 {
-    let kept = shared.take_tree(chosen)?;
-    kept.solve(shared.graph(), sources, halt)
+    let algebra = searchers.algebra;
+    match searchers.reach(graph, sources, halt) {
+        Ok(Some(found)) => {
+            let status = write_lists(algebra, &found, lists);
+            searchers.trees = Some(found);
+            status
+        }
+        Ok(None) => STOPPED,
+        Err(Memory) => MEMORY,
+    }
+}
+
+/// The same by what is kept.
+fn search_kept(
+    kept: &mut Kept,
+    graph: &OutGraph,
+    sources: &[Vertex],
+    halt: &mut Halt<'_>,
+    lists: &mut NearLists<'_>,
+) -> i32
+    requires over { IsKeptOver graph.now kept.old }
+    requires sources { All (HasVertex graph.now) sources.now }
+    ensures over { IsKeptOver graph.now kept.new }
+    ensures count { IsFound result → Under (algebra_of kept.old) (λ V A. IsReachedCount A graph.now
+        sources.now lists.new.count.now) }
+    ensures lists { result ≡ pos 0 → Under (algebra_of kept.old) (λ V A. HaveNear A graph.now
+        sources.now lists.new) }
+    ensures written { IsWrittenNear lists.old lists.new result }
+    ensures halts { result ≡ pos 45 → CanHalt halt.old }
+    ensures status { IsOneOf (0 ∷ 2 ∷ 3 ∷ 45 ∷ []) result }
+{
+    with_kept!(
+        kept,
+        |searchers| search(searchers, graph, sources, halt, lists)
+    )
 }
 
 /// Searches by the chosen algebra, counts what is reached, and writes it if there is room.
@@ -66,15 +99,9 @@ fn answer(
     let Ok(list) = vertices_of(shared.alloc(), sources) else {
         return MEMORY;
     };
-    let Ok((kept, is_found)) = search(chosen, shared, &list, &mut Halt::by(stop)) else {
-        return MEMORY;
-    };
-    if !is_found {
-        shared.put_tree(kept);
-        return STOPPED;
-    }
-    let status = write_lists(&kept, lists);
-    shared.put_tree(kept);
+    let mut kept = shared.take_for_trees(chosen);
+    let status = search_kept(&mut kept, shared.graph(), &list, &mut Halt::by(stop), lists);
+    shared.put_for_trees(kept);
     status
 }
 

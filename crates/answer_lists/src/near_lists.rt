@@ -4,12 +4,14 @@ ghost use Rattle.std.specs.Prelude.{◌≡◌, ◌≤◌, ◌↔◌, IsTrue, len
 ghost use Rattle.std.specs.List.{All};
 ghost use Rattle.road_graph.specs.GraphData.{HasVertex};
 ghost use Rattle.answer_lists.specs.Answers.{IsFound};
-ghost use Rattle.answer_lists.specs.KeptTree.{code_in, graph_in, tree_in, vertices_in};
-ghost use Rattle.answer_lists.specs.Near.{AreLongOrNone, BeginsOrNone, IsLongOrNone, IsSameAfter, IsWrittenNear, hops_at, parent_at};
+ghost use Rattle.answer_lists.specs.Near.{AreLongOrNone, BeginsOrNone, IsLongOrNone, IsSameAfter, IsWrittenNear, code_at, hops_at, parent_at};
 
-use crate::kept_tree::KeptTree;
+use crate::codes::code_for;
 use crate::route::copy;
 use crate::status::{DONE, NO_ROOM};
+use crate::tree_lists::{hops_for, parent_for};
+use path_algebra::PathAlgebra;
+use tree_search::TreeSearcher;
 
 /// The lists of what is reached, as a caller lends them to be written: the vertices, of each the
 /// code, the hops and the parent, and how many there are. A list without places is not wanted.
@@ -23,65 +25,65 @@ pub struct NearLists<'a> {
 }
 
 /// Writes the vertices that are reached, if the list is wanted.
-fn write_vertices(kept: &KeptTree, vertices: &mut [u32])
-    requires { IsLongOrNone (length (vertices_in kept.now)) (length vertices.old) }
-    ensures list { BeginsOrNone (length (vertices_in kept.now)) vertices.new (vertices_in kept.now) }
-    ensures rest { IsSameAfter (length (vertices_in kept.now)) vertices.old vertices.new }
+fn write_vertices<A: PathAlgebra>(found: &TreeSearcher<A>, vertices: &mut [u32])
+    requires { IsLongOrNone (length found.now.reached) (length vertices.old) }
+    ensures list { BeginsOrNone (length found.now.reached) vertices.new found.now.reached }
+    ensures rest { IsSameAfter (length found.now.reached) vertices.old vertices.new }
 {
     if vertices.is_empty() {
         return;
     }
-    copy(kept.reached(), vertices);
+    copy(found.reached(), vertices);
 }
 
 /// Writes their codes, if the list is wanted.
-fn write_codes(kept: &KeptTree, codes: &mut [u64])
-    requires vertices { All (HasVertex (graph_in kept.now)) (vertices_in kept.now) }
-    requires places { IsLongOrNone (length (vertices_in kept.now)) (length codes.old) }
-    ensures list { BeginsOrNone (length (vertices_in kept.now)) codes.new (map (code_in kept.now)
-        (vertices_in kept.now)) }
-    ensures rest { IsSameAfter (length (vertices_in kept.now)) codes.old codes.new }
+fn write_codes<A: PathAlgebra>(algebra: A, found: &TreeSearcher<A>, codes: &mut [u64])
+    requires vertices { All (HasVertex found.now.roads) found.now.reached }
+    requires places { IsLongOrNone (length found.now.reached) (length codes.old) }
+    ensures list { BeginsOrNone (length found.now.reached) codes.new
+        (map (code_at (A.meaning algebra) found.now.labels) found.now.reached) }
+    ensures rest { IsSameAfter (length found.now.reached) codes.old codes.new }
 {
     if codes.is_empty() {
         return;
     }
-    let reached = kept.reached();
+    let reached = found.reached();
     for i in 0..reached.len() {
-        codes[i] = kept.code(reached[i]);
+        codes[i] = code_for(algebra, found.value(reached[i]));
     }
 }
 
 /// Writes their hops, if the list is wanted.
-fn write_hops(kept: &KeptTree, hops: &mut [u32])
-    requires vertices { All (HasVertex (graph_in kept.now)) (vertices_in kept.now) }
-    requires places { IsLongOrNone (length (vertices_in kept.now)) (length hops.old) }
-    ensures list { BeginsOrNone (length (vertices_in kept.now)) hops.new (map (hops_at (tree_in
-        kept.now)) (vertices_in kept.now)) }
-    ensures rest { IsSameAfter (length (vertices_in kept.now)) hops.old hops.new }
+fn write_hops<A: PathAlgebra>(found: &TreeSearcher<A>, hops: &mut [u32])
+    requires vertices { All (HasVertex found.now.roads) found.now.reached }
+    requires places { IsLongOrNone (length found.now.reached) (length hops.old) }
+    ensures list { BeginsOrNone (length found.now.reached) hops.new
+        (map (hops_at found.now.tree) found.now.reached) }
+    ensures rest { IsSameAfter (length found.now.reached) hops.old hops.new }
 {
     if hops.is_empty() {
         return;
     }
-    let reached = kept.reached();
+    let reached = found.reached();
     for i in 0..reached.len() {
-        hops[i] = kept.hops(reached[i]);
+        hops[i] = hops_for(found.hops(reached[i]));
     }
 }
 
 /// Writes their parents, if the list is wanted.
-fn write_parents(kept: &KeptTree, parents: &mut [u32])
-    requires vertices { All (HasVertex (graph_in kept.now)) (vertices_in kept.now) }
-    requires places { IsLongOrNone (length (vertices_in kept.now)) (length parents.old) }
-    ensures list { BeginsOrNone (length (vertices_in kept.now)) parents.new (map (parent_at (tree_in
-        kept.now)) (vertices_in kept.now)) }
-    ensures rest { IsSameAfter (length (vertices_in kept.now)) parents.old parents.new }
+fn write_parents<A: PathAlgebra>(found: &TreeSearcher<A>, parents: &mut [u32])
+    requires vertices { All (HasVertex found.now.roads) found.now.reached }
+    requires places { IsLongOrNone (length found.now.reached) (length parents.old) }
+    ensures list { BeginsOrNone (length found.now.reached) parents.new
+        (map (parent_at found.now.tree) found.now.reached) }
+    ensures rest { IsSameAfter (length found.now.reached) parents.old parents.new }
 {
     if parents.is_empty() {
         return;
     }
-    let reached = kept.reached();
+    let reached = found.reached();
     for i in 0..reached.len() {
-        parents[i] = kept.parent(reached[i]);
+        parents[i] = parent_for(found.parent(reached[i]));
     }
 }
 
@@ -104,28 +106,32 @@ fn are_long_or_none(n: usize, lists: &NearLists<'_>) -> bool
 }
 
 /// Counts what is reached, and writes it, if each list that is wanted has a place for each vertex.
-pub(crate) fn write_lists(kept: &KeptTree, lists: &mut NearLists<'_>) -> i32
-    requires { All (HasVertex (graph_in kept.now)) (vertices_in kept.now) }
-    ensures count { lists.new.count.now ≡ length (vertices_in kept.now) }
-    ensures vertices { result ≡ pos 0 → BeginsOrNone (length (vertices_in kept.now))
-        lists.new.vertices.now (vertices_in kept.now) }
-    ensures codes { result ≡ pos 0 → BeginsOrNone (length (vertices_in kept.now))
-        lists.new.codes.now (map (code_in kept.now) (vertices_in kept.now)) }
-    ensures hops { result ≡ pos 0 → BeginsOrNone (length (vertices_in kept.now))
-        lists.new.hops.now (map (hops_at (tree_in kept.now)) (vertices_in kept.now)) }
-    ensures parents { result ≡ pos 0 → BeginsOrNone (length (vertices_in kept.now))
-        lists.new.parents.now (map (parent_at (tree_in kept.now)) (vertices_in kept.now)) }
+pub(crate) fn write_lists<A: PathAlgebra>(
+    algebra: A,
+    found: &TreeSearcher<A>,
+    lists: &mut NearLists<'_>,
+) -> i32
+    requires { All (HasVertex found.now.roads) found.now.reached }
+    ensures count { lists.new.count.now ≡ length found.now.reached }
+    ensures vertices { result ≡ pos 0 → BeginsOrNone (length found.now.reached)
+        lists.new.vertices.now found.now.reached }
+    ensures codes { result ≡ pos 0 → BeginsOrNone (length found.now.reached)
+        lists.new.codes.now (map (code_at (A.meaning algebra) found.now.labels) found.now.reached) }
+    ensures hops { result ≡ pos 0 → BeginsOrNone (length found.now.reached)
+        lists.new.hops.now (map (hops_at found.now.tree) found.now.reached) }
+    ensures parents { result ≡ pos 0 → BeginsOrNone (length found.now.reached)
+        lists.new.parents.now (map (parent_at found.now.tree) found.now.reached) }
     ensures written { IsWrittenNear lists.old lists.new result }
     ensures found { IsFound result }
 {
-    let count = kept.reached().len();
+    let count = found.reached().len();
     *lists.count = count;
     if !are_long_or_none(count, lists) {
         return NO_ROOM;
     }
-    write_vertices(kept, lists.vertices);
-    write_codes(kept, lists.codes);
-    write_hops(kept, lists.hops);
-    write_parents(kept, lists.parents);
+    write_vertices(found, lists.vertices);
+    write_codes(algebra, found, lists.codes);
+    write_hops(found, lists.hops);
+    write_parents(found, lists.parents);
     DONE
 }

@@ -9,11 +9,12 @@ ghost use Rattle.answer_lists.specs.Answers.{HasBoth, IsAnswered, IsFound, IsOne
 ghost use Rattle.answer_lists.specs.Route.{IsWrittenRoute};
 
 use crate::algebra_number::AlgebraNumber;
+use crate::kept::Until;
 use crate::shared_graph::SharedGraph;
 use crate::status::{DONE, MEMORY, NO_ALGEBRA, NO_ROOM, NO_ROUTE, NO_VERTEX, STOPPED};
-use factor_routes::near_halt;
+use factor_routes::Pair;
 use path_algebra::{AlgebraChoice, PathAlgebra, with_algebra};
-use path_plain::{Halt, Stop};
+use path_plain::Stop;
 use road_graph::{InGraph, Memory, Vertex};
 use route_tree::{Found, Nearby};
 
@@ -23,17 +24,18 @@ fn ask<A: PathAlgebra>(
     algebra: A,
     shared: &mut SharedGraph,
     by_head: &InGraph,
-    ends: (Vertex, Vertex),
+    pair: Pair,
 ) -> Result<Nearby, Memory>
     requires by_head { by_head.now ≡ shared.old.roads }
-    requires ends { HasBoth shared.old.roads ends.0 ends.1 }
+    requires pair { HasBoth shared.old.roads pair.source pair.target }
     ensures graph { shared.new ≡ shared.old }
-    ensures found { IfOk result (IsFoundIfNear (A.meaning algebra) shared.old.roads ends.0 ends.1) }
+    ensures found { IfOk result (IsFoundIfNear (A.meaning algebra) shared.old.roads pair.source
+        pair.target) }
 {
     let Some(mut factored) = shared.take_factored(algebra) else {
         return Ok(Nearby::Undecided);
     };
-    let found = factored.route(algebra, by_head, ends);
+    let found = factored.route(algebra, by_head, pair);
     shared.put_factored(factored);
     Ok(Nearby::Decided(found?))
 }
@@ -44,47 +46,46 @@ fn find_soon(
     chosen: AlgebraChoice,
     shared: &mut SharedGraph,
     by_head: &InGraph,
-    ends: (Vertex, Vertex),
+    pair: Pair,
 ) -> Result<Nearby, Memory>
     requires by_head { by_head.now ≡ shared.old.roads }
-    requires ends { HasBoth shared.old.roads ends.0 ends.1 }
+    requires pair { HasBoth shared.old.roads pair.source pair.target }
     ensures graph { shared.new ≡ shared.old }
     ensures found { Under chosen (λ V A. IfOk result (IsFoundIfNear A shared.old.roads
-        ends.0 ends.1)) }
+        pair.source pair.target)) }
 {
-    let (source, target) = ends;
-    let mut halt = near_halt(shared.graph().vertices());
-    match shared.search(chosen, by_head, (source, target), &mut halt) {
+    let Pair { source, target } = pair;
+    match shared.search(chosen, by_head, Pair { source, target }, Until::Far) {
         Ok(Nearby::Decided(found)) => Ok(Nearby::Decided(found)),
         Ok(Nearby::Undecided) | Err(Memory) => {
-            with_algebra!(chosen, |algebra| ask(algebra, shared, by_head, ends))
+            with_algebra!(chosen, |algebra| ask(algebra, shared, by_head, pair))
         }
     }
 }
 
 /// The best code and the route, none if no walk to the target has a value; or undecided, if a stop
 /// was set.
-fn find_near(
+fn find_unless(
     chosen: AlgebraChoice,
     shared: &mut SharedGraph,
     stop: &Option<Stop>,
-    ends: (Vertex, Vertex),
+    pair: Pair,
 ) -> Result<Nearby, Memory>
-    requires { HasBoth shared.old.roads ends.0 ends.1 }
+    requires { HasBoth shared.old.roads pair.source pair.target }
     ensures graph { shared.new ≡ shared.old }
     ensures found { Under chosen (λ V A. IfOk result (IsFoundIfNear A shared.old.roads
-        ends.0 ends.1)) }
+        pair.source pair.target)) }
     ensures stopped { IfOk result (λ near. near ≡ Undecided → IsSome stop.now) }
 {
-    let (source, target) = ends;
+    let Pair { source, target } = pair;
     let by_head = shared.by_head()?;
     if shared.is_factored_for(chosen) {
-        let soon = find_soon(chosen, shared, &by_head, (source, target))?;
+        let soon = find_soon(chosen, shared, &by_head, Pair { source, target })?;
         if let Nearby::Decided(found) = soon {
             return Ok(Nearby::Decided(found));
         }
     }
-    shared.search(chosen, &by_head, (source, target), &mut Halt::by(stop))
+    shared.search(chosen, &by_head, pair, Until::Stopped(stop))
 }
 
 /// The best code and the route, or the status that says why there are none.
@@ -92,19 +93,19 @@ pub(crate) fn find(
     chosen: AlgebraChoice,
     shared: &mut SharedGraph,
     stop: &Option<Stop>,
-    ends: (Vertex, Vertex),
+    pair: Pair,
 ) -> Result<Found, i32>
-    requires { HasBoth shared.old.roads ends.0 ends.1 }
+    requires { HasBoth shared.old.roads pair.source pair.target }
     ensures graph { shared.new ≡ shared.old }
     ensures found { Under chosen (λ V A. IfOk result (λ found. IsFoundBetween A
-        shared.old.roads ends.0 ends.1 (found_of found))) }
+        shared.old.roads pair.source pair.target (found_of found))) }
     ensures count { IfOk result (λ found. length found.route.items ≡ found.hops + 1) }
     ensures none { Under chosen (λ V A. IfErr result (λ status. status ≡ pos 1 → IsUnreached A
-        shared.old.roads (ends.0 ∷ []) ends.1)) }
+        shared.old.roads (pair.source ∷ []) pair.target)) }
     ensures stopped { IfErr result (λ status. status ≡ pos 45 → IsSome stop.now) }
     ensures status { IfErr result (IsOneOf (1 ∷ 3 ∷ 45 ∷ [])) }
 {
-    let Ok(near) = find_near(chosen, shared, stop, ends) else {
+    let Ok(near) = find_unless(chosen, shared, stop, pair) else {
         return Err(MEMORY);
     };
     let Nearby::Decided(found) = near else {
@@ -159,18 +160,18 @@ fn answer(
     chosen: AlgebraChoice,
     shared: &mut SharedGraph,
     stop: &Option<Stop>,
-    ends: (Vertex, Vertex),
+    pair: Pair,
     room: &mut RouteRoom<'_>,
 ) -> i32
-    requires { HasBoth shared.old.roads ends.0 ends.1 }
+    requires { HasBoth shared.old.roads pair.source pair.target }
     ensures graph { shared.new ≡ shared.old }
-    ensures tells { Under chosen (λ V A. ReportsRoute A shared.old.roads ends.0 ends.1 result
-        room.new.code.now room.new.hops.now room.new.vertices.now) }
+    ensures tells { Under chosen (λ V A. ReportsRoute A shared.old.roads pair.source pair.target
+        result room.new.code.now room.new.hops.now room.new.vertices.now) }
     ensures written { IsWrittenRoute room.old room.new result }
     ensures stopped { result ≡ pos 45 → IsSome stop.now }
     ensures status { IsOneOf (0 ∷ 1 ∷ 2 ∷ 3 ∷ 45 ∷ []) result }
 {
-    match find(chosen, shared, stop, ends) {
+    match find(chosen, shared, stop, pair) {
         Ok(found) => {
             *room.code = found.code;
             *room.hops = found.hops;
@@ -187,25 +188,25 @@ pub fn answer_route(
     by: AlgebraNumber,
     shared: &mut SharedGraph,
     stop: &Option<Stop>,
-    ends: (Vertex, Vertex),
+    pair: Pair,
     room: &mut RouteRoom<'_>,
 ) -> i32
     ensures graph { shared.new ≡ shared.old }
     ensures tells { IsAnswered result → OfAlgebra by.algebra by.limit (λ V A. ReportsRoute A
-        shared.old.roads ends.0 ends.1 result room.new.code.now room.new.hops.now
+        shared.old.roads pair.source pair.target result room.new.code.now room.new.hops.now
         room.new.vertices.now) }
     ensures written { IsWrittenRoute room.old room.new result }
-    ensures refusals { ReportsRefusals (HasBoth shared.old.roads ends.0 ends.1) by.algebra
+    ensures refusals { ReportsRefusals (HasBoth shared.old.roads pair.source pair.target) by.algebra
         by.limit result }
     ensures stopped { result ≡ pos 45 → IsSome stop.now }
     ensures status { IsOneOf (0 ∷ 1 ∷ 2 ∷ 3 ∷ 17 ∷ 43 ∷ 45 ∷ []) result }
 {
     let graph = shared.graph();
-    if !graph.has(ends.0) || !graph.has(ends.1) {
+    if !graph.has(pair.source) || !graph.has(pair.target) {
         return NO_VERTEX;
     }
     let Some(chosen) = AlgebraChoice::numbered(by.algebra, by.limit) else {
         return NO_ALGEBRA;
     };
-    answer(chosen, shared, stop, ends, room)
+    answer(chosen, shared, stop, pair, room)
 }

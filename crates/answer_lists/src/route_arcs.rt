@@ -13,9 +13,10 @@ use crate::route::{copy, find};
 use crate::shared_graph::SharedGraph;
 use crate::status::{DONE, NO_ALGEBRA, NO_ROOM, NO_VERTEX};
 use arc_numbers::ArcNumbers;
+use factor_routes::Pair;
 use path_algebra::{AlgebraChoice, with_algebra};
 use path_plain::Stop;
-use road_graph::{OutGraph, Vertex};
+use road_graph::OutGraph;
 
 /// Writes the numbers of the arcs of a route that was found by the chosen algebra.
 fn write_arcs(
@@ -83,21 +84,21 @@ fn answer_arcs(
     chosen: AlgebraChoice,
     shared: &mut SharedGraph,
     stop: &Option<Stop>,
-    ends: (Vertex, Vertex),
+    pair: Pair,
     room: &mut RouteArcsRoom<'_>,
 ) -> i32
-    requires both { HasBoth shared.old.roads ends.0 ends.1 }
+    requires both { HasBoth shared.old.roads pair.source pair.target }
     requires numbers { room.old.numbers.now.roads ≡ shared.old.roads }
     ensures graph { shared.new ≡ shared.old }
-    ensures tells { Under chosen (λ V A. ReportsRoute A shared.old.roads ends.0 ends.1 result
-        room.new.code.now room.new.hops.now room.new.vertices.now) }
+    ensures tells { Under chosen (λ V A. ReportsRoute A shared.old.roads pair.source pair.target
+        result room.new.code.now room.new.hops.now room.new.vertices.now) }
     ensures arcs { result ≡ pos 0 → Under chosen (λ V A. HasRouteArcs A room.old.numbers.now.numbered
         room.new) }
     ensures written { IsWrittenArcs room.old room.new result }
     ensures stopped { result ≡ pos 45 → IsSome stop.now }
     ensures status { IsOneOf (0 ∷ 1 ∷ 2 ∷ 3 ∷ 45 ∷ []) result }
 {
-    let found = match find(chosen, shared, stop, ends) {
+    let found = match find(chosen, shared, stop, pair) {
         Ok(found) => found,
         Err(status) => return status,
     };
@@ -126,28 +127,28 @@ pub fn answer_route_arcs(
     by: AlgebraNumber,
     shared: &mut SharedGraph,
     stop: &Option<Stop>,
-    ends: (Vertex, Vertex),
+    pair: Pair,
     room: &mut RouteArcsRoom<'_>,
 ) -> i32
     requires { room.old.numbers.now.roads ≡ shared.old.roads }
     ensures graph { shared.new ≡ shared.old }
     ensures tells { IsAnswered result → OfAlgebra by.algebra by.limit (λ V A. ReportsRoute A
-        shared.old.roads ends.0 ends.1 result room.new.code.now room.new.hops.now
+        shared.old.roads pair.source pair.target result room.new.code.now room.new.hops.now
         room.new.vertices.now) }
     ensures arcs { result ≡ pos 0 → OfAlgebra by.algebra by.limit (λ V A. HasRouteArcs A
         room.old.numbers.now.numbered room.new) }
     ensures written { IsWrittenArcs room.old room.new result }
-    ensures refusals { ReportsRefusals (HasBoth shared.old.roads ends.0 ends.1) by.algebra
+    ensures refusals { ReportsRefusals (HasBoth shared.old.roads pair.source pair.target) by.algebra
         by.limit result }
     ensures stopped { result ≡ pos 45 → IsSome stop.now }
     ensures status { IsOneOf (0 ∷ 1 ∷ 2 ∷ 3 ∷ 17 ∷ 43 ∷ 45 ∷ []) result }
 {
     let graph = shared.graph();
-    if !graph.has(ends.0) || !graph.has(ends.1) {
+    if !graph.has(pair.source) || !graph.has(pair.target) {
         return NO_VERTEX;
     }
     let Some(chosen) = AlgebraChoice::numbered(by.algebra, by.limit) else {
         return NO_ALGEBRA;
     };
-    answer_arcs(chosen, shared, stop, ends, room)
+    answer_arcs(chosen, shared, stop, pair, room)
 }

@@ -12,8 +12,7 @@ ghost use Rattle.answer_lists.specs.Sharing.{factored_for, is_factored, unfactor
 mod searching;
 
 use crate::factored_graph::FactoredGraph;
-use crate::kept_searcher::KeptSearcher;
-use crate::kept_tree::KeptTree;
+use crate::kept::Kept;
 use factor_routes::{RoadFactors, Unfactored};
 use path_algebra::{AlgebraChoice, Cost, PathAlgebra, with_algebra};
 use road_graph::{InGraph, Memory, OutGraph};
@@ -22,8 +21,8 @@ use std::marker::Model;
 use std::sync::Arc;
 
 /// An owner of a graph, of the same by heads if that was made, and of its factors by weights and by
-/// arcs if it was factored; and the searchers of its last route and its last near answer, which no
-/// other owner has.
+/// arcs if it was factored; and what searched for its last route and its last near answer, maybe by
+/// two algebras, which no other owner has.
 #[derive(Drop)]
 pub struct SharedGraph {
     alloc: Global,
@@ -31,8 +30,8 @@ pub struct SharedGraph {
     by_head: Option<Arc<InGraph>>,
     by_weights: Option<FactoredGraph>,
     by_arcs: Option<FactoredGraph>,
-    searcher: Option<Box<KeptSearcher>>,
-    tree: Option<KeptTree>,
+    for_routes: Option<Kept>,
+    for_trees: Option<Kept>,
 }
 
 impl Model for SharedGraph {
@@ -40,8 +39,7 @@ impl Model for SharedGraph {
     ghost use Rattle.std.specs.Arc.{arc_value};
     ghost use Rattle.path_algebra.specs.declared.counted_sums.Cost.TheVariants.{Weight, One};
     ghost use Rattle.answer_lists.specs.Factoring.{IsFactorOf};
-    ghost use Rattle.answer_lists.specs.Kept.{graph_of};
-    ghost use Rattle.answer_lists.specs.KeptTree.{graph_in};
+    ghost use Rattle.answer_lists.specs.Kept.{IsKeptOver};
     ghost use Rattle.answer_lists.specs.Sharing.{Shared};
 
     ghost Value = { Shared };
@@ -55,8 +53,8 @@ impl Model for SharedGraph {
     ghost invariant = { λ s. IfSome s.by_head (λ r. arc_value r ≡ arc_value s.graph)
         × IfSome s.by_weights (IsFactorOf (arc_value s.graph) Weight)
         × IfSome s.by_arcs (IsFactorOf (arc_value s.graph) One)
-        × IfSome s.searcher (λ k. graph_of k.value ≡ arc_value s.graph)
-        × IfSome s.tree (λ k. graph_in k ≡ arc_value s.graph) };
+        × IfSome s.for_routes (IsKeptOver (arc_value s.graph))
+        × IfSome s.for_trees (IsKeptOver (arc_value s.graph)) };
 }
 
 /// One more owner of what is there.
@@ -81,8 +79,8 @@ impl SharedGraph {
             by_head: None,
             by_weights: None,
             by_arcs: None,
-            searcher: None,
-            tree: None,
+            for_routes: None,
+            for_trees: None,
         })
     }
 
@@ -103,8 +101,8 @@ impl SharedGraph {
             by_head,
             by_weights,
             by_arcs,
-            searcher: None,
-            tree: None,
+            for_routes: None,
+            for_trees: None,
         })
     }
 

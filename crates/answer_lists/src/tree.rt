@@ -8,10 +8,11 @@ ghost use Rattle.path_algebra.specs.Walks.{AreBest};
 ghost use Rattle.route_tree.specs.Tree.{IsTree};
 ghost use Rattle.path_plain.specs.Halting.{CanHalt};
 ghost use Rattle.answer_lists.specs.Answers.{IsOneOf, ReportsListRefusals};
+ghost use Rattle.answer_lists.specs.Kept.{AreSearchersOf, IsKeptOver, algebra_of};
 ghost use Rattle.answer_lists.specs.Tree.{AreSameLists, AreUnwritten, HasLowCodes, HavePlacesOrNone, HaveTree, IsAllOrNone};
 
 use crate::algebra_number::AlgebraNumber;
-use crate::near::search;
+use crate::kept::{Kept, Searchers};
 use crate::shared_graph::SharedGraph;
 use crate::sources::{are_vertices, vertices_of};
 use crate::status::{DONE, MEMORY, NO_ALGEBRA, NO_ROOM, NO_VERTEX, STOPPED};
@@ -81,8 +82,60 @@ fn answer<A: PathAlgebra>(
     }
 }
 
-/// Finds a tree by a search with the kept searcher and writes it, unless the search is to give up
-/// before. Whether it is written.
+/// Finds a tree by a search with the kept searcher and writes it, unless the search gives up.
+/// Whether it is written.
+fn write_searched<A: PathAlgebra>(
+    searchers: &mut Searchers<A>,
+    graph: &OutGraph,
+    sources: &[Vertex],
+    halt: &mut Halt<'_>,
+    lists: &mut TreeLists<'_>,
+) -> Result<bool, Memory>
+    requires low { HasLowCodes (A.meaning searchers.old.algebra) }
+    requires over { AreSearchersOf graph.now searchers.old }
+    requires sources { All (HasVertex graph.now) sources.now }
+    requires places { HavePlacesOrNone graph.now.vertices lists.old }
+    ensures over { AreSearchersOf graph.now searchers.new }
+    ensures same { AreSameLists lists.old lists.new }
+    ensures tree { result ≡ Ok true → HaveTree (A.meaning searchers.old.algebra) graph.now
+        sources.now lists.new }
+    ensures kept { (result ≡ Ok true → ⊥) → AreUnwritten lists.old lists.new }
+    ensures halts { result ≡ Ok false → CanHalt halt.old }
+{
+    let algebra = searchers.algebra;
+    let Some(found) = searchers.reach(graph, sources, halt)? else {
+        return Ok(false);
+    };
+    write_found(algebra, graph, sources, &found, lists);
+    searchers.trees = Some(found);
+    Ok(true)
+}
+
+/// The same by what is kept.
+fn write_kept(
+    kept: &mut Kept,
+    graph: &OutGraph,
+    sources: &[Vertex],
+    halt: &mut Halt<'_>,
+    lists: &mut TreeLists<'_>,
+) -> Result<bool, Memory>
+    requires over { IsKeptOver graph.now kept.old }
+    requires sources { All (HasVertex graph.now) sources.now }
+    requires places { HavePlacesOrNone graph.now.vertices lists.old }
+    ensures over { IsKeptOver graph.now kept.new }
+    ensures same { AreSameLists lists.old lists.new }
+    ensures tree { result ≡ Ok true → Under (algebra_of kept.old) (λ V A. HaveTree A graph.now
+        sources.now lists.new) }
+    ensures kept { (result ≡ Ok true → ⊥) → AreUnwritten lists.old lists.new }
+    ensures halts { result ≡ Ok false → CanHalt halt.old }
+{
+    with_kept!(
+        kept,
+        |searchers| write_searched(searchers, graph, sources, halt, lists)
+    )
+}
+
+/// The same by the chosen algebra.
 fn answer_searched(
     chosen: AlgebraChoice,
     shared: &mut SharedGraph,
@@ -99,16 +152,10 @@ fn answer_searched(
     ensures kept { (result ≡ Ok true → ⊥) → AreUnwritten lists.old lists.new }
     ensures halts { result ≡ Ok false → CanHalt halt.old }
 {
-    let (kept, is_found) = search(chosen, shared, sources, halt)?;
-    if is_found {
-        let graph = shared.graph();
-        with_algebra!(
-            chosen,
-            |algebra| write_found(algebra, graph, sources, &kept, lists)
-        );
-    }
-    shared.put_tree(kept);
-    Ok(is_found)
+    let mut kept = shared.take_for_trees(chosen);
+    let is_written = write_kept(&mut kept, shared.graph(), sources, halt, lists);
+    shared.put_for_trees(kept);
+    is_written
 }
 
 /// How many entries a search for a tree on a factored graph takes from its queue, at most, before

@@ -5,15 +5,14 @@ ghost use Rattle.road_graph.specs.GraphData.{HasVertex};
 ghost use Rattle.path_algebra.specs.Walks.{AreBest};
 ghost use Rattle.route_tree.specs.Tree.{IsTree};
 ghost use Rattle.answer_text.specs.IsAnswer.{IsVertexLine};
-ghost use Rattle.answer_lists.specs.KeptTree.{code_in, graph_in, tree_in};
-ghost use Rattle.answer_lists.specs.Near.{HaveLines};
+ghost use Rattle.answer_lists.specs.Near.{HasReached};
 ghost use Rattle.answer_lists.specs.Tree.{AreSameLists, HasLowCodes, HavePlacesOrNone, HaveTree, line_of, number_for};
 
 use crate::codes::code_for;
-use crate::kept_tree::KeptTree;
 use path_algebra::{Labels, PathAlgebra, laws_hold};
 use road_graph::{OutGraph, Vertex};
 use route_tree::{Tree, labels_and_trees_agree};
+use tree_search::TreeSearcher;
 
 /// The three lists of a tree, as a caller lends them to be written: the code, the hops and the
 /// parent of each vertex. A list without places is not wanted.
@@ -110,24 +109,22 @@ pub(crate) fn write_lists<A: PathAlgebra>(
 
 /// Writes the tree that a kept searcher found to the lists that are wanted.
 pub(crate) fn write_found<A: PathAlgebra>(
-    _algebra: A,
+    algebra: A,
     graph: &OutGraph,
     sources: &[Vertex],
-    kept: &KeptTree,
+    found: &TreeSearcher<A>,
     lists: &mut TreeLists<'_>,
 )
-    requires graph { graph_in kept.now ≡ graph.now }
     requires places { HavePlacesOrNone graph.now.vertices lists.old }
-    requires lines { HaveLines (A.meaning _algebra) graph.now sources.now (code_in kept.now)
-        (tree_in kept.now) }
+    requires found { HasReached (A.meaning algebra) graph.now sources.now found.now }
     ensures same { AreSameLists lists.old lists.new }
-    ensures tree { HaveTree (A.meaning _algebra) graph.now sources.now lists.new }
+    ensures tree { HaveTree (A.meaning algebra) graph.now sources.now lists.new }
 {
     graph.holds();
     for i in 0..graph.vertices() as usize {
         let v = Vertex(i as u32 + 1);
-        put(lists.codes, i, kept.code(v));
-        put(lists.hops, i, kept.hops(v));
-        put(lists.parents, i, kept.parent(v));
+        put(lists.codes, i, code_for(algebra, found.value(v)));
+        put(lists.hops, i, hops_for(found.hops(v)));
+        put(lists.parents, i, parent_for(found.parent(v)));
     }
 }

@@ -16,6 +16,7 @@ use crate::handle::{DiffuseGraph, put, take};
 use crate::status::{CLOSED, NO_NUMBERS, OTHER_ARCS};
 use answer_lists::{AlgebraNumber, DONE, MEMORY, RouteArcsRoom, answer_route_arcs};
 use arc_numbers::ArcNumbers;
+use factor_routes::Pair;
 use road_graph::{Memory, OutGraph, Vertex};
 use std::alloc::Global;
 
@@ -121,7 +122,10 @@ pub extern "C" fn diffuse_graph_route_arcs(
     };
     let stop = &parts.stop;
     let by = AlgebraNumber { algebra, limit };
-    let ends = (Vertex(source), Vertex(target));
+    let pair = Pair {
+        source: Vertex(source),
+        target: Vertex(target),
+    };
     let mut lent = RouteArcsRoom {
         code,
         hops,
@@ -129,7 +133,7 @@ pub extern "C" fn diffuse_graph_route_arcs(
         numbers,
         arcs,
     };
-    let status = answer_route_arcs(by, &mut parts.shared, stop, ends, &mut lent);
+    let status = answer_route_arcs(by, &mut parts.shared, stop, pair, &mut lent);
     put(handle, owner);
     status
 }

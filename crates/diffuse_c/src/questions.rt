@@ -16,6 +16,7 @@ use answer_lists::{
     AlgebraNumber, FirstRefuted, ListedTree, RouteRoom, TreeLists, answer_route, answer_tree,
     check_tree,
 };
+use factor_routes::Pair;
 use road_graph::Vertex;
 use std::alloc::Global;
 
@@ -51,13 +52,16 @@ pub extern "C" fn diffuse_graph_route(
     };
     let Owner { shared, stop, .. } = &mut *owner;
     let by = AlgebraNumber { algebra, limit };
-    let ends = (Vertex(source), Vertex(target));
+    let pair = Pair {
+        source: Vertex(source),
+        target: Vertex(target),
+    };
     let mut lent = RouteRoom {
         code,
         hops,
         vertices: room,
     };
-    let status = answer_route(by, shared, stop, ends, &mut lent);
+    let status = answer_route(by, shared, stop, pair, &mut lent);
     put(handle, owner);
     status
 }

@@ -17,6 +17,7 @@ mod reweighed;
 mod road_factors;
 mod solve;
 
-pub use near::near_halt;
+pub use near::find_near;
+pub use pairs::Pair;
 pub use reweighed::Unweighed;
 pub use road_factors::{RoadFactors, RouteAsker, Unfactored};

@@ -15,6 +15,13 @@ use road_graph::{InGraph, Memory, Vertex};
 use route_tree::{Found, trees_exist};
 use std::alloc::{AllocError, Global};
 
+/// The two ends of a route that is asked for.
+#[derive(Clone, Copy)]
+pub struct Pair {
+    pub source: Vertex,
+    pub target: Vertex,
+}
+
 impl RoadFactors {
     /// Begins with a source: from now on the asker is asked for walks from there. It takes back
     /// what it found before.
@@ -97,29 +104,29 @@ impl RoadFactors {
         algebra: A,
         by_head: &InGraph,
         asker: &mut RouteAsker,
-        pair: (Vertex, Vertex),
+        pair: Pair,
     ) -> Result<Option<Found>, Memory>
         requires by_head { by_head.now ≡ self.now.roads }
         requires carried { IsCarried (A.meaning algebra) (cost_of self.now.algebra.cost) }
         requires same { asker.old.factors ≡ self.now }
-        requires source { HasVertex self.now.roads pair.0 }
-        requires target { HasVertex self.now.roads pair.1 }
+        requires source { HasVertex self.now.roads pair.source }
+        requires target { HasVertex self.now.roads pair.target }
         ensures same { asker.new.factors ≡ asker.old.factors }
-        ensures found { IfOk result (IsPairFound (A.meaning algebra) self.now.roads pair.0 pair.1) }
+        ensures found { IfOk result (IsPairFound (A.meaning algebra) self.now.roads pair.source
+            pair.target) }
     {
         self.holds();
         self.numbers_exist();
         best_values_exist(algebra);
         trees_exist(algebra);
-        let (source, target) = pair;
-        self.begin(asker, source);
-        let Some(number) = self.number(asker, target)? else {
+        self.begin(asker, pair.source);
+        let Some(number) = self.number(asker, pair.target)? else {
             return Ok(None);
         };
         let Some(value) = self.value_in(algebra, number) else {
             return Ok(None);
         };
-        let route = self.route_back(alloc, by_head, asker, (target, number))?;
+        let route = self.route_back(alloc, by_head, asker, (pair.target, number))?;
         Ok(Some(Found {
             code: algebra.code(value),
             hops: self.hops_in(number),

@@ -3,7 +3,7 @@
 
 ghost use Rattle.std.specs.Prelude.{◌≤◌};
 
-use factor_routes::{RoadFactors, RouteAsker, Unfactored};
+use factor_routes::{Pair, RoadFactors, RouteAsker, Unfactored};
 use path_algebra::{Labels, PathAlgebra};
 use path_trials::is_found;
 use road_graph::{Graph, InGraph, Memory, Vertex};
@@ -91,7 +91,10 @@ impl<A: PathAlgebra> Roads<A> {
         source: u32,
         target: u32,
     ) -> Result<Option<Found>, Memory> {
-        let pair = (self.vertex(rt, source), self.vertex(rt, target));
+        let pair = Pair {
+            source: self.vertex(rt, source),
+            target: self.vertex(rt, target),
+        };
         let (alloc, algebra) = (rt.alloc(), self.algebra);
         self.factors
             .find(alloc, algebra, &self.rows, &mut self.asker, pair)

@@ -6,7 +6,7 @@ use crate::ahead::{add_next, add_runs, advance};
 use crate::pair_search::{answer_of_pair, pair_at};
 use crate::searched::{Searched, add};
 use crate::task::FactoredTask;
-use factor_routes::RouteAsker;
+use factor_routes::{Pair, RouteAsker};
 use path_algebra::PathAlgebra;
 use rayon::prelude::*;
 use road_graph::Memory;
@@ -32,10 +32,10 @@ fn ask_at<A: PathAlgebra, R>(
     ensures solved { IfOk result (IsFoundIn A.meaning factored.now.over.now place) }
 {
     let (task, by_head) = (factored.over.task, factored.by_head);
-    let (source, target) = pair_at(task.questions, place);
-    let factors = factored.factors;
-    let found = factors.find(task.alloc, task.algebra, by_head, asker, (source, target))?;
-    Ok(answer_of_pair(place, (source, target), found))
+    let Pair { source, target } = pair_at(factored.over, place);
+    let (factors, pair) = (factored.factors, Pair { source, target });
+    let found = factors.find(task.alloc, task.algebra, by_head, asker, pair)?;
+    Ok(answer_of_pair(place, Pair { source, target }, found))
 }
 
 /// What the pairs from a place on are solved to, as many as `each`, by an asker of their own.

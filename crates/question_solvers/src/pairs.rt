@@ -131,11 +131,11 @@ pub(crate) fn find_for<A: PathAlgebra, R>(
     ensures pool { IsPoolIn pairs.now.over.now pool.new.items }
 {
     grow(pairs.over, pool, 1)?;
-    let (source, _) = pair_at(pairs.over.task.questions, i);
-    Ok(find_from(pool.as_slice(), source))
+    let pair = pair_at(pairs.over, i);
+    Ok(find_from(pool.as_slice(), pair.source))
 }
 
-/// Solves the pair at a place by one of a pool, by a search that may give up: none if it does.
+/// Solves the pair at a place by one of a pool if it is near: none if the factors are to be asked.
 pub(crate) fn search_near<A: PathAlgebra, R>(
     pairs: &PairTask<'_, A, R>,
     i: usize,
@@ -147,5 +147,5 @@ pub(crate) fn search_near<A: PathAlgebra, R>(
     ensures pool { IsPoolIn pairs.now.over.now pool.new.items }
 {
     let k = find_for(pairs, i, pool)?;
-    solve_near_at(&mut pool[k].searcher, pairs, i)
+    Ok(solve_near_at(&mut pool[k].searcher, pairs, i))
 }

@@ -2,35 +2,32 @@
 
 ghost use Rattle.std.specs.Prelude.{◌≡◌, IfOk};
 ghost use Rattle.path_algebra.specs.Choices.{Under};
-ghost use Rattle.path_plain.specs.Halting.{CanHalt};
 ghost use Rattle.route_tree.specs.Found.{IsFoundIfNear};
 ghost use Rattle.route_tree.specs.declared.found.Nearby.TheVariants.{Undecided};
 ghost use Rattle.answer_lists.specs.Answers.{HasBoth};
-ghost use Rattle.answer_lists.specs.Kept.{IsKeptFor};
-ghost use Rattle.answer_lists.specs.KeptTree.{IsTreeKeptFor, graph_in};
+ghost use Rattle.answer_lists.specs.Kept.{IsKeptOver, MayGiveUp, algebra_of};
 
-use crate::kept_searcher::KeptSearcher;
-use crate::kept_tree::KeptTree;
+use crate::kept::{Kept, Until};
 use crate::shared_graph::SharedGraph;
+use factor_routes::Pair;
 use path_algebra::AlgebraChoice;
-use path_plain::Halt;
-use road_graph::{InGraph, Memory, Vertex};
+use road_graph::{InGraph, Memory};
 use route_tree::Nearby;
-use std::alloc::AllocError;
 
 impl SharedGraph {
-    /// Takes the searcher out if it serves this algebra. Else it is freed, and another is made.
-    fn take_searcher(&mut self, chosen: AlgebraChoice) -> Result<Box<KeptSearcher>, Memory>
-        ensures kept { self.new ≡ self.old }
-        ensures searcher { IfOk result (λ k. IsKeptFor chosen self.old.roads k.value) }
+    /// Takes out what searches for pairs, if it can by this algebra. Else it is freed, and another
+    /// is made.
+    fn take_for_routes(&mut self, chosen: AlgebraChoice) -> Kept
+        ensures same { self.new ≡ self.old }
+        ensures by { algebra_of result ≡ chosen }
+        ensures over { IsKeptOver self.old.roads result }
     {
-        if let Some(mut searcher) = self.searcher.take() {
-            if searcher.turn_to(chosen) {
-                return Ok(searcher);
+        if let Some(mut kept) = self.for_routes.take() {
+            if kept.turn_to(chosen) {
+                return kept;
             }
         }
-        let searcher = KeptSearcher::new(self.alloc, chosen, &self.graph)?;
-        Ok(Box::new(self.alloc, searcher).map_err(AllocError::from)?)
+        Kept::new(self.alloc, chosen)
     }
 
     /// Searches for the best code and the route, none if no walk to the target has a value; or
@@ -40,41 +37,41 @@ impl SharedGraph {
         &mut self,
         chosen: AlgebraChoice,
         by_head: &InGraph,
-        ends: (Vertex, Vertex),
-        halt: &mut Halt<'_>,
+        pair: Pair,
+        until: Until<'_>,
     ) -> Result<Nearby, Memory>
         requires by_head { by_head.now ≡ self.old.roads }
-        requires ends { HasBoth self.old.roads ends.0 ends.1 }
+        requires pair { HasBoth self.old.roads pair.source pair.target }
         ensures kept { self.new ≡ self.old }
-        ensures found { Under chosen (λ V A. IfOk result (IsFoundIfNear A self.old.roads ends.0
-            ends.1)) }
-        ensures halts { IfOk result (λ near. near ≡ Undecided → CanHalt halt.old) }
+        ensures found { Under chosen (λ V A. IfOk result (IsFoundIfNear A self.old.roads pair.source
+            pair.target)) }
+        ensures gives_up { IfOk result (λ near. near ≡ Undecided → MayGiveUp until.entry) }
     {
-        let mut searcher = self.take_searcher(chosen)?;
-        let found = searcher.route(&self.graph, by_head, ends, halt);
-        self.searcher = Some(searcher);
-        found
+        let mut kept = self.take_for_routes(chosen);
+        let near = kept.route(&self.graph, by_head, pair, until);
+        self.for_routes = Some(kept);
+        near
     }
 
-    /// Takes the searcher for trees out if it serves this algebra. Else it is freed, and another is
-    /// made.
-    pub(crate) fn take_tree(&mut self, chosen: AlgebraChoice) -> Result<KeptTree, Memory>
-        ensures kept { self.new ≡ self.old }
-        ensures tree { IfOk result (IsTreeKeptFor chosen self.old.roads) }
+    /// Takes out what searches for trees in the same way.
+    pub(crate) fn take_for_trees(&mut self, chosen: AlgebraChoice) -> Kept
+        ensures same { self.new ≡ self.old }
+        ensures by { algebra_of result ≡ chosen }
+        ensures over { IsKeptOver self.old.roads result }
     {
-        if let Some(mut tree) = self.tree.take() {
-            if tree.turn_to(chosen) {
-                return Ok(tree);
+        if let Some(mut kept) = self.for_trees.take() {
+            if kept.turn_to(chosen) {
+                return kept;
             }
         }
-        KeptTree::new(self.alloc, chosen, &self.graph)
+        Kept::new(self.alloc, chosen)
     }
 
-    /// Puts a searcher for trees in.
-    pub(crate) fn put_tree(&mut self, tree: KeptTree)
-        requires { graph_in tree ≡ self.old.roads }
+    /// Puts what searches for trees in.
+    pub(crate) fn put_for_trees(&mut self, kept: Kept)
+        requires { IsKeptOver self.old.roads kept }
         ensures { self.new ≡ self.old }
     {
-        self.tree = Some(tree);
+        self.for_trees = Some(kept);
     }
 }

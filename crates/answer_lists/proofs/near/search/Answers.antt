@@ -1,18 +1,10 @@
-use Rattle.std.proofs.Common.{◌≡◌, ◌∙◌, ap, subst}
-use Rattle.std.specs.Prelude.{IfOk, IsTrue}
-use Rattle.road_graph.specs.GraphData.{GraphData}
-use Rattle.path_algebra.specs.Choices.{Under}
-use Rattle.path_algebra.specs.declared.choice.AlgebraChoice.{AlgebraChoice}
-use Rattle.answer_lists.specs.KeptTree.{algebra_in, code_in, tree_in}
-use Rattle.answer_lists.specs.Near.{HaveLines}
-use Rattle.answer_lists.specs.Sharing.{Shared}
+use Rattle.answer_lists.specs.Near.{HasReached}
+use Rattle.answer_lists.proofs.NearListed.{done_is, found_listed}
 use Rattle.answer_lists.proofs.near.search.Goals as goal
 
-pub returns-clause-all : goal.returns-clause-all
-returns-clause-all c =
-    let same : c.graph.result.now ≡ c.args.shared.now.roads = c.graph.ensures ∙ ap (λ (s : Shared). s.roads) c.take_tree.ensures.kept in
-    let here : Under (algebra_in c.in_ok-kept.kept) (λ V A. IfOk c.solve.result (λ k. IsTrue k.1 → HaveLines A c.args.shared.now.roads c.args.sources.now (code_in k.0) (tree_in k.0))) =
-    subst (λ (x : GraphData). Under (algebra_in c.in_ok-kept.kept) (λ V A. IfOk c.solve.result (λ k. IsTrue k.1 → HaveLines A x c.args.sources.now (code_in k.0) (tree_in k.0)))) same
-    c.solve.ensures.all in
-    subst (λ (a : AlgebraChoice). Under a (λ V A. IfOk c.solve.result (λ k. IsTrue k.1 → HaveLines A c.args.shared.now.roads c.args.sources.now (code_in k.0) (tree_in k.0)))) c.in_ok-kept.ensures.tree.by
-    here
+pub returns-in-Ok-Some-clause-lists : goal.returns-in-Ok-Some-clause-lists
+returns-in-Ok-Some-clause-lists g c =
+    let a = c.args in let A = g.A.PathAlgebra.meaning a.searchers.now.algebra in let t = c.in-Ok-Some.found in let written = c.write_lists-status.ensures in
+    let reached : HasReached A a.graph.now a.sources.now t = rw c.in-Ok-Some.field-0-is at c.in-Ok-Some.ensures.found in
+    λ status. let done = done_is c.write_lists-status.result written.found status in
+    found_listed A a.graph.now a.sources.now t reached _ written.count _ _ _ _ (written.vertices done) (written.codes done) (written.hops done) (written.parents done)

@@ -2,16 +2,8 @@ use Rattle.std.proofs.Common.{subst}
 use Rattle.route_tree.specs.Found.{IsPairFound}
 use Rattle.question_solvers.proofs.pair_search.solve_at.Goals as goal
 
-pub solve-requires-clause-source : goal.solve-requires-clause-source
-solve-requires-clause-source g c κs within = let over = c.args.pairs.now.over.now in
-    (c.pair_at-source.ensures.within over.graph.now.vertices (record { few = over.few; within = over.within })).0
-
-pub solve-requires-clause-target : goal.solve-requires-clause-target
-solve-requires-clause-target g c κs within = let over = c.args.pairs.now.over.now in
-    (c.pair_at-source.ensures.within over.graph.now.vertices (record { few = over.few; within = over.within })).1
-
 pub returns-clause-solved : goal.returns-clause-solved
 returns-clause-solved g c =
     let pair = c.pair_at-source.result in
-    let right = subst (λ a. IsPairFound (g.A.PathAlgebra.meaning a) c.args.pairs.now.over.now.graph.now pair.0 pair.1 c.in_ok-found.found) c.requires.searcher.by c.in_ok-found.ensures.found in
+    let right = subst (λ a. IsPairFound (g.A.PathAlgebra.meaning a) c.args.pairs.now.over.now.graph.now pair.source pair.target c.in_ok-found.found) c.requires.searcher.by c.in_ok-found.ensures.found in
     c.answer_of_pair.ensures _ _ _ c.pair_at-source.ensures.asked right

@@ -10,8 +10,7 @@ use denote.RawPtr.{Ptr, block_ptr, null_ptr, lies_at}
 use denote.Param.Send.{IsSend, owning_send, part_keyless, sendable}
 use Rattle.std.proofs.Crossing.{crosses, frees}
 use Rattle.answer_lists.specs.Sharing.{Shared}
-use Rattle.answer_lists.specs.contracts.kept_searcher.KeptSearcher as kept
-use Rattle.answer_lists.specs.contracts.kept_tree.KeptTree as kept_tree
+use Rattle.answer_lists.specs.contracts.kept.Kept as kept
 use Rattle.path_plain.specs.declared.halt.Stop.{Stop}
 use Rattle.arc_numbers.specs.Numbering.{Numbering}
 use Rattle.path_plain.specs.contracts.halt.Stop as stop
@@ -27,11 +26,8 @@ lies R s null_ptr x = tt
 searching : IsSend kept.the_row
 searching = search (sendable, crosses) depth 60 fits 100000
 
-growing : IsSend kept_tree.the_row
-growing = search (sendable, crosses) depth 60 fits 100000
-
 sharing : IsSend shared.the_row
-sharing = search (sendable, crosses, searching, growing) depth 60 fits 100000
+sharing = search (sendable, crosses, searching) depth 60 fits 100000
 
 stopping : IsSend stop.the_row
 stopping = search (sendable, crosses) depth 60 fits 100000

@@ -16,46 +16,46 @@ use Rattle.factor_routes.proofs.road_factors.RoadFactors.find.Goals as goal
 pub returns-in_default-clause-found : goal.returns-in_default-clause-found
 returns-in_default-clause-found g c =
     let f = c.args.self.now in
-    let sources = c.args.pair.0 ∷ [] in
-    let inside = All-cons (HasVertex f.roads) c.args.pair.0 [] c.requires.source (All-nil (HasVertex f.roads)) in
+    let sources = c.args.pair.source ∷ [] in
+    let inside = All-cons (HasVertex f.roads) c.args.pair.source [] c.requires.source (All-nil (HasVertex f.roads)) in
     let carry = c.requires.carried f.roads sources f.algebra.bits c.holds.ensures.roads inside c.holds.ensures.fits in
     let best = c.in_ok-number.ensures.best sources (c.begin.ensures.same ∙ c.requires.same, c.begin.ensures.source) in
-    carry.labels c.args.pair.1 None (subst (λ (l : Option ℕ). IsBestLabel (numbers_of f) f.roads sources c.args.pair.1 l) c.in_default.is best)
+    carry.labels c.args.pair.target None (subst (λ (l : Option ℕ). IsBestLabel (numbers_of f) f.roads sources c.args.pair.target l) c.in_default.is best)
 
 pub returns-in_default-value_in-clause-found : goal.returns-in_default-value_in-clause-found
 returns-in_default-value_in-clause-found g c =
     let f = c.args.self.now in
     let A = g.A.PathAlgebra.meaning c.args.algebra in
-    let sources = c.args.pair.0 ∷ [] in
-    let inside = All-cons (HasVertex f.roads) c.args.pair.0 [] c.requires.source (All-nil (HasVertex f.roads)) in
+    let sources = c.args.pair.source ∷ [] in
+    let inside = All-cons (HasVertex f.roads) c.args.pair.source [] c.requires.source (All-nil (HasVertex f.roads)) in
     let carry = c.requires.carried f.roads sources f.algebra.bits c.holds.ensures.roads inside c.holds.ensures.fits in
     let best = c.in_ok-number.ensures.best sources (c.begin.ensures.same ∙ c.requires.same, c.begin.ensures.source) in
-    let at = subst (λ (l : Option ℕ). IsBestLabel (numbers_of f) f.roads sources c.args.pair.1 l) c.in-Some.is best in
-    subst (IsBestLabel A f.roads sources c.args.pair.1) (sym c.value_in.ensures ∙ c.in_default-value_in.is) (carry.labels c.args.pair.1 (Some c.in-Some.number) at)
+    let at = subst (λ (l : Option ℕ). IsBestLabel (numbers_of f) f.roads sources c.args.pair.target l) c.in-Some.is best in
+    subst (IsBestLabel A f.roads sources c.args.pair.target) (sym c.value_in.ensures ∙ c.in_default-value_in.is) (carry.labels c.args.pair.target (Some c.in-Some.number) at)
 
 pub route_back-requires-clause-number : goal.route_back-requires-clause-number
 route_back-requires-clause-number g c =
     let f = c.args.self.now in
-    let sources = c.args.pair.0 ∷ [] in
+    let sources = c.args.pair.source ∷ [] in
     let best = c.in_ok-number.ensures.best sources (c.begin.ensures.same ∙ c.requires.same, c.begin.ensures.source) in
     let kept = c.number.ensures.kept sources (c.begin.ensures.same ∙ c.requires.same, c.begin.ensures.source) in
-    subst (λ (s : List ℕ). IsBest (numbers_of f) f.roads s c.args.pair.1 c.in-Some.number) (sym kept.1)
-    (subst (IsBestLabel (numbers_of f) f.roads sources c.args.pair.1) c.in-Some.is best)
+    subst (λ (s : List ℕ). IsBest (numbers_of f) f.roads s c.args.pair.target c.in-Some.number) (sym kept.1)
+    (subst (IsBestLabel (numbers_of f) f.roads sources c.args.pair.target) c.in-Some.is best)
 
 pub route_back-requires-clause-same : goal.route_back-requires-clause-same
 route_back-requires-clause-same g c =
-    (c.number.ensures.kept (c.args.pair.0 ∷ []) (c.begin.ensures.same ∙ c.requires.same, c.begin.ensures.source)).0
+    (c.number.ensures.kept (c.args.pair.source ∷ []) (c.begin.ensures.same ∙ c.requires.same, c.begin.ensures.source)).0
 
 pub returns-in_err-route-clause-same : goal.returns-in_err-route-clause-same
 returns-in_err-route-clause-same g c =
     c.route_back.ensures.same
-    ∙ (c.number.ensures.kept (c.args.pair.0 ∷ []) (c.begin.ensures.same ∙ c.requires.same, c.begin.ensures.source)).0
+    ∙ (c.number.ensures.kept (c.args.pair.source ∷ []) (c.begin.ensures.same ∙ c.requires.same, c.begin.ensures.source)).0
     ∙ sym c.requires.same
 
 pub returns-clause-same : goal.returns-clause-same
 returns-clause-same g c =
     c.route_back.ensures.same
-    ∙ (c.number.ensures.kept (c.args.pair.0 ∷ []) (c.begin.ensures.same ∙ c.requires.same, c.begin.ensures.source)).0
+    ∙ (c.number.ensures.kept (c.args.pair.source ∷ []) (c.begin.ensures.same ∙ c.requires.same, c.begin.ensures.source)).0
     ∙ sym c.requires.same
 
 pub returns-clause-found : goal.returns-clause-found
@@ -64,10 +64,10 @@ returns-clause-found g c =
     let A = g.A.PathAlgebra.meaning c.args.algebra in
     let cost = cost_of f.algebra.cost in
     let roads = c.holds.ensures.roads in
-    let sources = c.args.pair.0 ∷ [] in
-    let target = c.args.pair.1 in
+    let sources = c.args.pair.source ∷ [] in
+    let target = c.args.pair.target in
     let y = c.in-Some.number in
-    let inside = All-cons (HasVertex f.roads) c.args.pair.0 [] c.requires.source (All-nil (HasVertex f.roads)) in
+    let inside = All-cons (HasVertex f.roads) c.args.pair.source [] c.requires.source (All-nil (HasVertex f.roads)) in
     let carry = c.requires.carried f.roads sources f.algebra.bits roads inside c.holds.ensures.fits in
     let numbers = c.numbers_exist.ensures sources inside in
     let number : ℕ → Option ℕ = label_of numbers.0 in
@@ -89,9 +89,9 @@ returns-clause-found g c =
     let told = carrying.route_told A f.roads roads sources cost f.algebra.bits carry number best tree.0 tree.1 target y c.requires.target at some list back
     c.hops_in.result c.hops_in.ensures.hops in
     let found : FoundData = record { code = c.code.result; hops = c.hops_in.result; route = list } in
-    let right : IsFoundBetween A f.roads c.args.pair.0 target found = record {
+    let right : IsFoundBetween A f.roads c.args.pair.source target found = record {
       code = (c.in-Some-value_in.value, value, c.code.ensures);
       hops = told.0;
-      route = from_one A f.roads c.args.pair.0 target list told.1;
+      route = from_one A f.roads c.args.pair.source target list told.1;
     } in
     right

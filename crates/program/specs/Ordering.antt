@@ -1,12 +1,14 @@
 -- What the command `order` does.
-use Rattle.std.specs.Prelude.{◌≡◌, ℕ, ◌⊎◌, [], ◌∷◌, Some, Result, Ok, Err}
+use Rattle.std.specs.Prelude.{◌≡◌, ℕ, ◌⊎◌, [], ◌∷◌, length, Some, Result, Ok, Err}
 use Rattle.road_graph.specs.GraphData.{GraphData}
 use Rattle.text_lines.specs.declared.faults.ReadFault.{ReadFault}
 use Rattle.text_lines.specs.Reads.{ReadsText}
 use Rattle.text_lines.specs.Streams.{Input, Output}
 use Rattle.graph_text.specs.GraphFiles.{gr_rules}
 use Rattle.order_files.specs.WrittenOrders.{places_text}
+use Rattle.elimination_order.specs.Bounds.{IsTooDense}
 use Rattle.elimination_order.specs.Found.{IsFoundOn}
+use Rattle.elimination_order.specs.declared.counts.Counts.{Counts}
 use Rattle.elimination_order.specs.declared.care.Care.TheVariants.{Careful}
 use Rattle.elimination_order.specs.declared.ordered.FoundOrder.{FoundOrder}
 use Rattle.batch_inputs.specs.declared.faults.File.TheVariants.{Graph}
@@ -19,21 +21,25 @@ use Rattle.program.specs.Commands.{IsRefused}
 use Rattle.command_files.specs.Moments.{Moment}
 use Rattle.command_files.specs.Opening.{AreOpened, IsMissing, Tries, inputs_ordered}
 
--- nothing was written: the graph was too dense to factor, or memory was refused
-abbrev pub HasNoOrder : {W : Type 0} → Output W → Output W → Result (Unit {0}) RunFault → Type 0
-HasNoOrder out out_after (Ok _) = ⊥
-HasNoOrder out out_after (Err f) = (out_after ≡ out) × ((f ≡ run_fault 44) ⊎ (f ≡ run_fault 3))
+-- by these counts of its elimination the graph has too many links or triangles, or took too long
+abbrev pub IsTooDenseFor : GraphData → Counts → Type 0
+IsTooDenseFor g counts = IsTooDense g.vertices (length g.arcs) counts
+
+-- nothing was written: the graph was given up by some counts, or memory was refused
+abbrev pub HasNoOrder : {W : Type 0} → (GivesUp : Counts → Type 0) → Output W → Output W → Result (Unit {0}) RunFault → Type 0
+HasNoOrder GivesUp out out_after (Ok _) = ⊥
+HasNoOrder GivesUp out out_after (Err f) = (out_after ≡ out) × (((f ≡ run_fault 44) × (counts : Counts) × GivesUp counts) ⊎ (f ≡ run_fault 3))
 
 -- the output has the places of the vertices in an order that was found on this graph with care, or a
 -- write of them failed; or nothing was written
-abbrev pub WritesPlaces : {W : Type 0} → GraphData → Output W → Output W → Result (Unit {0}) RunFault → Type 0
-WritesPlaces g out out_after outcome =
+abbrev pub WritesPlaces : {W : Type 0} → (GivesUp : Counts → Type 0) → GraphData → Output W → Output W → Result (Unit {0}) RunFault → Type 0
+WritesPlaces GivesUp g out out_after outcome =
     ((found : FoundOrder) × IsFoundOn g (Some Careful) found × Reaches (places_text found.order.places.items) out out_after outcome)
-    ⊎ HasNoOrder out out_after outcome
+    ⊎ HasNoOrder GivesUp out out_after outcome
 
 -- the vertices of a graph that was read were ordered; a fault of the graph is that of the command
 abbrev pub OrdersRead : {W : Type 0} → Result GraphData ReadFault → Output W → Output W → Result (Unit {0}) RunFault → Type 0
-OrdersRead (Ok g) out out_after outcome = WritesPlaces g out out_after outcome
+OrdersRead (Ok g) out out_after outcome = WritesPlaces (IsTooDenseFor g) g out out_after outcome
 OrdersRead (Err f) out out_after outcome = (outcome ≡ Err (record { number = f.number; file = Graph; line = f.line })) × (out_after ≡ out)
 
 -- a graph was read, and its vertices were ordered

@@ -53,6 +53,10 @@ abbrev pub left_after : ℕ → Progress → ℕ
 left_after left (Gathered question source tally) = left - tally.sent
 left_after left _ = left
 
+-- after so many messages faster solvers are named
+abbrev pub patience : ℕ
+patience = 10000000
+
 -- the line that names faster solvers, if so many messages are those that were left until then
 abbrev pub hint : ℕ → ℕ → List ℕ
 hint left sent = if nat_lt 0 left && leb left sent then codes "diffuse: ten million messages sent; --plain or --factors writes the same bytes sooner" ++ 10 ∷ [] else []

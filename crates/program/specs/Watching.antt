@@ -8,7 +8,7 @@ use Rattle.text_lines.specs.Streams.{Output}
 use Rattle.path_algebra.specs.Choices.{Under, name_of}
 use Rattle.program.specs.declared.watch.watcher.CommandWatcher.{CommandWatcher}
 use Rattle.program.specs.Accounts.{account_of, accounts_text}
-use Rattle.program.specs.Progress.{all_after, left_after, progress_text, shown_at}
+use Rattle.program.specs.Progress.{all_after, left_after, patience, progress_text, shown_at}
 use Rattle.fault_reports.specs.Reports.{EndsAs, Reaches, run_fault}
 use Rattle.command_files.specs.Added.{IsAdded}
 use Rattle.program.specs.Runs.{Given, RanUnder}
@@ -83,7 +83,7 @@ pub record EndsWatched {W A E : Type 0} (given : Given) (progress : Bool) (out o
   pub kept : Result (Unit {0}) RunFault
   pub accounted : Account (accounts_text (name_of given.chosen) reports) accounts accounts_after kept
   pub watched : Output E
-  pub shown : IsAddedIf (λ e. e) progress errors watched (progress_text 0 10000000 reports)
+  pub shown : IsAddedIf (λ e. e) progress errors watched (progress_text 0 patience reports)
   pub ends : EndsAs (λ _. 0) watched errors_after (outcome_of outcome kept) result
   -- with one shard, best first, and a limit of turns that is enough for every graph, as the usual
   -- one is, the exit status is not that of a limit

@@ -4,4 +4,5 @@ mod accounts;
 mod progress;
 mod watcher;
 
-pub(crate) use watcher::{CommandWatcher, PATIENCE};
+pub(crate) use progress::PATIENCE;
+pub(crate) use watcher::CommandWatcher;

@@ -6,6 +6,9 @@ ghost use Rattle.command_files.specs.Added.{IsAdded};
 use batch_run::{Counts, Factoring, NoFactors, Progress};
 use text_lines::{Line, RoadWrite, push_number, write_bytes};
 
+/// After so many messages faster solvers are named: some seconds.
+pub(crate) const PATIENCE: u64 = 10_000_000;
+
 /// The line that names faster solvers.
 const HINT: &str =
     "diffuse: ten million messages sent; --plain or --factors writes the same bytes sooner\n";

@@ -11,9 +11,6 @@ use command_files::{FileSystem, Phase};
 use path_algebra::AlgebraName;
 use text_lines::RoadWrite;
 
-/// After so many messages faster solvers are named: some seconds.
-pub(crate) const PATIENCE: u64 = 10_000_000;
-
 /// A watcher of a batch.
 #[derive(Drop)]
 pub(crate) struct CommandWatcher<'a, 'f, A, E, P> {

@@ -18,3 +18,4 @@ mod WrittenReports
 mod Watching
 mod Telling
 mod Flushing
+mod Sending

@@ -5,7 +5,7 @@ use Rattle.std.specs.List.{AllZip, flat_map}
 use Rattle.std.proofs.lemmas.Bool.{false≢true}
 use Rattle.std.proofs.lemmas.List.{take_all, take_more, map-append}
 use Rattle.std.proofs.lemmas.List.Concat.{flat_map-cons}
-use Rattle.road_graph.specs.GraphData.{GraphData}
+use Rattle.road_graph.specs.GraphData.{GraphData, HasVertex}
 use Rattle.road_files.specs.Asked.{Question}
 use Rattle.path_algebra.specs.Algebra.{Algebra}
 use Rattle.path_algebra.specs.Walks.{AreBest}
@@ -43,6 +43,9 @@ module _ {S V : Type 0} (meaning : S → Algebra V) where
     -- so are the labels
     pub are_best : AreBest (meaning algebra) g (e.source ∷ []) found.labels
     are_best = best_of (setup_of algebra g e.source plan (order_of how)) found gathered_of
+
+    pub has_source : HasVertex g e.source
+    has_source = gathered_of.source
 
     pub is_account : IsCut how g plan → IsAccount (meaning algebra) how g e.source found.tally
     is_account cut = account_of algebra how g plan e.source found cut gathered_of

@@ -1,9 +1,9 @@
 -- Floors and stations of diffusions side by side: as they are opened, and when they have been run.
-use Rattle.std.proofs.Common.{zero, suc, ◌≡◌, ◌≢◌, ℕ, ◌<◌, ◌≤◌, ◌+◌, List, [], ◌∷◌, ◌++◌, length, get_or, map, refl, subst, arith, inl, inr, Option, Some, Vec}
-use Rattle.std.specs.List.{All}
+use Rattle.std.proofs.Common.{zero, suc, ◌≡◌, ◌≢◌, ℕ, ◌<◌, ◌≤◌, ◌+◌, List, [], ◌∷◌, length, get_or, map, refl, arith, inl, inr, Option, Some, Vec, Global}
+use Rattle.std.specs.List.{All, AllZip}
 use Rattle.std.proofs.lemmas.Bool.{cases_lt}
-use Rattle.std.proofs.lemmas.List.Elements.{All-head, All-tail}
-use Rattle.std.proofs.lemmas.Grind.{common_steps}
+use Rattle.std.proofs.lemmas.List.Elements.{All-cons, All-head, All-nil, All-tail}
+use Rattle.std.proofs.lemmas.List.{get_or-map, length-map}
 use Rattle.std.proofs.lemmas.Option.{slice_get-get_or, get_or_from_slice_get}
 use Rattle.path_algebra.specs.Algebra.{Algebra}
 use Rattle.shard_store.specs.Setup.{SetupData, setup_of}
@@ -15,42 +15,20 @@ use Rattle.worker_fleet.specs.Groups.{HasShard, IsDone, Some_of}
 use Rattle.worker_fleet.specs.Turns.{IsOnItsFloor}
 use Rattle.road_graph.specs.GraphData.{GraphData}
 use Rattle.shard_store.specs.Plans.{PlanData}
-use Rattle.shard_store.specs.declared.queue_order.QueueOrder.{QueueOrder}
 use Rattle.road_files.proofs.QuestionLaws.{any_of}
-use Rattle.batch_run.specs.Diffusions.{AreEnded}
+use Rattle.batch_settings.specs.declared.settings.Settings.{Settings}
+use Rattle.batch_run.specs.declared.solve.diffusion.EndedDiffusion.{EndedDiffusion}
+use Rattle.batch_run.specs.Cut.{order_of}
+use Rattle.batch_run.specs.declared.solve.diffusion.GatheredDiffusion.{GatheredDiffusion}
+use Rattle.batch_run.specs.Diffusions.{AreEnded, IsCountedOn, IsEnded, IsGatheredFrom, IsGatheredOver}
 
--- one more of each of two lists
-pub one_more : {F L : Type 0} (R : ℕ → F → L → Type 0) (n : ℕ) (fs gs : List F) (ls ms : List L) (f : F) (l : L) → gs ≡ fs ++ f ∷ [] → ms ≡ ls ++ l ∷ [] → length fs ≡ n → length ls ≡ n → R n f l
-    → ((q : ℕ) (e : F) (k : L) → q < n → R q (get_or fs q e) (get_or ls q k)) → (q : ℕ) (e : F) (k : L) → q < n + 1 → R q (get_or gs q e) (get_or ms q k)
-one_more R n fs gs ls ms f l is_f is_l nf nl r each q e k low =
-    elim (cases_lt q n) as (λ _. R q (get_or gs q e) (get_or ms q k)) [
-      | inl below ↦
-          let ef : get_or gs q e ≡ get_or fs q e = grind (arith, common_steps) in
-          let el : get_or ms q k ≡ get_or ls q k = grind (arith, common_steps) in
-          rw (ef, el) (each q e k below)
-      | inr here ↦
-          let i : q ≡ n = omega arith in
-          let ef : get_or gs n e ≡ f = grind (arith, common_steps) in
-          let el : get_or ms n k ≡ l = grind (arith, common_steps) in
-          rw (i, ef, el) r
-    ]
-
--- the last of each of two lists, and the others
-module _ {F L : Type 0} (R : ℕ → F → L → Type 0) (fs gs : List F) (ls ms : List L) (f : F) (l : L) (is_f : fs ≡ gs ++ f ∷ []) (is_l : ls ≡ ms ++ l ∷ []) (same : length fs ≡ length ls)
-    (each : (q : ℕ) (e : F) (k : L) → q < length fs → R q (get_or fs q e) (get_or ls q k)) where
-  pub last_of : R (length gs) f l
-  last_of =
-      let ef : get_or fs (length gs) f ≡ f = grind (arith, common_steps) in
-      let el : get_or ls (length gs) l ≡ l = grind (arith, common_steps) in
-      let low : length gs < length fs = grind (arith, common_steps) in
-      rw (ef, el) at (each (length gs) f l low)
-
-  pub others : (q : ℕ) (e : F) (k : L) → q < length gs → R q (get_or gs q e) (get_or ms q k)
-  others q e k below =
-      let ef : get_or fs q e ≡ get_or gs q e = grind (arith, common_steps) in
-      let el : get_or ls q k ≡ get_or ms q k = grind (arith, common_steps) in
-      let low : q < length fs = grind (arith, common_steps) in
-      rw (ef, el) at (each q e k low)
+-- each of a list was opened, in order
+pub opened_at : {X F L : Type 0} (R : X → F → L → Type 0) (xs : List X) (os : List (F × L)) → AllZip (λ x o. R x o.0 o.1) xs os → (q : ℕ) (x : X) (f : F) (l : L) → q < length xs →
+    R (get_or xs q x) (get_or (map (λ (o : F × L). o.0) os) q f) (get_or (map (λ (o : F × L). o.1) os) q l)
+opened_at R [] os h q x f l low = absurd (omega (arith, low))
+opened_at R (y ∷ ys) [] h q x f l low = absurd h
+opened_at R (y ∷ ys) (o ∷ os) h zero x f l low = h.0
+opened_at R (y ∷ ys) (o ∷ os) h (suc q) x f l low = opened_at R ys os h.1 q x f l (omega (arith, low))
 
 -- as they are opened there is a station for each shard
 opened_shard : {S V : Type 0} (A : Algebra V) (t : SetupData S) (f : FloorData S) (m first n k : ℕ) → first ≤ k → k < first + n → HasShard k (map (station_of f.id m) (opened_parts A t first n))
@@ -96,38 +74,14 @@ module _ {S V W : Type 0} (meaning : S → Algebra V) (setup : ℕ → SetupData
     all = λ k inside. all q k v v low (shards_opened meaning (setup q) (get_or floors q f) (get_or questions q v).items (opened q f v low) k inside);
   }
 
-pub longer : {X : Type 0} (ys xs : List X) (x : X) → ys ≡ xs ++ x ∷ [] → length ys ≡ length xs + 1
-longer ys xs x e = grind (arith, common_steps)
-
--- what is run to its end stays so while the last is taken away
-module _ {S V W : Type 0} (algebra : S) (roads : GraphData) (plan : PlanData) (order : QueueOrder) (sources : List ℕ) (fs gs : List (FloorData S)) (ls ms : List (Vec (StationData S V) W))
-    (f : FloorData S) (l : Vec (StationData S V) W)
-    (is_f : fs ≡ gs ++ f ∷ []) (is_l : ls ≡ ms ++ l ∷ []) (same : length fs ≡ length ls)
-    (each : (q s : ℕ) (e : FloorData S) (k : Vec (StationData S V) W) → q < length fs → AreEnded (setup_of algebra roads (get_or sources q s) plan order) (get_or fs q e) (get_or ls q k).items) where
-  EndedAt : ℕ → FloorData S → Vec (StationData S V) W → Type 0
-  EndedAt q e k = (s : ℕ) → AreEnded (setup_of algebra roads (get_or sources q s) plan order) e k.items
-
-  pub others_ended : (q s : ℕ) (e : FloorData S) (k : Vec (StationData S V) W) → q < length gs → AreEnded (setup_of algebra roads (get_or sources q s) plan order) (get_or gs q e) (get_or ms q k).items
-  unfolding EndedAt
-  others_ended q s e k low = others EndedAt fs gs ls ms f l is_f is_l same (λ q e k low s. each q s e k low) q e k low s
-
-  pub last_ended : (stations : List (StationData S V)) (source : ℕ) → stations ≡ l.items → get_or sources (length gs) source ≡ source → AreEnded (setup_of algebra roads source plan order) f stations
-  unfolding EndedAt
-  last_ended stations source e at =
-      rw e (subst (λ x. AreEnded (setup_of algebra roads x plan order) f l.items) at (last_of EndedAt fs gs ls ms f l is_f is_l same (λ q e k low s. each q s e k low) source))
-
--- what holds of all of a list holds of those at its beginning, and of its last
-pub all_before : {X : Type 0} (P : X → Type 0) (ys xs zs : List X) → ys ≡ xs ++ zs → All P ys → All P xs
-all_before P ys xs zs e h = λ k d below.
-    let at : get_or ys k d ≡ get_or xs k d = grind (arith, common_steps) in
-    let low : k < length ys = grind (arith, common_steps) in
-    rw at at (h k d low)
-
-pub last_of_all : {X : Type 0} (P : X → Type 0) (ys xs : List X) (x : X) → ys ≡ xs ++ x ∷ [] → All P ys → P x
-last_of_all P ys xs x e h =
-    let at : get_or ys (length xs) x ≡ x = grind (arith, common_steps) in
-    let low : length xs < length ys = grind (arith, common_steps) in
-    rw at at (h (length xs) x low)
+-- diffusions were run to their end if floors and stations are, place by place
+pub all_ended : {S V : Type 0} (algebra : S) (how : Settings) (g : GraphData) (plan : PlanData) (es : List (EndedDiffusion S V))
+    → ((q s : ℕ) (f : FloorData S) (v : Vec (StationData S V) Global) → q < length (map (λ (e : EndedDiffusion S V). e.source) es) →
+    AreEnded (setup_of algebra g (get_or (map (λ (e : EndedDiffusion S V). e.source) es) q s) plan (order_of how)) (get_or (map (λ (e : EndedDiffusion S V). e.floor) es) q f)
+    (get_or (map (λ (e : EndedDiffusion S V). e.stations) es) q v).items) → All (IsEnded algebra how g plan) es
+all_ended {S} {V} algebra how g plan es each = λ k d low.
+    rw (get_or-map (λ (e : EndedDiffusion S V). e.source) es k d d.source low, get_or-map (λ (e : EndedDiffusion S V). e.floor) es k d d.floor low, get_or-map (λ (e : EndedDiffusion S V). e.stations) es k d d.stations low)
+    at (each k d.source d.floor d.stations (rw (length-map es (λ (e : EndedDiffusion S V). e.source)) low))
 
 -- the station of a shard is not missing if it is among them
 pub not_missing : {S V : Type 0} (k : ℕ) (stations : List (StationData S V)) → HasShard k stations → All (λ s. s.part.shard ≢ k) stations → ⊥
@@ -135,3 +89,17 @@ unfolding Some_of
 not_missing k [] h missing = absurd h
 not_missing k (s ∷ ss) (inl h) missing = All-head (λ s. s.part.shard ≢ k) s ss missing h
 not_missing k (s ∷ ss) (inr h) missing = not_missing k ss h (All-tail (λ s. s.part.shard ≢ k) s ss missing)
+
+-- what ended diffusions came to, in order
+module _ {S V : Type 0} (A : Algebra V) (algebra : S) (how : Settings) (g : GraphData) (plan : PlanData) where
+  abbrev pub CameTo : List (EndedDiffusion S V) → List (GatheredDiffusion V) → Type 0
+  CameTo es ds = All (IsGatheredOver A how g) ds × (map (λ d. d.source) ds ≡ map (λ (e : EndedDiffusion S V). e.source) es) × AllZip (IsCountedOn algebra how g plan) (map (λ (e : EndedDiffusion S V). e.floor) es) ds
+
+  pub came_to : (es : List (EndedDiffusion S V)) (ds : List (GatheredDiffusion V)) → All (IsEnded algebra how g plan) es → AllZip (IsGatheredFrom A how g) es ds → CameTo es ds
+  came_to [] [] ended h = (All-nil (IsGatheredOver A how g), refl, tt)
+  came_to [] (d ∷ ds) ended h = absurd h
+  came_to (e ∷ es) [] ended h = absurd h
+  came_to (e ∷ es) (d ∷ ds) ended h =
+      let rest = came_to es ds (All-tail (IsEnded algebra how g plan) e es ended) h.1 in
+      let here = All-head (IsEnded algebra how g plan) e es ended in
+      (All-cons (IsGatheredOver A how g) d ds h.0.0 rest.0, (λ i. h.0.1 i ∷ rest.1 i), ((e, refl, here, h.0.1, h.0.2), rest.2))

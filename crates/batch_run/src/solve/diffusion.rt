@@ -1,14 +1,19 @@
 //! A diffusion that was run to its end, and how it is gathered.
-ghost use Rattle.std.specs.Prelude.{◌≡◌, true, IfOk};
+ghost use Rattle.std.specs.Prelude.{◌≡◌, [], ◌∷◌, true, IfOk, IfSome};
 ghost use Rattle.std.specs.List.{All};
-ghost use Rattle.shard_store.specs.Tallies.{tally_of};
-ghost use Rattle.station.specs.Gather.{IsGathered, counts_in};
-ghost use Rattle.batch_run.specs.Diffusions.{AreEnded};
+ghost use Rattle.road_graph.specs.GraphData.{HasVertex};
+ghost use Rattle.path_algebra.specs.Walks.{AreBest};
+ghost use Rattle.route_tree.specs.Tree.{IsTree};
+ghost use Rattle.batch_run.specs.Cut.{IsCut};
+ghost use Rattle.batch_run.specs.Diffusions.{IsEnded, IsGatheredFrom};
 
+use crate::batch::BatchOver;
 use path_algebra::{Labels, PathAlgebra};
 use post_floor::Floor;
+use road_files::Questions;
 use road_graph::Vertex;
-use shard_part::Tally;
+use route_tree::{Tree, tree_outgoing};
+use shard_part::{Plan, Tally};
 use station::{Finished, GatherFault, Gathered, Station, gather};
 use std::alloc::{AllocError, Global};
 
@@ -20,11 +25,18 @@ pub(crate) struct EndedDiffusion<'g, A: PathAlgebra> {
     pub(crate) stations: Vec<Station<'g, A>>,
 }
 
-/// What a diffusion from a source came to: best labels, and its counts.
+/// Best labels from some sources, and their tree if it was made.
+#[derive(Drop)]
+pub(crate) struct Labelling<V: Copy> {
+    pub(crate) labels: Labels<V>,
+    pub(crate) tree: Option<Tree>,
+}
+
+/// What a diffusion from a source came to, and its counts.
 #[derive(Drop)]
 pub(crate) struct GatheredDiffusion<V: Copy> {
     pub(crate) source: Vertex,
-    pub(crate) labels: Labels<V>,
+    pub(crate) labelling: Labelling<V>,
     pub(crate) tally: Tally,
 }
 
@@ -46,24 +58,55 @@ fn finish_all<'g, A: PathAlgebra>(
     Ok(finished)
 }
 
-/// The labels and the counts of a diffusion that was run to its end.
-pub(crate) fn gather_ended<'g, A: PathAlgebra>(
-    alloc: Global,
+/// The tree of labels that are best from a source, if that is the only one of its question, and
+/// memory suffices.
+fn tree_ahead<A: PathAlgebra, R, T>(
+    batch: &BatchOver<'_, A, R, T>,
+    source: Vertex,
+    labels: &Labels<A::Value>,
+) -> Option<Tree>
+    requires source { HasVertex batch.now.graph.now source }
+    requires labels { AreBest (A.meaning batch.now.algebra) batch.now.graph.now (source ∷ [])
+        labels.now }
+    ensures { IfSome result (IsTree (A.meaning batch.now.algebra) batch.now.graph.now
+        (source ∷ [])) }
+{
+    let Questions::Sources(_) = batch.questions else {
+        return None;
+    };
+    let (alloc, graph) = (batch.run.alloc, batch.graph.outgoing());
+    tree_outgoing(alloc, batch.algebra, graph, &[source], labels).ok()
+}
+
+/// What an ended diffusion came to.
+pub(crate) fn gather_ended<'g, A: PathAlgebra, R, T>(
+    batch: &BatchOver<'_, A, R, T>,
+    plan: &Plan,
     ended: EndedDiffusion<'g, A>,
-) -> Result<Gathered<A::Value>, AllocError>
-    requires { AreEnded ended.floor.setup ended.floor ended.stations.items }
-    ensures gathered { IfOk result (IsGathered A.meaning ended.entry.floor.setup) }
-    ensures counted { IfOk result
-        (λ g. g.tally ≡ tally_of (counts_in ended.entry.stations.items)) }
+) -> Result<GatheredDiffusion<A::Value>, AllocError>
+    requires plan { IsCut batch.now.run.now.settings.now batch.now.graph.now plan.now }
+    requires ended { IsEnded batch.now.algebra batch.now.run.now.settings.now batch.now.graph.now
+        plan.now ended }
+    ensures { IfOk result (IsGatheredFrom (A.meaning batch.now.algebra)
+        batch.now.run.now.settings.now batch.now.graph.now ended.entry) }
 {
     let EndedDiffusion {
-        source: _,
+        source,
         floor,
         stations,
     } = ended;
+    let alloc = batch.run.alloc;
     let finished = finish_all(alloc, stations)?;
     match gather(alloc, floor, finished) {
-        Ok(gathered) => Ok(gathered),
+        Ok(gathered) => {
+            let Gathered { labels, tally } = gathered;
+            let tree = tree_ahead(batch, source, &labels);
+            Ok(GatheredDiffusion {
+                source,
+                labelling: Labelling { labels, tree },
+                tally,
+            })
+        }
         Err(ungathered) => match ungathered.fault {
             GatherFault::Memory => Err(AllocError),
             GatherFault::Missing(_) => unreachable!(),

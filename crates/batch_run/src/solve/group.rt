@@ -1,13 +1,11 @@
 //! Diffusions that are run together, on threads, to their end, and gathered.
-ghost use Rattle.std.specs.Prelude.{◌≡◌, ℕ, ◌<◌, ◌≤◌, [], ◌∷◌, ◌++◌, length, get_or, IfOk, IfErr, vec_len};
-ghost use Rattle.std.specs.List.{All};
+ghost use Rattle.std.specs.Prelude.{◌≡◌, ◌≤◌, length, map, IfOk, IfErr};
+ghost use Rattle.std.specs.List.{All, AllZip};
 ghost use Rattle.road_graph.specs.GraphData.{HasVertex};
-ghost use Rattle.shard_store.specs.Tallies.{tally_of};
-ghost use Rattle.station.specs.Gather.{counts_in};
 ghost use Rattle.station.specs.Opened.{AreOpened};
 ghost use Rattle.batch_run.specs.Batches.{StopsOver};
-ghost use Rattle.batch_run.specs.Cut.{IsCut, IsPaceOf};
-ghost use Rattle.batch_run.specs.Diffusions.{IsEnded, IsGatheredOver, IsPlanOf, sources_in_order};
+ghost use Rattle.batch_run.specs.Cut.{IsCut, IsPaceOf, ahead_of, order_of};
+ghost use Rattle.batch_run.specs.Diffusions.{IsCountedOn, IsEnded, IsGatheredFrom, IsGatheredOver, IsPlanOf};
 ghost use Rattle.shard_store.specs.Setup.{setup_of};
 
 use crate::batch::BatchOver;
@@ -15,12 +13,14 @@ use crate::solve::diffusion::{EndedDiffusion, GatheredDiffusion, gather_ended};
 use crate::solve::pace::Pace;
 use path_algebra::PathAlgebra;
 use post_floor::Floor;
-use road_graph::{Memory, Vertex};
+use rayon::prelude::*;
+use road_graph::Vertex;
 use scholten_core::roads_hold;
 use shard_part::Plan;
 use shard_part::laws::plan_holds;
-use station::{Gathered, Station, open_diffusion};
-use std::alloc::AllocError;
+use station::{Station, open_diffusion};
+use std::alloc::{AllocError, Global};
+use std::collections::VecDeque;
 use std::sync::Wait;
 use std::thread::Threads;
 use worker_fleet::{Gate, GroupFault, GroupSettings, TurnSettings, run_group};
@@ -32,7 +32,7 @@ fn open_at_pace<'g, A: PathAlgebra, R, T>(
     plan: &'g Plan,
     source: Vertex,
     pace: Pace,
-) -> Result<(Floor<A>, Vec<Station<'g, A>>), Memory>
+) -> Result<(Floor<A>, Vec<Station<'g, A>>), AllocError>
     requires plan { IsPlanOf batch.now.graph.now plan.now }
     requires source { HasVertex batch.now.graph.now source }
     ensures { IfOk result (λ r. AreOpened A.meaning
@@ -40,7 +40,9 @@ fn open_at_pace<'g, A: PathAlgebra, R, T>(
         r.1.items) }
 {
     let (alloc, algebra, graph) = (batch.run.alloc, batch.algebra, batch.graph);
-    let opened = open_diffusion(alloc, algebra, graph, plan, source, pace.order)?;
+    let Ok(opened) = open_diffusion(alloc, algebra, graph, plan, source, pace.order) else {
+        return Err(AllocError);
+    };
     let (mut floor, stations) = opened;
     if let Some(ahead) = pace.ahead {
         floor.hold_back(ahead);
@@ -48,89 +50,160 @@ fn open_at_pace<'g, A: PathAlgebra, R, T>(
     Ok((floor, stations))
 }
 
-/// A floor, and its stations, for a diffusion from each source, in order.
-fn open_all<'g, A: PathAlgebra, R, T>(
+/// A floor, and its stations, for a diffusion from each source, in order: side by side, on at most
+/// as many threads as there are workers.
+fn open_each<'g, A: PathAlgebra, R: Threads + Sync, T: Gate>(
     batch: &'g BatchOver<'_, A, R, T>,
     plan: &'g Plan,
     sources: &[Vertex],
     pace: Pace,
-) -> Result<(Vec<Floor<A>>, Vec<Vec<Station<'g, A>>>), AllocError>
+) -> Result<Vec<(Floor<A>, Vec<Station<'g, A>>)>, AllocError>
     requires plan { IsPlanOf batch.now.graph.now plan.now }
     requires sources { All (HasVertex batch.now.graph.now) sources.now }
-    ensures floors { IfOk result (λ r. vec_len r.0 ≡ length sources.now) }
-    ensures stations { IfOk result (λ r. vec_len r.1 ≡ length sources.now) }
-    ensures opened { IfOk result (λ r. (q : ℕ) (s : ℕ) (f : _) (v : _) → q < length sources.now →
-        AreOpened A.meaning (setup_of batch.now.algebra batch.now.graph.now
-        (get_or sources.now q s) plan.now pace.order) pace.ahead (get_or r.0.items q f)
-        (get_or r.1.items q v).items) }
+    ensures { IfOk result (λ v. AllZip (λ source o. AreOpened A.meaning
+        (setup_of batch.now.algebra batch.now.graph.now source plan.now pace.order) pace.ahead o.0
+        o.1.items) sources.now v.items) }
 {
-    let alloc = batch.run.alloc;
+    let share = sources.len().div_ceil(batch.run.settings.workers as usize);
+    let opened: Result<Vec<(Floor<A>, Vec<Station<'g, A>>)>, AllocError> = sources
+        .par_iter()
+        .with_min_len(share)
+        .map(
+            |source: &Vertex| -> Result<(Floor<A>, Vec<Station<'_, A>>), AllocError>
+                requires { HasVertex batch.now.graph.now source.now ×
+                    IsPlanOf batch.now.graph.now plan.now }
+                ensures { IfOk result (λ o. AreOpened A.meaning (setup_of batch.entry.now.algebra
+                    batch.entry.now.graph.now source.now plan.entry.now pace.order) pace.ahead o.0
+                    o.1.items) }
+            { open_at_pace(batch, plan, *source, pace) },
+        )
+        .collect(batch.run.rt, batch.run.alloc)?;
+    opened
+}
+
+/// The floors, and the stations of each.
+fn part_all<'g, A: PathAlgebra>(
+    alloc: Global,
+    opened: Vec<(Floor<A>, Vec<Station<'g, A>>)>,
+) -> Result<(Vec<Floor<A>>, Vec<Vec<Station<'g, A>>>), AllocError>
+    ensures floors { IfOk result (λ r. r.0.items ≡ map (λ o. o.0) opened.entry.items) }
+    ensures stations { IfOk result (λ r. r.1.items ≡ map (λ o. o.1) opened.entry.items) }
+{
     let mut floors = Vec::new(alloc);
     let mut lists = Vec::new(alloc);
-    for source in sources {
-        let Ok((floor, stations)) = open_at_pace(batch, plan, *source, pace) else {
-            return Err(AllocError);
-        };
+    for diffusion in opened {
+        let (floor, stations) = diffusion;
         floors.push(floor)?;
         lists.push(stations)?;
     }
     Ok((floors, lists))
 }
 
-/// Takes the last floor away, with its stations.
-fn take_last<'g, A: PathAlgebra>(
-    floors: &mut Vec<Floor<A>>,
-    lists: &mut Vec<Vec<Station<'g, A>>>,
-    source: Vertex,
-) -> EndedDiffusion<'g, A>
-    requires some { 0 < length floors.old.items }
-    requires both { length floors.old.items ≡ length lists.old.items }
-    ensures floors { floors.old.items ≡ floors.new.items ++ result.floor ∷ [] }
-    ensures lists { (stations : _) × (lists.old.items ≡ lists.new.items ++ stations ∷ []) ×
-        (result.stations.items ≡ stations.items) }
-    ensures source { result.source ≡ source }
+/// The diffusions from each source, of which these are the floors and the stations, in order.
+fn pair_all<'g, A: PathAlgebra>(
+    alloc: Global,
+    sources: &[Vertex],
+    floors: Vec<Floor<A>>,
+    lists: Vec<Vec<Station<'g, A>>>,
+) -> Result<Vec<EndedDiffusion<'g, A>>, AllocError>
+    requires floors { length floors.items ≡ length sources.now }
+    requires stations { length lists.items ≡ length sources.now }
+    ensures sources { IfOk result (λ v. map (λ e. e.source) v.items ≡ sources.now) }
+    ensures floors { IfOk result (λ v. map (λ e. e.floor) v.items ≡ floors.items) }
+    ensures stations { IfOk result (λ v. map (λ e. e.stations) v.items ≡ lists.entry.items) }
 {
-    let Some(floor) = floors.pop() else {
-        unreachable!()
-    };
-    let Some(stations) = lists.pop() else {
-        unreachable!()
-    };
-    EndedDiffusion {
-        source,
-        floor,
-        stations,
+    let (mut floors, mut lists) = (VecDeque::from(floors), VecDeque::from(lists));
+    let mut ended = Vec::new(alloc);
+    for source in sources {
+        let Some(floor) = floors.pop_front() else {
+            unreachable!()
+        };
+        let Some(stations) = lists.pop_front() else {
+            unreachable!()
+        };
+        ended.push(EndedDiffusion {
+            source: *source,
+            floor,
+            stations,
+        })?;
     }
+    Ok(ended)
 }
 
-/// What an ended diffusion came to.
-fn gathered_from<'g, A: PathAlgebra, R, T>(
+/// What each of some ended diffusions came to, in order: gathered side by side, on at most as many
+/// threads as there are workers.
+fn gather_each<'g, A: PathAlgebra, R: Threads + Sync, T: Gate>(
     batch: &BatchOver<'_, A, R, T>,
     plan: &Plan,
-    ended: EndedDiffusion<'g, A>,
-) -> Result<GatheredDiffusion<A::Value>, AllocError>
+    ended: Vec<EndedDiffusion<'g, A>>,
+) -> Result<Vec<GatheredDiffusion<A::Value>>, AllocError>
     requires plan { IsCut batch.now.run.now.settings.now batch.now.graph.now plan.now }
-    requires ended { IsEnded batch.now.algebra batch.now.run.now.settings.now batch.now.graph.now
-        plan.now ended }
-    ensures gathered { IfOk result (IsGatheredOver (A.meaning batch.now.algebra)
-        batch.now.run.now.settings.now batch.now.graph.now) }
-    ensures counted { IfOk result
-        (λ d. d.tally ≡ tally_of (counts_in ended.entry.stations.items)) }
-    ensures source { IfOk result (λ d. d.source ≡ ended.entry.source) }
+    requires ended { All (IsEnded batch.now.algebra batch.now.run.now.settings.now
+        batch.now.graph.now plan.now) ended.items }
+    ensures { IfOk result (λ v. AllZip (IsGatheredFrom (A.meaning batch.now.algebra)
+        batch.now.run.now.settings.now batch.now.graph.now) ended.entry.items v.items) }
 {
-    let source = ended.source;
-    let gathered = gather_ended(batch.run.alloc, ended)?;
-    let Gathered { labels, tally } = gathered;
-    Ok(GatheredDiffusion {
-        source,
-        labels,
-        tally,
-    })
+    let share = ended.len().div_ceil(batch.run.settings.workers as usize);
+    let gathered: Result<Vec<GatheredDiffusion<A::Value>>, AllocError> = ended
+        .into_par_iter()
+        .with_min_len(share)
+        .map(
+            |e: EndedDiffusion<'_, A>| -> Result<GatheredDiffusion<A::Value>, AllocError>
+                requires { IsEnded batch.now.algebra batch.now.run.now.settings.now
+                    batch.now.graph.now plan.now e ×
+                    IsCut batch.now.run.now.settings.now batch.now.graph.now plan.now }
+                ensures { IfOk result (IsGatheredFrom (A.meaning batch.entry.now.algebra)
+                    batch.entry.now.run.now.settings.now batch.entry.now.graph.now e.entry) }
+            { gather_ended(batch, plan, e) },
+        )
+        .collect(batch.run.rt, batch.run.alloc)?;
+    gathered
 }
 
-/// Runs diffusions from each source to their end, together, and gathers each; the one from the
-/// first source comes last.
-pub(crate) fn run_together<A: PathAlgebra, R: Threads + Wait, T: Gate>(
+/// Runs diffusions that were opened, one from each source, to their end, together, and gathers
+/// each, in order.
+fn run_opened<'g, A: PathAlgebra, R: Threads + Wait + Sync, T: Gate>(
+    batch: &BatchOver<'_, A, R, T>,
+    plan: &Plan,
+    sources: &[Vertex],
+    opened: Vec<(Floor<A>, Vec<Station<'g, A>>)>,
+) -> Result<Vec<GatheredDiffusion<A::Value>>, GroupFault>
+    requires plan { IsCut batch.now.run.now.settings.now batch.now.graph.now plan.now }
+    requires sources { All (HasVertex batch.now.graph.now) sources.now }
+    requires width { length sources.now ≤ batch.now.run.now.settings.now.width }
+    requires opened { AllZip (λ source o. AreOpened A.meaning (setup_of batch.now.algebra
+        batch.now.graph.now source plan.now (order_of batch.now.run.now.settings.now))
+        (ahead_of batch.now.run.now.settings.now batch.now.graph.now) o.0 o.1.items)
+        sources.now opened.items }
+    ensures gathered { IfOk result (λ v. All (IsGatheredOver (A.meaning batch.now.algebra)
+        batch.now.run.now.settings.now batch.now.graph.now) v.items) }
+    ensures sources { IfOk result (λ v. map (λ d. d.source) v.items ≡ sources.now) }
+    ensures counted { IfOk result (λ v. AllZip (IsCountedOn batch.now.algebra
+        batch.now.run.now.settings.now batch.now.graph.now plan.now)
+        (map (λ o. o.0) opened.entry.items) v.items) }
+    ensures stops { IfErr result (StopsOver A.meaning T.may_answer batch.now) }
+{
+    let (rt, alloc, settings) = (batch.run.rt, batch.run.alloc, batch.run.settings);
+    roads_hold(batch.graph);
+    plan_holds(plan);
+    let (floors, opened) = part_all(alloc, opened)?;
+    let how = GroupSettings {
+        workers: settings.workers as usize,
+        dealing: settings.dealing,
+        turns: TurnSettings {
+            budget: settings.budget as u32,
+            limit: settings.turns,
+            gate: batch.run.gate,
+        },
+    };
+    let lists = run_group(rt, alloc, floors.as_slice(), opened, &how)?;
+    let ended = pair_all(alloc, sources, floors, lists)?;
+    let gathered = gather_each(batch, plan, ended)?;
+    Ok(gathered)
+}
+
+/// Runs diffusions from each source to their end, together, and gathers each, in order.
+pub(crate) fn run_together<A: PathAlgebra, R: Threads + Wait + Sync, T: Gate>(
     batch: &BatchOver<'_, A, R, T>,
     plan: &Plan,
     pace: Pace,
@@ -142,32 +215,9 @@ pub(crate) fn run_together<A: PathAlgebra, R: Threads + Wait, T: Gate>(
     requires width { length sources.now ≤ batch.now.run.now.settings.now.width }
     ensures gathered { IfOk result (λ v. All (IsGatheredOver (A.meaning batch.now.algebra)
         batch.now.run.now.settings.now batch.now.graph.now) v.items) }
-    ensures sources { IfOk result (λ v. sources_in_order v.items ≡ sources.now) }
+    ensures sources { IfOk result (λ v. map (λ d. d.source) v.items ≡ sources.now) }
     ensures stops { IfErr result (StopsOver A.meaning T.may_answer batch.now) }
 {
-    let (rt, alloc, settings) = (batch.run.rt, batch.run.alloc, batch.run.settings);
-    roads_hold(batch.graph);
-    plan_holds(plan);
-    let (mut floors, opened) = open_all(batch, plan, sources, pace)?;
-    let how = GroupSettings {
-        workers: settings.workers as usize,
-        dealing: settings.dealing,
-        turns: TurnSettings {
-            budget: settings.budget as u32,
-            limit: settings.turns,
-            gate: batch.run.gate,
-        },
-    };
-    let mut lists = run_group(rt, alloc, floors.as_slice(), opened, &how)?;
-    let mut gathered = Vec::new(alloc);
-    for k in 0..sources.len() {
-        let source = sources[sources.len() - 1 - k];
-        let last = take_last(&mut floors, &mut lists, source);
-        let next = gathered_from(batch, plan, last)?;
-        match gathered.push(next) {
-            Ok(()) => {}
-            Err(_) => return Err(GroupFault::Memory),
-        }
-    }
-    Ok(gathered)
+    let opened = open_each(batch, plan, sources, pace)?;
+    run_opened(batch, plan, sources, opened)
 }

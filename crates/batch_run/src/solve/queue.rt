@@ -1,35 +1,35 @@
 //! The diffusions of a batch, one after the other: several are run together, and wait here until
 //! they are asked for.
 ghost use Rattle.std.specs.Prelude.{◌≡◌, ℕ, ◌≤◌, ◌+◌, [], ◌∷◌, length, IfOk, IfErr, OnOk, OnErr};
-ghost use Rattle.path_algebra.specs.Walks.{AreBest};
 ghost use Rattle.road_files.specs.Asked.{asked_of};
 ghost use Rattle.batch_run.specs.Batches.{AreNextAt, StopsOver};
-ghost use Rattle.batch_run.specs.Diffusions.{HasSource, IsGatheredOver, IsNextSource};
+ghost use Rattle.batch_run.specs.Diffusions.{HasSource, IsGatheredOver, IsLabelling, IsNextSource};
 ghost use Rattle.batch_run.specs.Reports.{Account, Reported};
 
 use crate::batch::BatchOver;
-use crate::solve::diffusion::GatheredDiffusion;
+use crate::solve::diffusion::{GatheredDiffusion, Labelling};
 use crate::solve::group::run_together;
 use crate::solve::pace::Pace;
 use crate::solve::upcoming::upcoming;
 use crate::watcher::{Progress, Watcher};
-use path_algebra::{Labels, PathAlgebra};
+use path_algebra::PathAlgebra;
 use shard_part::Plan;
+use std::collections::VecDeque;
 use std::sync::Wait;
 use std::thread::Threads;
 use worker_fleet::{Gate, GroupFault};
 
 /// How the graph is cut into shards, the pace of diffusions, and those that were gathered and wait,
-/// the next one last.
+/// the next one first.
 #[derive(Drop)]
 pub(crate) struct DiffusionQueue<V: Copy> {
     pub(crate) plan: Plan,
     pub(crate) pace: Pace,
-    pub(crate) waiting: Vec<GatheredDiffusion<V>>,
+    pub(crate) waiting: VecDeque<GatheredDiffusion<V>>,
 }
 
 /// Runs the diffusions from source j of question i on, at most the width, unless some wait.
-fn refill<A: PathAlgebra, R: Threads + Wait, T: Gate>(
+fn refill<A: PathAlgebra, R: Threads + Wait + Sync, T: Gate>(
     batch: &BatchOver<'_, A, R, T>,
     queue: &mut DiffusionQueue<A::Value>,
     i: usize,
@@ -47,12 +47,12 @@ fn refill<A: PathAlgebra, R: Threads + Wait, T: Gate>(
     let width = batch.run.settings.width as usize;
     let sources = upcoming(batch.run.alloc, batch.questions, i, j, width)?;
     let gathered = run_together(batch, &queue.plan, queue.pace, &sources)?;
-    queue.waiting = gathered;
+    queue.waiting = VecDeque::from(gathered);
     Ok(())
 }
 
 /// The next diffusion, which is the one from source j of question i, taken from those that wait.
-fn take_next<A: PathAlgebra, R: Threads + Wait, T: Gate>(
+fn take_next<A: PathAlgebra, R: Threads + Wait + Sync, T: Gate>(
     batch: &BatchOver<'_, A, R, T>,
     queue: &mut DiffusionQueue<A::Value>,
     i: usize,
@@ -68,26 +68,26 @@ fn take_next<A: PathAlgebra, R: Threads + Wait, T: Gate>(
     ensures stops { IfErr result (StopsOver A.meaning T.may_answer batch.now) }
 {
     refill(batch, queue, i, j)?;
-    let Some(next) = queue.waiting.pop() else {
+    let Some(next) = queue.waiting.pop_front() else {
         unreachable!()
     };
     Ok(next)
 }
 
-/// The labels of the next diffusion, which is the one from source j of question i. It is reported
+/// What the next diffusion came to, which is the one from source j of question i. It is reported
 /// with its counts.
-pub(crate) fn next_labels<A: PathAlgebra, R: Threads + Wait, T: Gate, O: Watcher>(
+pub(crate) fn next_labels<A: PathAlgebra, R: Threads + Wait + Sync, T: Gate, O: Watcher>(
     batch: &BatchOver<'_, A, R, T>,
     queue: &mut DiffusionQueue<A::Value>,
     i: usize,
     j: usize,
     watcher: &mut O,
-) -> Result<Labels<A::Value>, GroupFault>
+) -> Result<Labelling<A::Value>, GroupFault>
     requires source { HasSource (asked_of batch.now.questions.now).questions i j }
     requires ready { AreNextAt A.meaning batch.now i j queue.old }
-    ensures labels { IfOk result (λ labels. (source : ℕ) →
+    ensures labels { IfOk result (λ labelling. (source : ℕ) →
         IsNextSource (asked_of batch.now.questions.now).questions i j source →
-        AreBest (A.meaning batch.now.algebra) batch.now.graph.now (source ∷ []) labels) }
+        IsLabelling (A.meaning batch.now.algebra) batch.now.graph.now (source ∷ []) labelling) }
     ensures ready { OnOk result (AreNextAt A.meaning batch.now i (j + 1) queue.new) }
     ensures stops { IfErr result (StopsOver A.meaning T.may_answer batch.now) }
     ensures reported { OnOk result ((source : ℕ) →
@@ -100,7 +100,7 @@ pub(crate) fn next_labels<A: PathAlgebra, R: Threads + Wait, T: Gate, O: Watcher
     let next = take_next(batch, queue, i, j)?;
     let GatheredDiffusion {
         source,
-        labels,
+        labelling,
         tally,
     } = next;
     let report = Progress::Gathered {
@@ -109,5 +109,5 @@ pub(crate) fn next_labels<A: PathAlgebra, R: Threads + Wait, T: Gate, O: Watcher
         tally,
     };
     watcher.report(report);
-    Ok(labels)
+    Ok(labelling)
 }

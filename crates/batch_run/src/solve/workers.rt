@@ -1,27 +1,29 @@
 //! Solves questions by workers, one diffusion for each source.
 ghost use Rattle.std.specs.Prelude.{◌≡◌, ◌+◌, ◌<◌, [], ◌∷◌, length, slice_index_or, false, IfOk, IfErr, OnOk};
 ghost use Rattle.std.specs.Borrow.{sem};
-ghost use Rattle.path_algebra.specs.Walks.{AreBest};
 ghost use Rattle.road_files.specs.Asked.{AreQuestionsOf, Question, asked_of, sources_of};
 ghost use Rattle.batch_run.specs.Batches.{AreNextAt, ReportedAccounts, StopsBatch, StopsOver};
+ghost use Rattle.batch_run.specs.Diffusions.{IsLabelling};
 ghost use Rattle.batch_run.specs.Lending.{EndsWorkers};
 ghost use Rattle.batch_run.specs.Reports.{ReportedAllOrPrefix, accounts_due};
 ghost use Rattle.question_solvers.specs.Solved.{IsSolvedFor};
 ghost use Rattle.batch_run.specs.Solvers.{IsWorkerReady};
 
 use crate::batch::{Batch, BatchOver};
+use crate::solve::diffusion::Labelling;
 use crate::solve::merge::merge_all;
 use crate::solve::pace::Pace;
 use crate::solve::queue::DiffusionQueue;
 use crate::watcher::Watcher;
 use answer_text::Answer;
-use path_algebra::{Labels, PathAlgebra};
+use path_algebra::PathAlgebra;
 use question_solvers::Solved;
 use road_files::Questions;
 use road_graph::{Graph, Memory};
 use route_tree::{route_between, tree_outgoing};
 use shard_part::Plan;
 use std::alloc::Global;
+use std::collections::VecDeque;
 use std::sync::Wait;
 use std::thread::Threads;
 use worker_fleet::{Gate, GroupFault};
@@ -36,20 +38,21 @@ pub struct WorkerSolver<V: Copy> {
     pub(crate) solved: Option<Solved<V>>,
 }
 
-/// Solves the question at a place by best labels from its sources.
+/// Solves the question at a place by best labels from its sources, and by their tree if it was made.
 fn solve_by_labels<A: PathAlgebra, R, T>(
     batch: &BatchOver<'_, A, R, T>,
     i: usize,
-    labels: Labels<A::Value>,
+    labelling: Labelling<A::Value>,
 ) -> Result<Solved<A::Value>, Memory>
     requires place { i < length (asked_of batch.now.questions.now).questions }
-    requires labels { (default : Question) → AreBest (A.meaning batch.now.algebra)
+    requires labels { (default : Question) → IsLabelling (A.meaning batch.now.algebra)
         batch.now.graph.now (sources_of (slice_index_or (asked_of batch.now.questions.now).questions
-        i default)) labels }
+        i default)) labelling }
     ensures { IfOk result (IsSolvedFor (A.meaning batch.now.algebra) batch.now.graph.now
         (asked_of batch.now.questions.now) i) }
 {
     let (alloc, algebra, graph) = (batch.run.alloc, batch.algebra, batch.graph);
+    let Labelling { labels, tree } = labelling;
     match batch.questions {
         Questions::Pairs(pairs) => {
             let (source, target) = pairs[i];
@@ -61,6 +64,9 @@ fn solve_by_labels<A: PathAlgebra, R, T>(
             }))
         }
         _ => {
+            if let Some(tree) = tree {
+                return Ok(Solved::Tree { labels, tree });
+            }
             let sources = batch.questions.sources(i);
             let tree = tree_outgoing(alloc, algebra, graph.outgoing(), sources, &labels)?;
             Ok(Solved::Tree { labels, tree })
@@ -69,7 +75,7 @@ fn solve_by_labels<A: PathAlgebra, R, T>(
 }
 
 /// Solves the question at a place by workers. The diffusions are reported.
-fn solve_by_workers<A: PathAlgebra, R: Threads + Wait, T: Gate, O: Watcher>(
+fn solve_by_workers<A: PathAlgebra, R: Threads + Wait + Sync, T: Gate, O: Watcher>(
     batch: &BatchOver<'_, A, R, T>,
     queue: &mut DiffusionQueue<A::Value>,
     i: usize,
@@ -84,8 +90,8 @@ fn solve_by_workers<A: PathAlgebra, R: Threads + Wait, T: Gate, O: Watcher>(
     ensures reported { ReportedAccounts A.meaning batch.now i O.may_become watcher.old watcher.new
         result }
 {
-    let labels = merge_all(batch, queue, i, watcher)?;
-    match solve_by_labels(batch, i, labels) {
+    let labelling = merge_all(batch, queue, i, watcher)?;
+    match solve_by_labels(batch, i, labelling) {
         Ok(solved) => Ok(solved),
         Err(_) => Err(GroupFault::Memory),
     }
@@ -121,13 +127,19 @@ pub(crate) fn start_workers<A: PathAlgebra, R, T>(
     solver.queue = Some(DiffusionQueue {
         plan,
         pace,
-        waiting: Vec::new(alloc),
+        waiting: VecDeque::new(alloc),
     });
     Ok(())
 }
 
 /// Solves the question at a place, the next one, by diffusions, which are reported.
-pub(crate) fn solve_next_by_workers<'s, A: PathAlgebra, R: Threads + Wait, T: Gate, O: Watcher>(
+pub(crate) fn solve_next_by_workers<
+    's,
+    A: PathAlgebra,
+    R: Threads + Wait + Sync,
+    T: Gate,
+    O: Watcher,
+>(
     solver: &'s mut WorkerSolver<A::Value>,
     batch: &Batch<'_, A, R, T>,
     i: usize,

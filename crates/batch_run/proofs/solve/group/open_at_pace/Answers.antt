@@ -2,15 +2,15 @@ use Rattle.std.proofs.Common.{None, Some, sym, ◌∙◌, subst}
 use Rattle.station.specs.Opened.{AreOpened}
 use Rattle.shard_store.specs.Setup.{setup_of}
 use Rattle.batch_run.proofs.Together.{opened_held}
-use Rattle.batch_run.proofs.solve.group.open_at_pace.Goals.{in-Some, in_default}
+use Rattle.batch_run.proofs.solve.group.open_at_pace.Goals.{in-Some, in_default-ahead}
 use Rattle.batch_run.proofs.solve.group.open_at_pace.Goals as goal
 
 pub returns : goal.returns
 returns g c =
     let opened = AreOpened g.A.PathAlgebra.meaning (setup_of c.args.batch.now.algebra c.args.batch.now.graph.now c.args.source c.args.plan.now c.args.pace.order) in
     elim c.match-pace.branch [
-      | in-Some w ↦ subst (λ a. opened a c.match-pace.floor c.in_ok-opened.opened.1.items) (sym w.in-Some.is)
-          (subst (λ f. opened (Some w.in-Some.ahead) f c.in_ok-opened.opened.1.items) (sym (w.floor-is ∙ w.hold_back.ensures)) (opened_held c.in_ok-opened.ensures w.in-Some.ahead))
-      | in_default w ↦ subst (λ a. opened a c.match-pace.floor c.in_ok-opened.opened.1.items) (sym w.in_default.is)
-          (subst (λ f. opened None f c.in_ok-opened.opened.1.items) (sym w.floor-is) c.in_ok-opened.ensures)
+      | in-Some w ↦ subst (λ a. opened a c.match-pace.floor c.in-Ok.opened.1.items) (sym w.in-Some.is)
+          (subst (λ f. opened (Some w.in-Some.ahead) f c.in-Ok.opened.1.items) (sym (w.floor-is ∙ w.hold_back.ensures)) (opened_held c.in-Ok.ensures w.in-Some.ahead))
+      | in_default-ahead w ↦ subst (λ a. opened a c.match-pace.floor c.in-Ok.opened.1.items) (sym w.in_default-ahead.is)
+          (subst (λ f. opened None f c.in-Ok.opened.1.items) (sym w.floor-is) c.in-Ok.ensures)
     ]

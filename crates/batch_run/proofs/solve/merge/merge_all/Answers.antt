@@ -2,8 +2,7 @@ use Rattle.std.proofs.Common.{List, ℕ, ◌≡◌, ◌∙◌, ◌+◌, ◌<◌,
 use Rattle.std.proofs.lemmas.List.{take_all, get_or_default}
 use Rattle.std.proofs.lemmas.Result.{err_from_is_err_and}
 use Rattle.road_files.specs.Asked.{FromSource, Question, asked_of}
-use Rattle.path_algebra.specs.Walks.{AreBest}
-use Rattle.batch_run.specs.Diffusions.{IsNextSource}
+use Rattle.batch_run.specs.Diffusions.{IsLabelling, IsNextSource}
 use Rattle.batch_run.specs.Reports.{Account, Reported, ReportedPrefix}
 use Rattle.batch_run.proofs.SourceByMore.{first_source, source_more}
 use Rattle.batch_run.proofs.SourcesToCome.{has_source, next_source, some_sources, sources_at, sources_over}
@@ -31,10 +30,10 @@ loop-j-init g c =
     let next = next_source qs c.args.i c.requires.place all are 0 source some is in
     let first = first_source all source some is in
     record {
-      best = rw first (c.in_ok-labels.ensures.labels source next);
-      ready = c.in_ok-labels.ensures.ready;
+      best = rw first (c.in_ok-merged.ensures.labels source next);
+      ready = c.in_ok-merged.ensures.ready;
       reported = sources_begun (g.A.PathAlgebra.meaning c.args.batch.now.algebra) c.args.batch.now.run.now.settings.now c.args.batch.now.graph.now g.O.Watcher.may_become
-          (c.args.i + 1) all source _ _ first (c.in_ok-labels.ensures.reported source next);
+          (c.args.i + 1) all source _ _ first (c.in_ok-merged.ensures.reported source next);
     }
 
 -- the source at place j
@@ -56,16 +55,19 @@ next g c =
 pub merge-requires-after_bounds : goal.merge-requires-after_bounds
 merge-requires-after_bounds g c κs within =
     let at = (goal.at.merge-requires-after_bounds g c).In_ok-other in
-    (c.in_ok-other.ensures.labels (source g at) (next g at)).count ∙ sym c.loop-j.invariant.best.count
+    (c.in_ok-other.ensures.labels (source g at) (next g at)).labels.count ∙ sym c.loop-j.invariant.best.labels.count
 
 pub loop-j-preserved : goal.loop-j-preserved
 loop-j-preserved g c =
     let at = (goal.at.loop-j-preserved g c).In_ok-other in
     let all = sources_at (asked_of c.args.batch.now.questions.now).questions c.args.i in
     record {
-      best = source_more (g.A.PathAlgebra.meaning c.args.batch.now.algebra) c.laws_hold.ensures.lawful c.args.batch.now.graph.now g.A.PathAlgebra.order c.laws_hold.ensures.order
-          all c.loop-j.j (source g at) c.loop-j.labels c.in_ok-other.other c.merge.new.self (low g at) (is g at)
-          c.loop-j.invariant.best (c.in_ok-other.ensures.labels (source g at) (next g at)) c.merge.ensures.count c.merge.ensures.labels;
+      best = record {
+        labels = source_more (g.A.PathAlgebra.meaning c.args.batch.now.algebra) c.laws_hold.ensures.lawful c.args.batch.now.graph.now g.A.PathAlgebra.order c.laws_hold.ensures.order
+            all c.loop-j.j (source g at) c.loop-j.merged.labels c.in_ok-other.other.labels c.merge.new.self (low g at) (is g at)
+            c.loop-j.invariant.best.labels (c.in_ok-other.ensures.labels (source g at) (next g at)).labels c.merge.ensures.count c.merge.ensures.labels;
+        tree = tt;
+      };
       ready = c.in_ok-other.ensures.ready;
       reported = sources_more (g.A.PathAlgebra.meaning c.args.batch.now.algebra) c.args.batch.now.run.now.settings.now c.args.batch.now.graph.now g.O.Watcher.may_become
           (c.args.i + 1) all c.loop-j.j (source g at) _ _ _
@@ -76,7 +78,7 @@ pub returns-clause-labels : goal.returns-clause-labels
 returns-clause-labels g c = λ d.
     let all = sources_at (asked_of c.args.batch.now.questions.now).questions c.args.i in
     let own = c.sources-sources.ensures (FromSource 0) in
-    subst (λ (xs : List ℕ). AreBest (g.A.PathAlgebra.meaning c.args.batch.now.algebra) c.args.batch.now.graph.now xs c.loop-j.labels)
+    subst (λ (xs : List ℕ). IsLabelling (g.A.PathAlgebra.meaning c.args.batch.now.algebra) c.args.batch.now.graph.now xs c.loop-j.merged)
     (take_all c.loop-j.j all (subst (λ (xs : List ℕ). length xs ≤ c.loop-j.j) own c.loop-j-test.false) ∙ sym own ∙ c.sources-sources.ensures d) c.loop-j.invariant.best
 
 pub returns-clause-ready : goal.returns-clause-ready
@@ -103,8 +105,8 @@ returns-in_err-other-clause-reported g c =
     (sources_stopped (g.A.PathAlgebra.meaning c.args.batch.now.algebra) c.args.batch.now.run.now.settings.now c.args.batch.now.graph.now g.O.Watcher.may_become
     (c.args.i + 1) (sources_at (asked_of c.args.batch.now.questions.now).questions c.args.i) c.loop-j.j _ _ _ c.loop-j.invariant.reported c.in_err-other.ensures.unreported))
 
-pub returns-in_err-labels-clause-reported : goal.returns-in_err-labels-clause-reported
-returns-in_err-labels-clause-reported g c =
+pub returns-in_err-merged-clause-reported : goal.returns-in_err-merged-clause-reported
+returns-in_err-merged-clause-reported g c =
     let fault = err_from_is_err_and c.from_residual.result c.from_residual.ensures.1 in
     λ d. prefix_if_err (g.A.PathAlgebra.meaning c.args.batch.now.algebra) c.args.batch.now.run.now.settings.now c.args.batch.now.graph.now g.O.Watcher.may_become _ _ _ _ fault.0 fault.1
-    (prefix_kept (g.A.PathAlgebra.meaning c.args.batch.now.algebra) c.args.batch.now.run.now.settings.now c.args.batch.now.graph.now g.O.Watcher.may_become _ _ _ c.in_err-labels.ensures.unreported)
+    (prefix_kept (g.A.PathAlgebra.meaning c.args.batch.now.algebra) c.args.batch.now.run.now.settings.now c.args.batch.now.graph.now g.O.Watcher.may_become _ _ _ c.in_err-merged.ensures.unreported)

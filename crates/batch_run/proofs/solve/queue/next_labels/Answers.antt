@@ -1,5 +1,5 @@
 use Rattle.std.proofs.Common.{refl, subst, ◌≡◌, ◌+◌, ℕ, [], ◌∷◌}
-use Rattle.path_algebra.specs.Walks.{AreBest}
+use Rattle.batch_run.specs.Diffusions.{IsLabelling}
 use Rattle.batch_run.specs.Reports.{Account, Reported}
 use Rattle.batch_run.proofs.Reporting.{one}
 use Rattle.batch_run.proofs.solve.queue.next_labels.Goals as goal
@@ -7,8 +7,8 @@ use Rattle.batch_run.proofs.solve.queue.next_labels.Goals as goal
 pub returns-clause-labels : goal.returns-clause-labels
 returns-clause-labels g c = λ source next.
     let same : c.in_ok-next.next.source ≡ source = let taken = c.in_ok-next.ensures.next in cc in
-    subst (λ (s : ℕ). AreBest (g.A.PathAlgebra.meaning c.args.batch.now.algebra) c.args.batch.now.graph.now (s ∷ []) c.in_ok-next.next.labels) same
-    c.in_ok-next.ensures.gathered.labels
+    subst (λ (s : ℕ). IsLabelling (g.A.PathAlgebra.meaning c.args.batch.now.algebra) c.args.batch.now.graph.now (s ∷ []) c.in_ok-next.next.labelling) same
+    c.in_ok-next.ensures.gathered.labelling
 
 pub returns-clause-reported : goal.returns-clause-reported
 returns-clause-reported g c = λ source next.

@@ -10,8 +10,8 @@ use Rattle.batch_run.proofs.solve.workers.solve_by_labels.Goals as goal
 
 pub route_between-requires-clause-labels : goal.route_between-requires-clause-labels
 route_between-requires-clause-labels g c κs within =
-    subst (λ (vs : List ℕ). AreBest (g.A.PathAlgebra.meaning c.args.batch.now.algebra) c.args.batch.now.graph.now vs c.args.labels)
-    (pair_at c.args.batch.now.questions.now c.args.i c.in-Pairs.pairs c.index.result.now c.in-Pairs.is c.requires.place c.index.ensures (FromSource 0)) (c.requires.labels (FromSource 0))
+    subst (λ (vs : List ℕ). AreBest (g.A.PathAlgebra.meaning c.args.batch.now.algebra) c.args.batch.now.graph.now vs c.args.labelling.labels)
+    (pair_at c.args.batch.now.questions.now c.args.i c.in-Pairs.pairs c.index.result.now c.in-Pairs.is c.requires.place c.index.ensures (FromSource 0)) (c.requires.labels (FromSource 0)).labels
 
 pub tree_outgoing-requires-clause-sources : goal.tree_outgoing-requires-clause-sources
 tree_outgoing-requires-clause-sources g c κs within =
@@ -20,8 +20,8 @@ tree_outgoing-requires-clause-sources g c κs within =
 
 pub tree_outgoing-requires-clause-labels : goal.tree_outgoing-requires-clause-labels
 tree_outgoing-requires-clause-labels g c κs within =
-    rw c.outgoing.ensures (subst (λ (vs : List ℕ). AreBest (g.A.PathAlgebra.meaning c.args.batch.now.algebra) c.args.batch.now.graph.now vs c.args.labels)
-    (sym (c.sources-sources.ensures (FromSource 0))) (c.requires.labels (FromSource 0)))
+    rw c.outgoing.ensures (subst (λ (vs : List ℕ). AreBest (g.A.PathAlgebra.meaning c.args.batch.now.algebra) c.args.batch.now.graph.now vs c.args.labelling.labels)
+    (sym (c.sources-sources.ensures (FromSource 0))) (c.requires.labels (FromSource 0)).labels)
 
 pub returns-in_ok-found-in-Pairs : goal.returns-in_ok-found-in-Pairs
 returns-in_ok-found-in-Pairs g c =
@@ -31,8 +31,15 @@ returns-in_ok-found-in-Pairs g c =
 
 pub returns-in_ok-tree-in_default : goal.returns-in_ok-tree-in_default
 returns-in_ok-tree-in_default g c = λ d. record {
-  labels = c.requires.labels d;
+  labels = (c.requires.labels d).labels;
   tree = subst (λ (vs : List ℕ). IsTree (g.A.PathAlgebra.meaning c.args.batch.now.algebra) c.args.batch.now.graph.now vs c.in_ok-tree-in_default.tree)
       (c.sources-sources.ensures d) (rw c.outgoing.ensures at c.in_ok-tree-in_default.ensures);
+  unpaired = no_pairs c.args.batch.now.questions.now c.in_default.not-Pairs;
+}
+
+pub returns-in-Some : goal.returns-in-Some
+returns-in-Some g c = λ d. record {
+  labels = (c.requires.labels d).labels;
+  tree = rw c.in-Some.is at ((c.requires.labels d).tree);
   unpaired = no_pairs c.args.batch.now.questions.now c.in_default.not-Pairs;
 }

@@ -7,7 +7,6 @@ use denote.Param.Send.{param_send, arg_send, sendable}
 use denote.Ref.{NamedLft}
 use Rattle.std.proofs.Crossing.{crosses}
 use Rattle.std.specs.declared.clone.Clone as clone
-use Rattle.shard_store.proofs.Sharing.{Plan-sync}
 use Rattle.rayon.proofs.ListFacts.{AllZip-weaken}
 use Rattle.rayon.specs.Lists.{vec_items}
 use Rattle.question_solvers.proofs.Searches.{gathered}

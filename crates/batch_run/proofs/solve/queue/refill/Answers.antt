@@ -20,14 +20,14 @@ run_together-requires-clause-pace g c κs within = c.requires.ready.chosen.1
 
 pub returns-clause-some : goal.returns-clause-some
 returns-clause-some g c =
-    some_wait (g.A.PathAlgebra.meaning c.args.batch.now.algebra) c.args.batch.now.run.now.settings.now c.args.batch.now.graph.now (sources_to_come (asked_of c.args.batch.now.questions.now).questions c.args.i c.args.j) c.args.batch.now.run.now.settings.now.width c.in_ok-gathered.gathered.items
+    rw c.from.ensures.0 (some_wait (g.A.PathAlgebra.meaning c.args.batch.now.algebra) c.args.batch.now.run.now.settings.now c.args.batch.now.graph.now (sources_to_come (asked_of c.args.batch.now.questions.now).questions c.args.i c.args.j) c.args.batch.now.run.now.settings.now.width c.in_ok-gathered.gathered.items
     (c.in_ok-gathered.ensures.sources ∙ c.deref.ensures.value ∙ c.in_ok-sources.ensures) c.args.batch.now.in_range.width.0
-    (some_to_come (asked_of c.args.batch.now.questions.now).questions c.args.i c.args.j (FromSource 0) c.requires.source)
+    (some_to_come (asked_of c.args.batch.now.questions.now).questions c.args.i c.args.j (FromSource 0) c.requires.source))
 
 pub returns-clause-ready : goal.returns-clause-ready
 returns-clause-ready g c =
     group_waits (g.A.PathAlgebra.meaning c.args.batch.now.algebra) c.args.batch.now.run.now.settings.now c.args.batch.now.graph.now (sources_to_come (asked_of c.args.batch.now.questions.now).questions c.args.i c.args.j) c.args.batch.now.run.now.settings.now.width _
-    (c.in_ok-gathered.ensures.sources ∙ c.deref.ensures.value ∙ c.in_ok-sources.ensures) c.requires.ready.chosen c.in_ok-gathered.ensures.gathered
+    (rw c.from.ensures.0 (c.in_ok-gathered.ensures.sources ∙ c.deref.ensures.value ∙ c.in_ok-sources.ensures)) c.requires.ready.chosen (rw c.from.ensures.0 c.in_ok-gathered.ensures.gathered)
 
 pub run_together-requires-clause-width : goal.run_together-requires-clause-width
 run_together-requires-clause-width g c κs within =

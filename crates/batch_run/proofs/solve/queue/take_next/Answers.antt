@@ -14,16 +14,16 @@ pub returns-clause-next : goal.returns-clause-next
 returns-clause-next g c =
     let source = next g (goal.at.returns-clause-next g c).In-Some in
     taken_next (g.A.PathAlgebra.meaning c.args.batch.now.algebra) c.args.batch.now.run.now.settings.now c.args.batch.now.graph.now (sources_to_come (asked_of c.args.batch.now.questions.now).questions c.args.i c.args.j)
-    (sources_to_come (asked_of c.args.batch.now.questions.now).questions c.args.i (c.args.j + 1)) source.0 c.refill.new.queue (record c.refill.new.queue { waiting = c.pop.new.self }) c.in-Some.next source.1 c.in_ok-refill.ensures.ready c.in-Some.ensures.items
+    (sources_to_come (asked_of c.args.batch.now.questions.now).questions c.args.i (c.args.j + 1)) source.0 c.refill.new.queue (record c.refill.new.queue { waiting = c.pop_front.new.self }) c.in-Some.next source.1 c.in_ok-refill.ensures.ready c.in-Some.ensures.items
 
 pub returns-clause-gathered : goal.returns-clause-gathered
 returns-clause-gathered g c =
     let source = next g (goal.at.returns-clause-gathered g c).In-Some in
     taken_gathered (g.A.PathAlgebra.meaning c.args.batch.now.algebra) c.args.batch.now.run.now.settings.now c.args.batch.now.graph.now (sources_to_come (asked_of c.args.batch.now.questions.now).questions c.args.i c.args.j)
-    (sources_to_come (asked_of c.args.batch.now.questions.now).questions c.args.i (c.args.j + 1)) source.0 c.refill.new.queue (record c.refill.new.queue { waiting = c.pop.new.self }) c.in-Some.next source.1 c.in_ok-refill.ensures.ready c.in-Some.ensures.items
+    (sources_to_come (asked_of c.args.batch.now.questions.now).questions c.args.i (c.args.j + 1)) source.0 c.refill.new.queue (record c.refill.new.queue { waiting = c.pop_front.new.self }) c.in-Some.next source.1 c.in_ok-refill.ensures.ready c.in-Some.ensures.items
 
 pub returns-clause-ready : goal.returns-clause-ready
 returns-clause-ready g c =
     let source = next g (goal.at.returns-clause-ready g c).In-Some in
     others_wait (g.A.PathAlgebra.meaning c.args.batch.now.algebra) c.args.batch.now.run.now.settings.now c.args.batch.now.graph.now (sources_to_come (asked_of c.args.batch.now.questions.now).questions c.args.i c.args.j)
-    (sources_to_come (asked_of c.args.batch.now.questions.now).questions c.args.i (c.args.j + 1)) source.0 c.refill.new.queue (record c.refill.new.queue { waiting = c.pop.new.self }) c.in-Some.next source.1 c.in_ok-refill.ensures.ready c.in-Some.ensures.items c.in_ok-refill.ensures.ready.chosen
+    (sources_to_come (asked_of c.args.batch.now.questions.now).questions c.args.i (c.args.j + 1)) source.0 c.refill.new.queue (record c.refill.new.queue { waiting = c.pop_front.new.self }) c.in-Some.next source.1 c.in_ok-refill.ensures.ready c.in-Some.ensures.items c.in_ok-refill.ensures.ready.chosen

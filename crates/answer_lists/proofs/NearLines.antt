@@ -1,5 +1,5 @@
 -- Labels and a tree give the lines of a list of vertices.
-use Rattle.std.proofs.Common.{◌≡◌, ℕ, List, [], ◌∷◌, refl, subst, sym}
+use Rattle.std.proofs.Common.{◌≡◌, ℕ, List, [], ◌∷◌, refl}
 use Rattle.std.specs.List.{AllZip}
 use Rattle.std.specs.Prelude.{All, map}
 use Rattle.std.proofs.lemmas.List.{get_or_default, length-map}
@@ -36,7 +36,7 @@ module _ {V : Type 0} (A : Algebra V) (lawful : IsLawful A) (low : HasLowCodes A
   pub has_reached : t.roads ≡ g → AreNearest A g sources t.reached → HasReached A g sources t
   has_reached same nearest = let inside = are_vertices A g sources t.reached nearest in record {
     roads = same;
-    vertices = subst (λ (x : GraphData). All (HasVertex x) t.reached) (sym same) inside;
+    vertices = inside;
     near = record {
       nearest = nearest;
       places = (length-map t.reached (code_at A t.labels), length-map t.reached (hops_at t.tree), length-map t.reached (parent_at t.tree));

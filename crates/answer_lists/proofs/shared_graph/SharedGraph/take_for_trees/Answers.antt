@@ -1,0 +1,18 @@
+use Rattle.std.proofs.Common.{◌≡◌, ◌∙◌, Option, Some, subst, sym}
+use Rattle.std.specs.Arc.{arc_value}
+use Rattle.std.specs.Prelude.{IfSome}
+use Rattle.road_graph.specs.GraphData.{GraphData}
+use Rattle.answer_lists.specs.declared.kept.Kept.{Kept}
+use Rattle.answer_lists.specs.Kept.{IsKeptOver}
+use Rattle.answer_lists.proofs.shared_graph.SharedGraph.take_for_trees.Goals as goal
+
+pub returns-then-turn_to-clause-over : goal.returns-then-turn_to-clause-over
+returns-then-turn_to-clause-over c =
+    let roads : arc_value c.self.inside.graph ≡ c.args.self.now.roads = λ i. (c.self.view_is i).roads in
+    let is : c.self.inside.for_trees ≡ Some c.in-Some.kept = sym c.take.ensures.value ∙ c.in-Some.is in
+    c.turn_to.ensures.over c.args.self.now.roads
+    (subst (λ (g : GraphData). IsKeptOver g c.in-Some.kept) roads
+    (subst (λ (o : Option Kept). IfSome o (IsKeptOver (arc_value c.self.inside.graph))) is c.self.invariant.4))
+
+pub returns-clause-over : goal.returns-clause-over
+returns-clause-over c = c.new.ensures.over c.args.self.now.roads

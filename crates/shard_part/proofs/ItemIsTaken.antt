@@ -22,7 +22,6 @@ use Rattle.shard_store.specs.Queue.{Room}
 use Rattle.shard_store.specs.Rows.{Rows}
 use Rattle.shard_part.specs.Moves.{RepInvariant, IsPopped, engaged_or_answered, offered, offered_all, rested, with_value, with_free, with_taken}
 use Rattle.shard_part.specs.Part.{OwnIdleIsTold}
-use Rattle.shard_part.specs.Repaying.{IsFit}
 use Rattle.shard_store.proofs.Places.{table_long}
 use Rattle.shard_part.proofs.InFlight.{outgoing_is}
 use Rattle.shard_part.proofs.Moves.{formed}
@@ -33,6 +32,17 @@ use Rattle.shard_part.proofs.Quick.{quiet_message}
 use Rattle.shard_part.proofs.OffersArePumped.{counted_none, counted_top}
 use Rattle.shard_part.proofs.VertexSettles.{Made, settles, made_after}
 use Rattle.road_graph.proofs.Lists.{not_in_empty, here_as, head_or_tail}
+
+-- the tables have a place for each vertex and each arc, and no counter is past its top
+pub record IsFit {S V : Type 0} (p : PartData S V) : Type 0 where
+  pub labels : length p.labels ≡ suc p.setup.diffusion.roads.vertices
+  pub engagers : length p.engagers ≡ suc p.setup.diffusion.roads.vertices
+  pub busy : length p.busy ≡ suc (length p.setup.diffusion.roads.arcs)
+  pub told : length p.told ≡ suc (length p.setup.diffusion.roads.arcs)
+  pub sent : p.sent ≤ top
+  pub delivered : p.delivered ≤ top
+  pub signalled : p.signalled ≤ top
+  pub accepted : p.accepted ≤ top
 
 pub stored_fit : {S V : Type 0} (p : PartData S V) (r : Rows V) (n : Room) (ns : List ℕ) → RepInvariant p r n ns → IsFit p
 stored_fit p r n ns D = record {
@@ -250,7 +260,7 @@ module _ {S V : Type 0} (A : Algebra V) where
   }
 
   -- the item i is taken, with zs after it
-  pub handled : Lawful A → (p : PartData S V) (i : Item V) (zs : List (Item V)) → IsPlanned p.setup p.shard → IsFit p → OwnIdleIsTold p → IsPermutation p.queue (i ∷ zs) → IsInTurn A (network_of p.setup) p.setup.order (state_in p) p.queue i zs → IsArc (network_of p.setup) (item_arc i) →
+  handled : Lawful A → (p : PartData S V) (i : Item V) (zs : List (Item V)) → IsPlanned p.setup p.shard → IsFit p → OwnIdleIsTold p → IsPermutation p.queue (i ∷ zs) → IsInTurn A (network_of p.setup) p.setup.order (state_in p) p.queue i zs → IsArc (network_of p.setup) (item_arc i) →
       place_in p.setup (vertex_of (network_of p.setup) i) ≡ p.shard → HandledItemIn A (network_of p.setup) (place_in p.setup) p i (with_taken A i (record p { queue = zs }))
   handled L p (MessageOn a x) zs P F T left in_turn r here = handled_as p _ (MessageOn a x) zs (counted_on 1 p.delivered) p.accepted left in_turn refl (sym (counted_none p.accepted F.accepted))
       (message_taken L (record p { queue = zs; delivered = counted_on 1 p.delivered }) a x (formed p p.shard P) (counted_fit p zs (counted_on 1 p.delivered) p.accepted F (counted_top 1 p.delivered) F.accepted)

@@ -19,9 +19,6 @@ mod OffersArePumped
 mod VertexSettles
 mod ItemIsTaken
 mod ToldKept
-mod Repaying
-mod RepayingOffers
-mod RepaidRuns
 pub mod TakenCounts
 pub mod OnePartTakesTheBest
 mod Within

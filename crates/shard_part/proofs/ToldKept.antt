@@ -15,8 +15,7 @@ use Rattle.shard_part.specs.Moves.{RepInvariant, IsPopped, with_taken}
 use Rattle.shard_part.specs.Part.{OwnIdleIsTold}
 use Rattle.shard_part.specs.Opening.{opened_part}
 use Rattle.shard_part.proofs.Quick.{taken_told}
-use Rattle.shard_part.specs.Repaying.{IsFit}
-use Rattle.shard_part.proofs.ItemIsTaken.{stored_fit, has_told, popped_taken}
+use Rattle.shard_part.proofs.ItemIsTaken.{IsFit, stored_fit, has_told, popped_taken}
 use Rattle.shard_part.proofs.Moves.{formed}
 use Rattle.shard_part.proofs.VertexSettles.{of_one_shard}
 use Rattle.shard_part.proofs.Opened.{reads_same}

@@ -64,8 +64,8 @@ pub(crate) fn try_clone(
     ensures numbers { IfOk result (λ b. b.value.numbers ≡ numbers.now) }
 {
     let _by_head = shared.by_head()?;
-    let second = shared.try_clone()?;
     let numbers = numbers_again(numbers)?;
+    let second = shared.try_clone()?;
     let mut owner = boxed(alloc, second)?;
     owner.numbers = numbers;
     Ok(owner)

@@ -12,7 +12,8 @@ use Rattle.std.proofs.Crossing.{crosses, frees}
 use Rattle.answer_lists.specs.Sharing.{Shared}
 use Rattle.path_algebra.specs.declared.algebra.PathAlgebra.{Ghosts}
 use Rattle.answer_lists.specs.contracts.kept.Kept as kept
-use Rattle.answer_lists.specs.contracts.kept.Searchers as searchers
+use Rattle.route_tree.specs.contracts.pair_searcher.PairSearcher as pairs
+use Rattle.tree_search.specs.contracts.searcher.TreeSearcher as trees
 use Rattle.path_plain.specs.declared.halt.Stop.{Stop}
 use Rattle.arc_numbers.specs.Numbering.{Numbering}
 use Rattle.path_plain.specs.contracts.halt.Stop as stop
@@ -25,11 +26,14 @@ lies : (R : RattleType) → IsSend R → (p : Ptr) (x : R.Denot) → Keyless (li
 lies R s (block_ptr b o) x = part_keyless R s full_share x b o
 lies R s null_ptr x = tt
 
-searchers_send : (A V : RattleType) (h : Ghosts A.Denot V.Denot) → IsSend A → IsSend V → IsSend (searchers.the_row A V h)
-searchers_send A V h a v = search (sendable, crosses) depth 60 fits 100000
+pairs_send : (A V : RattleType) (h : Ghosts A.Denot V.Denot) → IsSend A → IsSend V → IsSend (pairs.the_row A V h)
+pairs_send A V h a v = search (sendable, crosses) depth 60 fits 100000
+
+trees_send : (A V : RattleType) (h : Ghosts A.Denot V.Denot) → IsSend A → IsSend V → IsSend (trees.the_row A V h)
+trees_send A V h a v = search (sendable, crosses) depth 60 fits 100000
 
 searching : IsSend kept.the_row
-searching = search (sendable, crosses, searchers_send) depth 60 fits 100000
+searching = search (sendable, crosses, pairs_send, trees_send) depth 60 fits 100000
 
 sharing : IsSend shared.the_row
 sharing = search (sendable, crosses, searching) depth 60 fits 100000

@@ -7,5 +7,5 @@ pub mod FirstPlaces
 mod Marks
 mod PairsJudged
 mod FirstWrong
-mod RunsAreRight
+mod ChunksAreRight
 mod Sharing

@@ -2,7 +2,7 @@
 pub use Rattle.answer_check.specs.Marked.{IsMarkedRefused, IsMarkedRight, TellsRefused}
 pub use Rattle.answer_check.specs.Pairs.{IsOther, TellsSuspect, TellsSuspectIn}
 pub use Rattle.answer_check.specs.Places.{IsFirstNumber, IsJudgedAt}
-pub use Rattle.answer_check.specs.Runs.{run_start}
+pub use Rattle.answer_check.specs.Chunks.{chunk_start}
 pub use Rattle.answer_check.specs.declared.evidence.Evidence.{Evidence}
 pub use Rattle.answer_check.specs.declared.place.Place.{Place}
 pub use Rattle.answer_check.specs.declared.verdict.Reason.{Reason}

@@ -5,4 +5,4 @@ pub mod Evidence
 pub mod Marked
 pub mod Places
 pub mod Pairs
-pub mod Runs
+pub mod Chunks

@@ -15,7 +15,7 @@ mod lines;
 mod pairs;
 mod pass;
 mod place;
-mod runs;
+mod chunks;
 mod suspects;
 mod verdict;
 mod vertex_lines;

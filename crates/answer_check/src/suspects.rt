@@ -6,11 +6,11 @@ ghost use Rattle.road_files.specs.Asked.{asked_of};
 ghost use Rattle.answer_text.specs.AnswerData.{answer_list};
 ghost use Rattle.answer_check.specs.Pairs.{TellsSuspect, TellsSuspectIn};
 ghost use Rattle.answer_check.specs.Places.{IsFirstNumber};
-ghost use Rattle.answer_check.specs.Runs.{run_start};
+ghost use Rattle.answer_check.specs.Chunks.{chunk_start};
 
 use crate::answers::judge_pair;
 use crate::case::Case;
-use crate::runs::Runs;
+use crate::chunks::Chunks;
 use path_algebra::PathAlgebra;
 use rayon::current_num_threads;
 use rayon::prelude::*;
@@ -18,7 +18,7 @@ use road_files::{Kind, Questions};
 use route_tree::PairSearcher;
 use std::thread::Threads;
 
-/// How many runs are judged in parallel at most.
+/// How many chunks are judged in parallel at most.
 const MOST: usize = 64;
 
 /// Whether an answer has yet to be judged: false only for a right answer to a pair.
@@ -39,14 +39,14 @@ fn is_suspect<A: PathAlgebra>(searcher: &mut PairSearcher<A>, case: &Case<'_, A>
     }
 }
 
-/// The first answer of a run that has yet to be judged, or the end of the run. One searcher serves
+/// The first answer of a chunk that has yet to be judged, or the end of the chunk. One searcher serves
 /// them all.
-fn first_suspect<A: PathAlgebra>(case: &Case<'_, A>, run: (usize, usize)) -> usize
-    requires { run.1 ≤ length case.now.answers.now.list.items }
+fn first_suspect<A: PathAlgebra>(case: &Case<'_, A>, chunk: (usize, usize)) -> usize
+    requires { chunk.1 ≤ length case.now.answers.now.list.items }
     ensures { TellsSuspectIn (A.meaning case.now.algebra) case.now.graph.now
-        (asked_of case.now.questions.now) (answer_list case.now.answers.now) run.0 result false }
+        (asked_of case.now.questions.now) (answer_list case.now.answers.now) chunk.0 result false }
 {
-    let (start, end) = run;
+    let (start, end) = chunk;
     let Ok(mut searcher) = PairSearcher::new(case.alloc, case.algebra, case.graph) else {
         return start;
     };
@@ -58,46 +58,46 @@ fn first_suspect<A: PathAlgebra>(case: &Case<'_, A>, run: (usize, usize)) -> usi
     end
 }
 
-/// Whether run k has an answer that has yet to be judged.
-fn has_suspect<A: PathAlgebra>(case: &Case<'_, A>, runs: Runs, k: usize) -> bool
-    requires end { runs.end ≤ length case.now.answers.now.list.items }
-    requires run { k < runs.count }
+/// Whether chunk k has an answer that has yet to be judged.
+fn has_suspect<A: PathAlgebra>(case: &Case<'_, A>, chunks: Chunks, k: usize) -> bool
+    requires end { chunks.end ≤ length case.now.answers.now.list.items }
+    requires chunk { k < chunks.count }
     ensures { TellsSuspectIn (A.meaning case.now.algebra) case.now.graph.now
-        (asked_of case.now.questions.now) (answer_list case.now.answers.now) (run_start runs k)
-        (run_start runs (k + 1)) result }
+        (asked_of case.now.questions.now) (answer_list case.now.answers.now) (chunk_start chunks k)
+        (chunk_start chunks (k + 1)) result }
 {
-    let run = runs.run(k);
-    first_suspect(case, run) < run.1
+    let chunk = chunks.chunk(k);
+    first_suspect(case, chunk) < chunk.1
 }
 
-/// The first run with an answer that has yet to be judged. The runs are judged in parallel.
-fn first_suspect_run<A: PathAlgebra, R: Threads + Sync>(
+/// The first chunk with an answer that has yet to be judged. The chunks are judged in parallel.
+fn first_suspect_chunk<A: PathAlgebra, R: Threads + Sync>(
     rt: &R,
     case: &Case<'_, A>,
-    runs: Runs,
+    chunks: Chunks,
 ) -> Option<usize>
-    requires { runs.end ≤ length case.now.answers.now.list.items }
-    ensures { IsFirstNumber runs.count (λ k. TellsSuspectIn (A.meaning case.now.algebra)
+    requires { chunks.end ≤ length case.now.answers.now.list.items }
+    ensures { IsFirstNumber chunks.count (λ k. TellsSuspectIn (A.meaning case.now.algebra)
         case.now.graph.now (asked_of case.now.questions.now) (answer_list case.now.answers.now)
-        (run_start runs k) (run_start runs (k + 1))) result }
+        (chunk_start chunks k) (chunk_start chunks (k + 1))) result }
 {
-    (0..runs.count)
+    (0..chunks.count)
         .into_par_iter()
         .with_min_len(1)
         .position_first(
             rt,
             |k: usize| -> bool
-                requires { (runs.end ≤ length case.now.answers.now.list.items) ×
-                    (k < runs.count) }
+                requires { (chunks.end ≤ length case.now.answers.now.list.items) ×
+                    (k < chunks.count) }
                 ensures { TellsSuspectIn (A.meaning case.entry.now.algebra) case.entry.now.graph.now
                     (asked_of case.entry.now.questions.now) (answer_list case.entry.now.answers.now)
-                    (run_start runs k) (run_start runs (k + 1)) result }
-            { has_suspect(case, runs, k) },
+                    (chunk_start chunks k) (chunk_start chunks (k + 1)) result }
+            { has_suspect(case, chunks, k) },
         )
 }
 
 /// How many of the first answers are right, as far as that is found in parallel: pairs are judged
-/// on all processors, some runs at a time, up to the first that is wrong or for which memory runs
+/// on all processors, some chunks at a time, up to the first that is wrong or for which memory chunks
 /// out.
 pub(crate) fn right_prefix<A: PathAlgebra, R: Threads + Sync>(rt: &R, case: &Case<'_, A>) -> usize
     ensures { (k : ℕ) → k < result → TellsSuspect (A.meaning case.now.algebra) case.now.graph.now
@@ -110,10 +110,10 @@ pub(crate) fn right_prefix<A: PathAlgebra, R: Threads + Sync>(rt: &R, case: &Cas
     let count = current_num_threads(rt).min(MOST);
     let mut right = 0;
     while right < total {
-        let runs = Runs::next(count, right, total);
-        match first_suspect_run(rt, case, runs) {
-            Some(k) => return first_suspect(case, runs.run(k)),
-            None => right = runs.end,
+        let chunks = Chunks::next(count, right, total);
+        match first_suspect_chunk(rt, case, chunks) {
+            Some(k) => return first_suspect(case, chunks.chunk(k)),
+            None => right = chunks.end,
         }
     }
     right

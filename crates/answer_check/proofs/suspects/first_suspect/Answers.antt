@@ -1,6 +1,6 @@
 use Rattle.std.proofs.Common.{◌∙◌, Bool, false, subst}
 use Rattle.answer_check.proofs.Words.{asked_of, answer_list, TellsSuspect}
-use Rattle.answer_check.proofs.RunsAreRight.{told_more}
+use Rattle.answer_check.proofs.ChunksAreRight.{told_more}
 use Rattle.answer_check.proofs.suspects.first_suspect.Goals as goal
 
 pub loop-i-preserved : goal.loop-i-preserved
@@ -14,6 +14,6 @@ loop-i-preserved g c =
     record {
       algebra = c.is_suspect.ensures.same.algebra ∙ before.algebra;
       roads = c.is_suspect.ensures.same.roads ∙ before.roads;
-      right = told_more (g.A.PathAlgebra.meaning c.args.case.now.algebra) roads asked told c.args.run.0 i before.right
+      right = told_more (g.A.PathAlgebra.meaning c.args.case.now.algebra) roads asked told c.args.chunk.0 i before.right
           (subst (λ (a : g.row.A.Denot). TellsSuspect (g.A.PathAlgebra.meaning a) roads asked told i false) before.algebra here);
     }

@@ -2,7 +2,7 @@ use Rattle.std.proofs.Common.{◌-◌, ℕ, ◌<◌, ◌≤◌, false}
 use Rattle.answer_check.proofs.Words.{asked_of, answer_list, TellsSuspect}
 use Rattle.answer_check.proofs.suspects.right_prefix.Given as goal
 
--- the answers before the next runs are right
+-- the answers before the next chunks are right
 abbrev pub invariant-loop-right : goal.invariant-loop-right
 invariant-loop-right g l = record {
   within : l.right ≤ l.total;

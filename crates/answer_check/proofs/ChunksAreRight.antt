@@ -1,9 +1,9 @@
--- Answers are right up to a place if they are before the first run, and in each run up to there.
+-- Answers are right up to a place if they are before the first chunk, and in each chunk up to there.
 use Rattle.std.proofs.lemmas.Bool.{cases_lt}
 use Rattle.std.proofs.Common.{◌≡◌, ℕ, ◌+◌, ◌<◌, ◌≤◌, inl, inr, Bool, true, false, nat_lt, arith, subst, zero, suc, ltb-false}
 use Rattle.answer_check.proofs.Words.{common_steps, GraphData, Asked, Algebra, AnswerList}
-use Rattle.answer_check.proofs.Words.{TellsSuspect, TellsSuspectIn, run_start}
-use Rattle.answer_check.specs.declared.runs.Runs.{Runs}
+use Rattle.answer_check.proofs.Words.{TellsSuspect, TellsSuspectIn, chunk_start}
+use Rattle.answer_check.specs.declared.chunks.Chunks.{Chunks}
 
 module _ (R : ℕ → Type 0) where
   -- what holds before a place and from there on
@@ -13,14 +13,14 @@ module _ (R : ℕ → Type 0) where
     | inr from ↦ rest i from lt
   ]
 
-  -- what holds before the runs and in the first n of them
-  pub right_up_to : (r : Runs) (n : ℕ) → ((i : ℕ) → i < r.start → R i) → ((k : ℕ) → k < n → (i : ℕ) → run_start r k ≤ i → i < run_start r (k + 1) → R i) →
-      (i : ℕ) → i < run_start r n → R i
-  right_up_to r zero before runs = λ i lt. before i (omega (arith, lt))
-  right_up_to r (suc n) before runs = grind (arith, common_steps, before_and_from, (right_up_to r n before))
+  -- what holds before the chunks and in the first n of them
+  pub right_up_to : (r : Chunks) (n : ℕ) → ((i : ℕ) → i < r.start → R i) → ((k : ℕ) → k < n → (i : ℕ) → chunk_start r k ≤ i → i < chunk_start r (k + 1) → R i) →
+      (i : ℕ) → i < chunk_start r n → R i
+  right_up_to r zero before chunks = λ i lt. before i (omega (arith, lt))
+  right_up_to r (suc n) before chunks = grind (arith, common_steps, before_and_from, (right_up_to r n before))
 
 module _ {V : Type 0} (A : Algebra V) (g : GraphData) (asked : Asked) (told : AnswerList) (start : ℕ) where
-  -- a run whose first suspect is not before its end is right
+  -- a chunk whose first suspect is not before its end is right
   pub told_before : (first end : ℕ) → TellsSuspectIn A g asked told start first false → (b : Bool) → nat_lt first end ≡ b → TellsSuspectIn A g asked told start end b
   told_before first end right true e = tt
   told_before first end right false e = λ i low lt. right i low (omega (arith, lt, ltb-false first end e))

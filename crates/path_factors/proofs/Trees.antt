@@ -1,10 +1,11 @@
 -- The tree of an elimination: the parent of a place is its first head.
-use Rattle.std.proofs.Common.{◌≡◌, ℕ, zero, suc, ◌<◌, ◌≤◌, ◌⊎◌, inl, inr, List, length, get_or, refl, sym, ◌∙◌, subst, arith}
+use Rattle.std.proofs.Common.{◌≡◌, ℕ, zero, suc, ◌+◌, ◌<◌, ◌≤◌, ◌⊎◌, inl, inr, List, [], ◌∷◌, ◌++◌, length, get_or, refl, ap, sym, ◌∙◌, subst, arith}
 use Rattle.std.specs.List.Sorted.{IsStrictlyIncreasing}
-use Rattle.std.proofs.lemmas.List.{get_or_default}
+use Rattle.std.proofs.lemmas.Bool.{cases_lt}
+use Rattle.std.proofs.lemmas.List.{get_or_append_left, get_or_default, get_or_push, length-append}
 use Rattle.path_factors.specs.Factors.{row_of}
 use Rattle.path_factors.specs.Heads.{AreHeads}
-use Rattle.path_factors.specs.Tree.{IsTreeParent, IsUp, IsAncestor}
+use Rattle.path_factors.specs.Tree.{AreParentsTo, IsTreeParent, IsUp, IsAncestor}
 use Rattle.path_factors.proofs.HeadRows.{first_is_least}
 
 module _ (n : ℕ) (heads : List (List ℕ)) (are : AreHeads n heads) where
@@ -58,4 +59,18 @@ pub first_is_parent : (heads : List (List ℕ)) (n v p : ℕ) → IsStrictlyIncr
 first_is_parent heads n v p up some is = record {
   least = λ y head. let first = first_is_least (row_of heads v) up y head in omega (arith, first, is);
   one = inr (0, some, get_or_default (row_of heads v) 0 p 0 some ∙ is);
+}
+
+-- the parent of one more place
+pub parents_more : (heads : List (List ℕ)) (n k p : ℕ) (parents : List ℕ) → AreParentsTo heads n k parents → IsTreeParent heads n k p →
+    AreParentsTo heads n (k + 1) (parents ++ p ∷ [])
+parents_more heads n k p parents done last = record {
+  count = length-append parents (p ∷ []) ∙ ap (λ (m : ℕ). m + 1) done.count;
+  parent = λ v low. elim (cases_lt v k) [
+    | inl before ↦
+        subst (λ (q : ℕ). IsTreeParent heads n v q) (sym (get_or_append_left parents (p ∷ []) 0 v (omega (arith, before, done.count)))) (done.parent v before)
+    | inr past ↦
+        let is : k ≡ v = omega (arith, low, past) in
+        subst (λ (q : ℕ). IsTreeParent heads n v q) (sym (get_or_push parents p 0 v (done.count ∙ is))) (subst (λ (i : ℕ). IsTreeParent heads n i p) is last)
+  ];
 }

@@ -1,5 +1,5 @@
 -- The tree of an elimination: the parent of a place is its least head.
-use Rattle.std.specs.Prelude.{◌≡◌, ℕ, zero, suc, ◌<◌, ◌≤◌, ◌⊎◌, List}
+use Rattle.std.specs.Prelude.{◌≡◌, ℕ, zero, suc, ◌<◌, ◌≤◌, ◌⊎◌, List, length, slice_index}
 use Rattle.road_graph.specs.GraphData.{GraphData, IsGraph}
 use Rattle.path_algebra.specs.Algebra.{Algebra}
 use Rattle.path_algebra.specs.Composition.{Composition}
@@ -10,6 +10,11 @@ use Rattle.path_factors.specs.Heads.{IsHead, IsOutline}
 pub record IsTreeParent (heads : List (List ℕ)) (n v p : ℕ) : Type 0 where
   pub least : (y : ℕ) → IsHead heads v y → p ≤ y
   pub one : (p ≡ n) ⊎ IsHead heads v p
+
+-- the parents of the first k of n places
+pub record AreParentsTo (heads : List (List ℕ)) (n k : ℕ) (parents : List ℕ) : Type 0 where
+  pub count : length parents ≡ k
+  pub parent : (v : ℕ) → v < k → IsTreeParent heads n v (slice_index parents v)
 
 -- k parents up from place v is y
 abbrev pub IsUp : List (List ℕ) → ℕ → ℕ → ℕ → ℕ → Type 0

@@ -23,10 +23,11 @@ impl<A: CompactAlgebra> Factors<A> {
             IsForward (A.meaning self.now.algebra) (A.walks self.now.algebra) self.now.roads self.now.factor sources labels.new }
     {
         self.holds();
+        let parents = self.parents();
         let mut v = s;
         while v < labels.len() {
             self.offer_up(labels, v);
-            v = self.parent(v);
+            v = parents[v] as usize;
         }
     }
 
@@ -39,10 +40,11 @@ impl<A: CompactAlgebra> Factors<A> {
         ensures none { (j : ℕ) → at labels.new j ≡ None }
     {
         self.holds();
+        let parents = self.parents();
         let mut v = s;
         while v < labels.len() {
             labels[v] = LabelSlot::none();
-            v = self.parent(v);
+            v = parents[v] as usize;
         }
     }
 

@@ -1,11 +1,11 @@
 //! A graph that is factored.
-ghost use Rattle.std.specs.Prelude.{◌≡◌, ◌<◌, ◌≤◌};
+ghost use Rattle.std.specs.Prelude.{◌≡◌, ℕ, ◌<◌, ◌≤◌, slice_index};
 ghost use Rattle.road_graph.specs.GraphData.{HasVertex, IsGraph};
 ghost use Rattle.path_algebra.specs.Algebra.{IsLawful};
 ghost use Rattle.path_algebra.specs.Composition.{IsComposition};
 ghost use Rattle.path_factors.specs.Factors.{IsFactor, place_of, row_of};
 ghost use Rattle.path_factors.specs.Heads.{IsOutline};
-ghost use Rattle.path_factors.specs.Tree.{AreAtHeads, IsTreeParent};
+ghost use Rattle.path_factors.specs.Tree.{AreAtHeads, AreParentsTo};
 
 use crate::heads::Heads;
 use crate::packed::PackedRows;
@@ -19,8 +19,9 @@ use std::sync::Arc;
 /// Links between the places of an order, from which best values of a graph are found by
 /// substitution. Contracts alone see the graph and the order.
 ///
-/// An edge that others do for may be left out. It takes 8 bytes for each vertex, 4 and those of two
-/// walks for each edge that is left, and, if some are not, 4 more for each vertex and each edge.
+/// An edge that others do for may be left out. It takes 12 bytes for each vertex, 4 and those of
+/// two walks for each edge that is left, and, if some are not, 4 more for each vertex and each
+/// edge.
 #[derive(Drop)]
 pub struct Factors<A: ComposingAlgebra> {
     pub(crate) algebra: A,
@@ -30,6 +31,8 @@ pub struct Factors<A: ComposingAlgebra> {
     pub(crate) places: Vec<u32>,
     /// The greater places with which each place has an edge; none if each edge is left.
     pub(crate) heads: Option<Heads>,
+    /// The parent of each place.
+    pub(crate) parents: Vec<u32>,
     /// For each place the links to greater places and from them that are left.
     pub(crate) rows: PackedRows<A::Walk>,
 }
@@ -38,13 +41,15 @@ impl<A: ComposingAlgebra> Model for Factors<A> {
     ghost use Rattle.std.specs.Arc.{arc_value};
     ghost use Rattle.path_factors.specs.Heads.{heads_or};
     ghost use Rattle.path_factors.specs.State.{FactorState};
-    ghost use Rattle.path_factors.specs.Tree.{IsFactored};
+    ghost use Rattle.path_factors.specs.Tree.{AreParentsTo, IsFactored};
 
     ghost Value = { FactorState A A.Walk };
 
     ghost view = { λ f. record { algebra = f.algebra; roads = f.graph.value; factor = record { order = (arc_value f.order).value.vertices.items; places = f.places.items; leaving = f.rows.leaving; entering = f.rows.entering }; heads = heads_or f.heads f.rows.leaving } };
 
-    ghost invariant = { λ f. IsFactored (A.meaning f.algebra) (A.walks f.algebra) f.graph.value (record { order = (arc_value f.order).value.vertices.items; places = f.places.items; leaving = f.rows.leaving; entering = f.rows.entering }) (heads_or f.heads f.rows.leaving) };
+    ghost invariant = { λ f.
+        IsFactored (A.meaning f.algebra) (A.walks f.algebra) f.graph.value (record { order = (arc_value f.order).value.vertices.items; places = f.places.items; leaving = f.rows.leaving; entering = f.rows.entering }) (heads_or f.heads f.rows.leaving)
+        × AreParentsTo (heads_or f.heads f.rows.leaving) f.graph.value.vertices f.graph.value.vertices f.parents.items };
 }
 
 impl<A: ComposingAlgebra> Factors<A> {
@@ -83,19 +88,15 @@ impl<A: ComposingAlgebra> Factors<A> {
         }
     }
 
-    /// The least place to which a place has an edge; how many places there are if it has none.
-    pub(crate) fn parent(&self, i: usize) -> usize
-        requires { i < self.now.roads.vertices }
-        ensures parent { IsTreeParent self.now.heads self.now.roads.vertices i result }
-        ensures above { i < result }
-        ensures inside { result ≤ self.now.roads.vertices }
+    /// The parent of each place: the least place to which it has an edge; how many places there are
+    /// if it has none.
+    pub(crate) fn parents(&self) -> &[u32]
+        ensures parents { AreParentsTo self.now.heads self.now.roads.vertices self.now.roads.vertices
+            result.now }
+        ensures above { (v : ℕ) → v < self.now.roads.vertices →
+            (v < slice_index result.now v) × (slice_index result.now v ≤ self.now.roads.vertices) }
     {
         self.holds();
-        let heads = self.heads(i);
-        if 0 < heads.len() {
-            heads[0] as usize
-        } else {
-            self.places.len()
-        }
+        &self.parents
     }
 }

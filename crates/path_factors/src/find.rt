@@ -26,10 +26,11 @@ impl<A: ComposingAlgebra> Factors<A> {
         ensures kept { IsExtended self.now.roads.vertices asked.old.items asked.new.items }
     {
         self.holds();
+        let parents = self.parents();
         let mut v = t;
         while v < known.len() && !known[v] {
             asked.push(v as u32).map_err(AllocError::from)?;
-            v = self.parent(v);
+            v = parents[v] as usize;
         }
         Ok(())
     }

@@ -24,6 +24,7 @@ mod packed;
 mod prune;
 mod reweigh;
 mod solve;
+mod tree;
 mod upward;
 mod weighing;
 

@@ -164,6 +164,7 @@ impl<'g, A: ComposingAlgebra> Weighing<'g, A> {
     {
         self.holds();
         laws_hold(self.algebra);
+        let parents = self.parents(alloc)?;
         let (heads, rows) = match links {
             Links::All => (None, self.rows),
             Links::Needed => {
@@ -177,6 +178,7 @@ impl<'g, A: ComposingAlgebra> Weighing<'g, A> {
             order: self.order,
             places: self.places,
             heads,
+            parents,
             rows,
         })
     }

@@ -10,7 +10,7 @@ use Rattle.path_factors.proofs.factors.Factors.best_down.Goals as goal
 pub bounds-labels-link : goal.bounds-labels-link
 bounds-labels-link g c =
     let lt : c.loop-j.j < length (row_of c.self.inside.rows.entering c.args.i) = omega (arith, c.loop-j-test.true, c.count-j-end.ensures.entering) in
-    let r = entering_inside (g.A.PathAlgebra.meaning c.self.inside.algebra) (g.A.ComposingAlgebra.walks c.self.inside.algebra) c.self.inside.graph.value _ c.self.invariant.factor.links
+    let r = entering_inside (g.A.PathAlgebra.meaning c.self.inside.algebra) (g.A.ComposingAlgebra.walks c.self.inside.algebra) c.self.inside.graph.value _ c.self.invariant.0.factor.links
     c.args.i (row_of c.self.inside.rows.entering c.args.i) (λ i. row_of c.self.inside.rows.entering c.args.i) c.loop-j.j c.faller-link.result lt c.faller-link.ensures in
     let n : c.self.inside.graph.value.vertices ≡ c.args.self.now.roads.vertices = λ i. (c.self.view_is i).roads.vertices in
     omega (arith, r.1, n, c.requires.labels)
@@ -28,7 +28,7 @@ loop-j-preserved g c =
     let k = c.faller-link.result in
     let lt : j < length row = omega (arith, c.loop-j-test.true, c.count-j-end.ensures.entering) in
     let more : drop j row ≡ k ∷ drop (j + 1) row = drop_more row j k lt ∙ ap (λ r. r ∷ drop (j + 1) row) (sym c.faller-link.ensures) in
-    let r = entering_inside A C c.self.inside.graph.value _ c.self.invariant.factor.links c.args.i row (λ i. row) j k lt c.faller-link.ensures in
+    let r = entering_inside A C c.self.inside.graph.value _ c.self.invariant.0.factor.links c.args.i row (λ i. row) j k lt c.faller-link.ensures in
     let n : c.self.inside.graph.value.vertices ≡ c.args.self.now.roads.vertices = λ i. (c.self.view_is i).roads.vertices in
     let other : c.index-labels-link.result ≡ at labels k.place =
     c.index-labels-link.is ∙ get_or_default labels k.place c.index-labels-link.result None (omega (arith, r.1, n, c.requires.labels)) in

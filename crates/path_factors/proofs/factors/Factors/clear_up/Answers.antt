@@ -1,4 +1,4 @@
-use Rattle.std.proofs.Common.{◌<◌, ◌∙◌, None, length-set, arith}
+use Rattle.std.proofs.Common.{◌<◌, ◌∙◌, None, get_or, length-set, arith}
 use Rattle.path_factors.proofs.Climbing.{clear_more, clear_ends}
 use Rattle.path_factors.proofs.factors.Factors.clear_up.Goals as goal
 
@@ -13,9 +13,9 @@ loop-v-preserved g c =
     let low : v < G.vertices = omega (arith, c.loop-v-test.true, count) in
     record {
       count = length-set c.loop-v.labels v _ ∙ count;
-      inside = c.parent-v.ensures.inside;
+      inside = (c.parents-parents.ensures.above v low).1;
       up = rw c.none.ensures
-          (clear_more A holds.lawful C holds.composes G holds.roads c.args.self.now.factor holds.factor c.args.self.now.heads holds.outline.are v c.parent-v.result low c.parent-v.ensures.parent c.loop-v.labels count c.loop-v.invariant.up);
+          (clear_more A holds.lawful C holds.composes G holds.roads c.args.self.now.factor holds.factor c.args.self.now.heads holds.outline.are v (get_or c.parents-parents.result.now v 0) low (c.parents-parents.ensures.parents.parent v low) c.loop-v.labels count c.loop-v.invariant.up);
     }
 
 pub returns-clause-none : goal.returns-clause-none

@@ -1,4 +1,4 @@
-use Rattle.std.proofs.Common.{◌≡◌, ◌<◌, ◌∙◌, length, ap, arith, subst}
+use Rattle.std.proofs.Common.{◌≡◌, ◌<◌, ◌∙◌, length, get_or, ap, arith, subst}
 use Rattle.path_factors.specs.Factors.{row_of}
 use Rattle.path_factors.specs.Substituting.{at, IsForwardTo}
 use Rattle.path_factors.proofs.Offers.{offered_from_count}
@@ -29,18 +29,18 @@ loop-v-preserved g c =
     let F = c.args.self.now.factor in
     let holds = c.holds.ensures in
     let v = c.loop-v.v in
-    let p = c.parent-v.result in
+    let p = get_or c.parents-parents.result.now v 0 in
     let labels = c.loop-v.labels in
     let count = c.loop-v.invariant.count in
     let low : v < G.vertices = omega (arith, c.loop-v-test.true, count) in
     let step = c.offer_up.ensures in
     record {
       count = ap length step ∙ offered_from_count A holds.lawful C (at labels v) labels (row_of F.leaving v) ∙ count;
-      inside = c.parent-v.ensures.inside;
-      climbed = climbs_on A holds.lawful C holds.composes G holds.roads F holds.factor c.args.self.now.heads holds.outline.are holds.at_heads v p low c.parent-v.ensures.parent labels c.offer_up.new.labels count step
+      inside = (c.parents-parents.ensures.above v low).1;
+      climbed = climbs_on A holds.lawful C holds.composes G holds.roads F holds.factor c.args.self.now.heads holds.outline.are holds.at_heads v p low (c.parents-parents.ensures.parents.parent v low) labels c.offer_up.new.labels count step
           c.args.s c.loop-v.invariant.climbed;
       forward = λ sources start.
-          forward_climbs A holds.lawful C holds.composes G holds.roads F holds.factor c.args.self.now.heads holds.outline.are holds.at_heads v p low c.parent-v.ensures.parent labels c.offer_up.new.labels count step
+          forward_climbs A holds.lawful C holds.composes G holds.roads F holds.factor c.args.self.now.heads holds.outline.are holds.at_heads v p low (c.parents-parents.ensures.parents.parent v low) labels c.offer_up.new.labels count step
           c.args.s c.loop-v.invariant.climbed sources (c.loop-v.invariant.forward sources start);
     }
 

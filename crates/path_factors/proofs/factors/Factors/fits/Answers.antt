@@ -7,7 +7,7 @@ pub returns-clause-fits : goal.returns-clause-fits
 returns-clause-fits g c =
     let s = c.self.inside in
     let n : c.args.graph.now.vertices ≡ s.graph.value.vertices =
-    omega (arith, c.self.invariant.factor.ordering.places_count, c.vertices.ensures.count, c.len.ensures, c.if-vertices-len.false, s.places.ok.0) in
+    omega (arith, c.self.invariant.0.factor.ordering.places_count, c.vertices.ensures.count, c.len.ensures, c.if-vertices-len.false, s.places.ok.0) in
     record {
       vertices = n ∙ (λ i. (c.self.view_is i).roads.vertices);
       arcs = c.has_edges.ensures.0 c.if-not-has_edges.false;

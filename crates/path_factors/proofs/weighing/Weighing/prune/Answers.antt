@@ -2,7 +2,7 @@ use Rattle.std.proofs.Common.{sym, subst}
 use Rattle.path_algebra.specs.Algebra.{IsLawful}
 use Rattle.path_factors.specs.Heads.{heads_in}
 use Rattle.path_factors.specs.State.{FactorState}
-use Rattle.path_factors.specs.Tree.{IsFactored}
+use Rattle.path_factors.specs.Tree.{AreParentsTo, IsFactored}
 use Rattle.path_factors.proofs.Pruning.{whole_is_factored, pruned_is_factored}
 use Rattle.path_factors.proofs.weighing.Weighing.prune.Goals as goal
 use Rattle.path_factors.proofs.weighing.Weighing.prune.Goals.{in-All, in-Needed+in_ok-rows-in-Needed}
@@ -16,14 +16,20 @@ invariant_of-result g c =
     let lawful = subst (λ a. IsLawful (g.A.PathAlgebra.meaning a)) (λ i. (c.self.view_is i).algebra) c.laws_hold.ensures.lawful in
     elim c.match-links.branch [
       | in-All w ↦ rw (c.of.ensures, w.heads-is, w.self-inside-is)
-          (subst (λ (t : FactorState g.row.A.Denot g.row.A-Walk.Denot). IsFactored (g.A.PathAlgebra.meaning t.algebra) (g.A.ComposingAlgebra.walks t.algebra)
-          t.roads t.factor (heads_in t.factor.leaving)) (sym c.self.view_is)
-          (whole_is_factored A lawful C h.composes S.factor S.roads c.requires.covers c.requires.closed h.begun h.aligned h.roads h.outline))
+          (subst (λ (t : FactorState g.row.A.Denot g.row.A-Walk.Denot).
+          IsFactored (g.A.PathAlgebra.meaning t.algebra) (g.A.ComposingAlgebra.walks t.algebra)
+          t.roads t.factor (heads_in t.factor.leaving)
+          × AreParentsTo (heads_in t.factor.leaving) t.roads.vertices t.roads.vertices c.in_ok-parents.parents.items) (sym c.self.view_is)
+          (whole_is_factored A lawful C h.composes S.factor S.roads c.requires.covers c.requires.closed h.begun h.aligned h.roads h.outline, c.in_ok-parents.ensures))
       | in-Needed+in_ok-rows-in-Needed w ↦
           let rows = w.in_ok-rows-in-Needed.rows in
           rw (c.of.ensures, w.heads-is, w.self-inside-is, w.into_heads.ensures)
-          (subst (λ (t : FactorState g.row.A.Denot g.row.A-Walk.Denot). IsFactored (g.A.PathAlgebra.meaning t.algebra) (g.A.ComposingAlgebra.walks t.algebra) t.roads
-          (record { order = t.factor.order; places = t.factor.places; leaving = rows.leaving; entering = rows.entering }) (heads_in t.factor.leaving)) (sym c.self.view_is)
-          (pruned_is_factored A lawful C h.composes S.factor S.roads c.requires.covers c.requires.closed h.begun h.aligned h.roads h.outline
-          rows w.in_ok-rows-in-Needed.ensures))
+          (subst (λ (t : FactorState g.row.A.Denot g.row.A-Walk.Denot).
+          IsFactored (g.A.PathAlgebra.meaning t.algebra) (g.A.ComposingAlgebra.walks t.algebra) t.roads
+          (record { order = t.factor.order; places = t.factor.places; leaving = rows.leaving; entering = rows.entering }) (heads_in t.factor.leaving)
+          × AreParentsTo (heads_in t.factor.leaving) t.roads.vertices t.roads.vertices c.in_ok-parents.parents.items) (sym c.self.view_is) (
+            pruned_is_factored A lawful C h.composes S.factor S.roads c.requires.covers c.requires.closed h.begun h.aligned h.roads h.outline
+                rows w.in_ok-rows-in-Needed.ensures,
+            c.in_ok-parents.ensures,
+          ))
     ]

@@ -9,9 +9,12 @@ use std::thread;
 use std::thread::{Promise, PromisedHandle, Scope, SpawnError, Threads};
 
 /// What is asked of all workers together.
-pub trait Assignment<J, T> {
+pub trait Assignment<J> {
+    /// What a worker returns.
+    type Answer: Send + Drop;
+
     /// What the worker of this number may answer to this job.
-    ghost answers: { Self → ℕ → J → T → Type 0 };
+    ghost answers: { Self → ℕ → J → Self.Answer → Type 0 };
 
     /// That a thread for the worker of this number was refused.
     ghost was_refused: { Self → ℕ → Type 0 };
@@ -37,7 +40,7 @@ pub struct Assigned<'a, J, K> {
     job: Snapshot<J>,
 }
 
-impl<'a, J, T, K: Assignment<J, T>> Promise<T> for Assigned<'a, J, K> {
+impl<'a, J, K: Assignment<J>> Promise<K::Answer> for Assigned<'a, J, K> {
     ghost kept_by = { λ p r. K.answers p.assignment.now p.worker p.job.value r };
 }
 
@@ -46,18 +49,18 @@ fn start_one<
     's,
     E,
     J: Send + Drop + 's,
-    T: Send + Drop + 's,
-    K: Assignment<J, T>,
-    W: Fn(u64, J) -> T + Sync,
+    K: Assignment<J, Answer: 's>,
+    W: Fn(u64, J) -> K::Answer + Sync,
 >(
     scope: &Scope<'s, E>,
     assignment: &'s K,
     work: &'s W,
     worker: u64,
     job: J,
-) -> Option<PromisedHandle<T, Assigned<'s, J, K>>>
+) -> Option<PromisedHandle<K::Answer, Assigned<'s, J, K>>>
     requires can { W.pre work.now worker job }
-    requires does { (r : T) → W.post work.now worker job r → K.answers assignment.now worker job r }
+    requires does { (r : K.Answer) → W.post work.now worker job r →
+        K.answers assignment.now worker job r }
     ensures some { IfSome result (λ h. IsAssigned assignment.entry.now worker job h.promise) }
     ensures none { IfNone result (K.was_refused assignment.now worker) }
 {
@@ -68,7 +71,7 @@ fn start_one<
     };
     let started = scope.spawn_with(
         assigned,
-        move || -> T
+        move || -> K::Answer
             requires { W.pre work.now worker job }
             ensures { W.post work.entry.now worker job result }
         { work(worker, job) },
@@ -88,20 +91,19 @@ fn start_all<
     's,
     E,
     J: Send + Drop + 's,
-    T: Send + Drop + 's,
-    K: Assignment<J, T>,
-    W: Fn(u64, J) -> T + Sync,
+    K: Assignment<J, Answer: 's>,
+    W: Fn(u64, J) -> K::Answer + Sync,
 >(
     scope: &Scope<'s, E>,
     alloc: Global,
     assignment: &'s K,
     work: &'s W,
     jobs: Vec<J>,
-) -> Result<(Vec<PromisedHandle<T, Assigned<'s, J, K>>>, bool), AllocError>
+) -> Result<(Vec<PromisedHandle<K::Answer, Assigned<'s, J, K>>>, bool), AllocError>
     requires can { (k : ℕ) (job : J) → k < vec_len jobs → job ≡ slice_index_or jobs.items k job →
         W.pre work.now k job }
-    requires does { (k : ℕ) (job : J) (r : T) → W.post work.now k job r → K.answers assignment.now k
-        job r }
+    requires does { (k : ℕ) (job : J) (r : K.Answer) → W.post work.now k job r →
+        K.answers assignment.now k job r }
     ensures all { IfOk result (λ r. IsTrue r.1 → vec_len r.0 ≡ vec_len jobs) }
     ensures refused { IfOk result (λ r. r.1 ≡ false → K.was_refused assignment.now (vec_len r.0)) }
     ensures assigned { IfOk result (λ r. (k : ℕ) (h : _) (job : J) → k < vec_len r.0 →
@@ -121,10 +123,10 @@ fn start_all<
 }
 
 /// Joins each worker, after all were called off, and drops what it returns.
-fn join_and_drop<'s, J: Drop, T: Drop, K: Assignment<J, T>, R: Threads>(
+fn join_and_drop<'s, J: Drop, K: Assignment<J>, R: Threads>(
     rt: &R,
     _assignment: &K,
-    handles: Vec<PromisedHandle<T, Assigned<'s, J, K>>>,
+    handles: Vec<PromisedHandle<K::Answer, Assigned<'s, J, K>>>,
 )
     requires { K.called_off _assignment.now }
 {
@@ -135,16 +137,18 @@ fn join_and_drop<'s, J: Drop, T: Drop, K: Assignment<J, T>, R: Threads>(
 
 /// Joins all workers. If one was not started, or memory is refused, they are called off, and what
 /// they return is dropped.
-fn join_all<'s, J: Drop, T: Drop, K: Assignment<J, T>, R: Threads>(
+fn join_all<'s, J: Drop, K: Assignment<J>, R: Threads>(
     rt: &R,
     assignment: &K,
-    handles: Vec<PromisedHandle<T, Assigned<'s, J, K>>>,
+    handles: Vec<PromisedHandle<K::Answer, Assigned<'s, J, K>>>,
     all: bool,
-) -> Result<Vec<T>, AllocError>
+) -> Result<Vec<K::Answer>, AllocError>
     ensures started { IfOk result (λ _. IsTrue all) }
     ensures len { IfOk result (λ v. vec_len v ≡ vec_len handles.entry) }
-    ensures each { IfOk result (λ v. (k : ℕ) (r : T) → k < vec_len handles.entry
-        → (h : _) × (h ≡ slice_index_or handles.entry.items k h) × K.answers h.promise.assignment.now h.promise.worker h.promise.job.value (slice_index_or v.items k r)) }
+    ensures each { IfOk result (λ v. (k : ℕ) (r : K.Answer) → k < vec_len handles.entry →
+        (h : _) × (h ≡ slice_index_or handles.entry.items k h) ×
+        K.answers h.promise.assignment.now h.promise.worker h.promise.job.value
+        (slice_index_or v.items k r)) }
 {
     let handles = if all {
         match thread::join_promised(rt, handles) {
@@ -167,29 +171,34 @@ fn join_all<'s, J: Drop, T: Drop, K: Assignment<J, T>, R: Threads>(
 /// grow. All that were started have been joined by then.
 pub fn run_each<
     J: Send + Drop,
-    T: Send + Drop,
-    K: Assignment<J, T>,
-    W: Fn(u64, J) -> T + Sync,
+    K: Assignment<J>,
+    W: Fn(u64, J) -> K::Answer + Sync,
     R: Threads + Wait,
->(rt: &R, alloc: Global, jobs: Vec<J>, assignment: &K, work: &W) -> Result<Vec<T>, AllocError>
+>(
+    rt: &R,
+    alloc: Global,
+    jobs: Vec<J>,
+    assignment: &K,
+    work: &W,
+) -> Result<Vec<K::Answer>, AllocError>
     requires can { (k : ℕ) (job : J) → k < vec_len jobs → job ≡ slice_index_or jobs.items k job →
         W.pre work.now k job }
-    requires does { (k : ℕ) (job : J) (r : T) → W.post work.now k job r → K.answers assignment.now k
-        job r }
+    requires does { (k : ℕ) (job : J) (r : K.Answer) → W.post work.now k job r →
+        K.answers assignment.now k job r }
     ensures len { IfOk result (λ v. vec_len v ≡ vec_len jobs) }
-    ensures each { IfOk result (λ v. (k : ℕ) (job : J) (r : T) → k < vec_len jobs →
+    ensures each { IfOk result (λ v. (k : ℕ) (job : J) (r : K.Answer) → k < vec_len jobs →
         K.answers assignment.now k (slice_index_or jobs.items k job) (slice_index_or v.items k r)) }
 {
     thread::scope(
         thread::scope_env(),
         rt,
-        move |scope| -> Result<Vec<T>, AllocError>
+        move |scope| -> Result<Vec<K::Answer>, AllocError>
             requires can { (k : ℕ) (job : J) → k < vec_len jobs → job ≡ slice_index_or jobs.items k
                 job → W.pre work.now k job }
-            requires does { (k : ℕ) (job : J) (r : T) → W.post work.now k job r →
+            requires does { (k : ℕ) (job : J) (r : K.Answer) → W.post work.now k job r →
                 K.answers assignment.now k job r }
             ensures len { IfOk result (λ v. vec_len v ≡ vec_len jobs) }
-            ensures each { IfOk result (λ v. (k : ℕ) (job : J) (r : T) → k < vec_len jobs →
+            ensures each { IfOk result (λ v. (k : ℕ) (job : J) (r : K.Answer) → k < vec_len jobs →
                 K.answers assignment.entry.now k (slice_index_or jobs.items k job)
                 (slice_index_or v.items k r)) }
         {

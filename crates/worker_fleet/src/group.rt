@@ -49,10 +49,10 @@ struct GroupAssignment<'a, 't, A: PathAlgebra, G: Gate> {
     call_off: &'a CallOff,
 }
 
-impl<'a, 't, 'g, A: PathAlgebra, G: Gate> Assignment<
-    Vec<(usize, Station<'g, A>)>,
-    Option<Driven<'g, A>>,
-> for GroupAssignment<'a, 't, A, G> {
+impl<'g, A: PathAlgebra, G: Gate> Assignment<Vec<(usize, Station<'g, A>)>>
+    for GroupAssignment<'_, '_, A, G> {
+    type Answer = Option<Driven<'g, A>>;
+
     ghost answers = { λ o worker stations r. IfSome r (Drives A.meaning o.floors.now
         o.settings.now.budget o.settings.now.limit (G.may_answer o.settings.now.gate.now) worker
         stations.items) };

@@ -10,9 +10,9 @@ pub run_each-requires-send-J : goal.run_each-requires-send-J
 run_each-requires-send-J g c κs within = let s = c.type_bounds in
     param_send 0 _ (arg_send _ no _ (stations_send (copied 0 g.row.A) (copied 3 g.row.A-Value) g.A.PathAlgebra _ s.send-A s.send-A-Value))
 
-pub run_each-requires-send-T : goal.run_each-requires-send-T
-run_each-requires-send-T g c κs within = let s = c.type_bounds in
-    param_send 1 _ (arg_send _ no _ (answer_send (copied 0 g.row.A) (copied 3 g.row.A-Value) g.A.PathAlgebra _ s.send-A s.send-A-Value))
+pub run_each-requires-send-K-Answer : goal.run_each-requires-send-K-Answer
+run_each-requires-send-K-Answer g c κs within = let s = c.type_bounds in
+    param_send 4 _ (arg_send _ no _ (answer_send (copied 0 g.row.A) (copied 3 g.row.A-Value) g.A.PathAlgebra _ s.send-A s.send-A-Value))
 
 pub run_each-requires-clause-can : goal.run_each-requires-clause-can
 run_each-requires-clause-can g c κs within = λ k job low is. let s = c.type_bounds in

@@ -13,7 +13,7 @@
      answer needs, and puts all back, so no handle is const. A handle may be handed to another thread by whatever orders the
      two: the start or the end of a thread, a lock, a queue. For calls at the same time, give each thread a handle of its own
      by diffuse_graph_share.
-   - No call is made from a signal handler, nor in the forked child of a process that has threads.
+   - No call but diffuse_stop_set is made from a signal handler, and none in the forked child of a process that has threads.
    - The stack has room: DIFFUSE_STACK bytes are enough for each call. No call recurses. */
 #ifndef DIFFUSE_H
 #define DIFFUSE_H
@@ -271,8 +271,9 @@ DIFFUSE_CHECKED((1)) enum diffuse_status diffuse_stop_new(struct diffuse_stop *s
    have one stop. CLOSED, MEMORY or DONE. */
 DIFFUSE_CHECKED((1, 2)) enum diffuse_status diffuse_graph_stop_by(struct diffuse_graph *graph, struct diffuse_stop *stop);
 
-/* Sets or clears a stop. It may be set while another thread is in a call of a handle that has it; like a handle, the stop itself
-   is used by one thread at a time. CLOSED or DONE. */
+/* Sets or clears a stop. It may be set while another thread is in a call of a handle that has it, or by a signal handler: its flag
+   is an atomic byte, and no lock is taken and no memory asked for. Like a handle, the stop itself is used by one call at a time.
+   CLOSED or DONE. */
 DIFFUSE_NONNULL((1)) enum diffuse_status diffuse_stop_set(struct diffuse_stop *stop);
 DIFFUSE_NONNULL((1)) enum diffuse_status diffuse_stop_clear(struct diffuse_stop *stop);
 

@@ -136,8 +136,8 @@ struct verdict {
     const char* text() const noexcept { return right() ? "right" : diffuse_reason_text(reason); }
 };
 
-// A stop by which another thread ends calls of the graphs that have it: they throw DIFFUSE_STATUS_STOPPED. It is set, cleared and
-// given by one thread at a time; any may ask whether it is set.
+// A stop by which another thread ends calls of the graphs that have it: they throw DIFFUSE_STATUS_STOPPED. It is set (by a
+// signal handler too), cleared and given by one call at a time; any thread may ask whether it is set.
 class stop {
     ::diffuse_stop at = DIFFUSE_CLOSED;
     std::atomic<bool> flag{false};

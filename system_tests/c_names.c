@@ -3,6 +3,7 @@
    --wrap=realloc and -pthread. Each wrong name is printed; nothing is if all are right. */
 #include <diffuse.h>
 #include <pthread.h>
+#include <signal.h>
 #include <stdio.h>
 #include <stdlib.h>
 #include <string.h>
@@ -598,10 +599,25 @@ static void *ask_until_stopped(void *found) {
     return NULL;
 }
 
-static void stops(void) {
-    struct diffuse_stop none = DIFFUSE_CLOSED;
+static void set_by_signal(int number) {
+    (void)number;
+    diffuse_stop_set(&stop);
+}
+
+/* A call that runs ends once the stop is set: by this thread, or by the handler of a signal in the thread that asks. */
+static void stop_a_call(int by_signal) {
     enum diffuse_status found = DIFFUSE_STATUS_DONE;
     pthread_t thread;
+    IS(DIFFUSE_STATUS_DONE, diffuse_stop_clear(&stop));
+    IS(0, pthread_create(&thread, NULL, ask_until_stopped, &found));
+    if (by_signal) IS(0, pthread_kill(thread, SIGUSR1));
+    else IS(DIFFUSE_STATUS_DONE, diffuse_stop_set(&stop));
+    pthread_join(thread, NULL);
+    IS(DIFFUSE_STATUS_STOPPED, found);
+}
+
+static void stops(void) {
+    struct diffuse_stop none = DIFFUSE_CLOSED;
     diffuse_graph_close(&graph);
     IS(DIFFUSE_STATUS_CLOSED, diffuse_stop_set(&stop));
     IS(DIFFUSE_STATUS_CLOSED, diffuse_stop_clear(&stop));
@@ -631,11 +647,9 @@ static void stops(void) {
     ask_chain(&graph, DIFFUSE_ALGEBRA_SHORTEST, DIFFUSE_STATUS_DONE);
     two_stops();
     IS(DIFFUSE_STATUS_DONE, diffuse_graph_stop_by(&graph, &stop));
-    IS(DIFFUSE_STATUS_DONE, diffuse_stop_clear(&stop));
-    IS(0, pthread_create(&thread, NULL, ask_until_stopped, &found));
-    IS(DIFFUSE_STATUS_DONE, diffuse_stop_set(&stop));
-    pthread_join(thread, NULL);
-    IS(DIFFUSE_STATUS_STOPPED, found);
+    stop_a_call(0);
+    signal(SIGUSR1, set_by_signal);
+    stop_a_call(1);
     IS(DIFFUSE_STATUS_DONE, diffuse_graph_factor(&graph, DIFFUSE_ALGEBRA_SHORTEST));
     IS(DIFFUSE_STATUS_STOPPED, diffuse_graph_tree(&graph, DIFFUSE_ALGEBRA_SHORTEST, 0, &ONE, 1, codes_of, LONG, NULL, 0, NULL, 0));
     IS(DIFFUSE_STATUS_DONE, diffuse_graph_tree(&graph, DIFFUSE_ALGEBRA_WITHIN, 9, &ONE, 1, codes_of, LONG, NULL, 0, NULL, 0));

@@ -328,10 +328,10 @@ class Graph:
         return table
 
     def factor(self, algebra: AnyAlgebra = Algebra.SHORTEST) -> None:
-        """Factors the graph for an algebra, after which its routes, trees and tables are the same,
-        in a fraction of the time.
+        """Factors the graph for an algebra, after which its routes, trees and tables are the same:
+        a far route or a table takes a fraction of the time, and a far tree about half.
 
-        A near route is still found by a search, in the time that it took before. `shortest` and
+        What is near is still found by a search. `shortest` and
         `within` have one factoring, `hops` has its own. Calls of other threads go on meanwhile.
 
         Raises

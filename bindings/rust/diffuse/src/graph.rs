@@ -188,8 +188,9 @@ impl Graph {
         Ok(tree)
     }
 
-    /// The vertices that are reached from the nearest of the sources, the best first, each with its label. It costs what it
-    /// returns: less than a tree, if [`Algebra::Within`] reaches only a part of the graph.
+    /// The vertices that are reached from the nearest of the sources, the best first, each with its label; equal codes are in the
+    /// order of their hops, and then of the vertices. It costs what it returns: less than a tree, if [`Algebra::Within`] reaches
+    /// only a part of the graph.
     pub fn near(&self, algebra: Algebra, sources: &[u32]) -> Result<Vec<(u32, Label)>, Error> {
         let mut count = self.near_room.get().min(self.vertices() as usize);
         loop {
@@ -250,7 +251,8 @@ impl Graph {
     }
 
     /// Factors the graph for an algebra. Afterwards routes, trees and tables of this graph, and of those that are shared from it
-    /// later, are the same, in a fraction of the time; a near route is still found by a search.
+    /// later, are the same: a far route or a table takes a fraction of the time, and a far tree about half. What is near is still
+    /// found by a search.
     ///
     /// `Shortest` and `Within` have one factoring, `Hops` has its own, and the others have none. A graph that is refused is
     /// searched as before.

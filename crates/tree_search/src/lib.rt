@@ -16,4 +16,4 @@ mod step;
 mod table;
 
 pub use searcher::TreeSearcher;
-pub use solve::solve_with_tree;
+pub use solve::{solve_with_tree, solve_with_tree_unless};

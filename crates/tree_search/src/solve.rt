@@ -1,27 +1,33 @@
 //! Best values from a list of sources, with their hops and parents.
 
-ghost use Rattle.std.specs.Prelude.{All, IfOk};
+ghost use Rattle.std.specs.Prelude.{◌≡◌, All, IfOk, IfSome, None};
 ghost use Rattle.road_graph.specs.GraphData.{HasVertex};
 ghost use Rattle.path_algebra.specs.Walks.{AreBest};
+ghost use Rattle.path_plain.specs.Halting.{CanHalt};
 ghost use Rattle.route_tree.specs.Tree.{IsTree};
 
 use crate::search::Search;
 use path_algebra::{Labels, PathAlgebra, laws_hold};
-use path_plain::solve_outgoing;
+use path_plain::{Halt, solve_outgoing};
 use road_graph::{Memory, OutGraph, Vertex};
 use route_tree::{Tree, tree_outgoing};
 use std::alloc::Global;
 
-/// Labels and tree by one search, which finds hops and parents with the values.
-fn solve_in_one_search<A: PathAlgebra>(
+/// Labels and tree by one search, which finds hops and parents with the values; none if it is to
+/// give up before. The only error is `Memory`.
+pub fn solve_with_tree_unless<A: PathAlgebra>(
     alloc: Global,
     algebra: A,
     graph: &OutGraph,
     sources: &[Vertex],
-) -> Result<(Labels<A::Value>, Tree), Memory>
+    halt: &mut Halt<'_>,
+) -> Result<Option<(Labels<A::Value>, Tree)>, Memory>
     requires { All (HasVertex graph.now) sources.now }
-    ensures labels { IfOk result (λ s. AreBest (A.meaning algebra) graph.now sources.now s.0) }
-    ensures tree { IfOk result (λ s. IsTree (A.meaning algebra) graph.now sources.now s.1) }
+    ensures labels { IfOk result (λ found. IfSome found (λ s. AreBest (A.meaning algebra) graph.now
+        sources.now s.0)) }
+    ensures tree { IfOk result (λ found. IfSome found (λ s. IsTree (A.meaning algebra) graph.now
+        sources.now s.1)) }
+    ensures halts { IfOk result (λ found. found ≡ None → CanHalt halt.old) }
 {
     laws_hold(algebra);
     graph.holds();
@@ -30,7 +36,10 @@ fn solve_in_one_search<A: PathAlgebra>(
     loop {
         let step = search.settle_next(graph)?;
         if step.is_end() {
-            return Ok(search.into_labels_and_tree());
+            return Ok(Some(search.into_labels_and_tree()));
+        }
+        if halt.is_due() {
+            return Ok(None);
         }
     }
 }
@@ -68,8 +77,10 @@ pub fn solve_with_tree<A: PathAlgebra>(
     ensures tree { IfOk result (λ s. IsTree (A.meaning algebra) graph.now sources.now s.1) }
 {
     if algebra.ties_mostly() {
-        solve_in_two_passes(alloc, algebra, graph, sources)
-    } else {
-        solve_in_one_search(alloc, algebra, graph, sources)
+        return solve_in_two_passes(alloc, algebra, graph, sources);
+    }
+    match solve_with_tree_unless(alloc, algebra, graph, sources, &mut Halt::Never)? {
+        Some(solved) => Ok(solved),
+        None => unreachable!(),
     }
 }

@@ -1,13 +1,15 @@
 use Rattle.std.proofs.Common.{◌≡◌, ◌+◌, ◌*◌, length}
+use Rattle.path_plain.specs.Halting.{CanHalt}
 use Rattle.tree_search.specs.Marks.{unsettled}
 use Rattle.tree_search.proofs.Rounds.{Between}
-use Rattle.tree_search.proofs.solve.solve_in_one_search.Given as goal
+use Rattle.tree_search.proofs.solve.solve_with_tree_unless.Given as goal
 
 abbrev pub invariant-loop-search : goal.invariant-loop-search
 invariant-loop-search g l = record {
   algebra : l.search.algebra ≡ l.fn.algebra;
   graph : l.search.roads ≡ l.graph;
   between : Between (g.A.PathAlgebra.meaning l.fn.algebra) l.graph l.sources l.search.marks l.search.settled;
+  halt : CanHalt l.halt → CanHalt l.fn.halt;
 }
 
 abbrev pub decreases-loop-search : goal.decreases-loop-search

@@ -1,8 +1,8 @@
-use Rattle.std.proofs.Common.{◌≡◌, ◌∙◌, sym, false}
+use Rattle.std.proofs.Common.{◌≡◌, ◌∙◌, sym, None, Some, false}
 use Rattle.tree_search.specs.Searching.{is_end}
 use Rattle.tree_search.proofs.Listing.{started}
 use Rattle.tree_search.proofs.Steps.{by_equal, next_round, last_round, comes_nearer}
-use Rattle.tree_search.proofs.solve.solve_in_one_search.Goals as goal
+use Rattle.tree_search.proofs.solve.solve_with_tree_unless.Goals as goal
 
 pub loop-search-init : goal.loop-search-init
 loop-search-init g c =
@@ -13,6 +13,7 @@ loop-search-init g c =
       algebra = c.in_ok-start.ensures.same.algebra ∙ c.in_ok-search.ensures.algebra;
       graph = c.in_ok-start.ensures.same.roads ∙ c.in_ok-search.ensures.graph;
       between = start.0;
+      halt = λ can. can;
     }
 
 pub loop-search-preserved : goal.loop-search-preserved
@@ -26,6 +27,7 @@ loop-search-preserved g c =
       graph = step.roads ∙ was.graph;
       between = next_round A c.laws_hold.ensures.lawful g.A.PathAlgebra.order c.laws_hold.ensures.order c.args.graph.now c.holds.ensures c.args.sources.now c.requires
           c.loop-search.search c.settle_next.new.self was.graph was.between c.in_ok-step.step more step;
+      halt = λ can. was.halt (c.is_due.ensures.kind.0 can);
     }
 
 pub loop-search-smaller : goal.loop-search-smaller
@@ -55,4 +57,5 @@ returns-then-is_end g c =
     record {
       labels = rw c.into_labels_and_tree.ensures.labels last.0;
       tree = rw c.into_labels_and_tree.ensures.tree last.1;
+      halts = λ no. let bad : Some c.into_labels_and_tree.result ≡ None = no in cc;
     }

@@ -1,6 +1,6 @@
 //! An order in the making.
-ghost use Rattle.std.specs.Prelude.{◌≡◌, ◌≢◌, ℕ, ◌+◌, ◌<◌, ◌≤◌, ◌↔◌, ◌^◌, IfOk, IsTrue, length, slice_index, slice_set};
-ghost use Rattle.elimination_order.specs.Orders.{StandAtPlaces, filled};
+ghost use Rattle.std.specs.Prelude.{◌≡◌, ◌≢◌, ℕ, ◌+◌, ◌<◌, ◌≤◌, ◌↔◌, ◌^◌, None, IfOk, IfSome, IsTrue, length, slice_index, slice_set};
+ghost use Rattle.elimination_order.specs.Orders.{HasEachPlace, StandAtPlaces, filled};
 
 use crate::lists::at;
 use crate::order::Order;
@@ -61,6 +61,8 @@ impl OrderBuilder {
         ensures count { self.new.count ≡ self.old.count + 1 }
         ensures vertices { self.new.vertices.items ≡ slice_set self.old.vertices.items place
             (self.old.count + 1) }
+        ensures places { self.new.places.items ≡ slice_set self.old.places.items self.old.count
+            place }
     {
         self.places[self.count as usize] = place;
         self.count += 1;
@@ -85,12 +87,33 @@ impl OrderBuilder {
     /// The order, once each vertex has its place.
     pub fn build(self) -> Order
         requires { self.count ≡ length self.vertices.items }
-        ensures { result.vertices ≡ self.vertices }
+        ensures vertices { result.vertices ≡ self.vertices }
+        ensures places { result.places ≡ self.places }
     {
         Order {
             vertices: self.vertices,
             places: self.places,
         }
+    }
+}
+
+impl Order {
+    /// The order in which each vertex has its place of this list; none if the list does not have
+    /// each place once.
+    pub fn of_places(alloc: Global, places: &[u32]) -> Result<Option<Order>, Memory>
+        requires { length places.now < 2 ^ 32 }
+        ensures places { IfOk result (λ made. IfSome made (λ order. order.places.items ≡ places.now)) }
+        ensures some { IfOk result (λ made. IfSome made (λ _. HasEachPlace places.now)) }
+        ensures none { IfOk result (λ made. made ≡ None → HasEachPlace places.now → ⊥) }
+    {
+        let mut builder = OrderBuilder::new(alloc, places.len() as u32)?;
+        for place in places {
+            if !builder.is_free(*place) {
+                return Ok(None);
+            }
+            builder.place_next(*place);
+        }
+        Ok(Some(builder.build()))
     }
 }
 

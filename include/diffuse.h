@@ -72,8 +72,8 @@ enum diffuse_status {
     DIFFUSE_STATUS_NONE = -1,           /* no status: so compilers take the enumeration for signed, as the statuses are */
     DIFFUSE_STATUS_DONE = 0,
     DIFFUSE_STATUS_NO_ROUTE = 1,        /* no walk from the source to the target has a value */
-    DIFFUSE_STATUS_NO_ROOM = 2,         /* route, route_arcs, near and arcs_from: fewer places than are needed; tree and check: a list
-                                           does not have exactly one place for each vertex (for tree, or none); table: the list
+    DIFFUSE_STATUS_NO_ROOM = 2,         /* route, route_arcs, near and arcs_from: fewer places than are needed; tree, check and factor_by: a
+                                           list does not have exactly one place for each vertex (for tree, or none); table: the list
                                            does not have exactly n_sources * n_targets elements; read: a text of more than 2^32
                                            bytes */
     DIFFUSE_STATUS_MEMORY = 3,          /* out of memory */
@@ -81,9 +81,9 @@ enum diffuse_status {
     DIFFUSE_STATUS_OPEN = 5,            /* the handle that was to be opened has a graph already */
     DIFFUSE_STATUS_WRONG = 6,           /* check: the lists are not the tree */
     DIFFUSE_STATUS_DENSE = 7,           /* factor: factors would need too many links: no small separators */
-    DIFFUSE_STATUS_HEAVY = 8,           /* factor and reweigh: the weights are so great that a sum with its arcs may not fit into
+    DIFFUSE_STATUS_HEAVY = 8,           /* factor, factor_by and reweigh: the weights are so great that a sum with its arcs may not fit into
                                            63 bits */
-    DIFFUSE_STATUS_NO_FACTORS = 9,      /* factor: the algebra has no factors */
+    DIFFUSE_STATUS_NO_FACTORS = 9,      /* factor and factor_by: the algebra has no factors */
     DIFFUSE_STATUS_NO_PROBLEM = 10,
     DIFFUSE_STATUS_SECOND_PROBLEM = 11,
     DIFFUSE_STATUS_BAD_PROBLEM = 12,
@@ -98,7 +98,8 @@ enum diffuse_status {
     DIFFUSE_STATUS_NO_LINK = 44,        /* reweigh: an arc between vertices between which the factors have no link */
     DIFFUSE_STATUS_STOPPED = 45,        /* route, tree, near and table: the handle's stop was set before there was an answer */
     DIFFUSE_STATUS_OTHER_ARCS = 46,     /* number: the arcs are not those of the graph */
-    DIFFUSE_STATUS_NO_NUMBERS = 47      /* route_arcs: the arcs of the graph were not numbered */
+    DIFFUSE_STATUS_NO_NUMBERS = 47,     /* route_arcs: the arcs of the graph were not numbered */
+    DIFFUSE_STATUS_NO_ORDER = 48        /* factor_by: the list does not have each place once */
 };
 
 /* What is best, and what a code is. Only DIFFUSE_ALGEBRA_WITHIN reads the limit of a call. Any number of 32 bits may be given;
@@ -251,6 +252,14 @@ enum diffuse_status diffuse_graph_table(struct diffuse_graph *graph, enum diffus
    CLOSED, NO_ALGEBRA, NO_FACTORS, MEMORY, HEAVY, DENSE or DONE. */
 DIFFUSE_CHECKED((1))
 enum diffuse_status diffuse_graph_factor(struct diffuse_graph *graph, enum diffuse_algebra algebra);
+
+/* The same by an order of elimination: the place of each vertex in it, from 0, as `diffuse order` writes them; so one that was found
+   with care is kept with a graph, and serves each time. Factors that the handle had for the algebra go; other handles keep theirs.
+   Any order gives the same answers; a bad one takes much time and memory.
+   CLOSED, NO_ALGEBRA, NO_FACTORS, NO_ROOM, NO_ORDER, MEMORY, HEAVY or DONE. */
+DIFFUSE_CHECKED((1))
+enum diffuse_status diffuse_graph_factor_by(struct diffuse_graph *graph, enum diffuse_algebra algebra, const uint32_t *places,
+    size_t n_places);
 
 /* Opens a second, closed handle with the graph of these arcs on the same vertices, factored as the first one is, over the links
    that it has, in about half the time of diffuse_graph_factor. Weights may change, and arcs may go, come back or have others
@@ -430,6 +439,7 @@ DIFFUSE_ONE const char *diffuse_status_text(int32_t status) {
     case DIFFUSE_STATUS_STOPPED: return "stopped before there was an answer";
     case DIFFUSE_STATUS_OTHER_ARCS: return "arcs that are not those of the graph";
     case DIFFUSE_STATUS_NO_NUMBERS: return "a graph whose arcs were not numbered";
+    case DIFFUSE_STATUS_NO_ORDER: return "a list that does not have each place once";
     default: return "no status";
     }
 }

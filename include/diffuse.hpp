@@ -374,6 +374,13 @@ public:
         return status;
     }
 
+    // The same by an order of elimination, the place of each vertex in it, from 0: DONE or HEAVY.
+    diffuse_status factor(measure by, numbers places) {
+        auto status = diffuse_graph_factor_by(&at, by.number(), places.data(), places.size());
+        if (status != DIFFUSE_STATUS_HEAVY) expect(status);
+        return status;
+    }
+
     // A second graph with these arcs on the same vertices, factored as this one is, over its links. Its arcs are not numbered.
     graph reweigh(view<const arc> arcs) const {
         graph second;

@@ -14,7 +14,7 @@ LIBRARIES = "lib/x86_64-linux-gnu"
 DEBIAN = TOP / "packaging/debian"
 MAINTAINER = "Zikkolen maintainers <maintainers@users.noreply.zikkolen.example>"
 # The version from which each set of symbols is there, by the name of its node.
-NODES = {"DIFFUSE_1": "1.1.0"}
+NODES = {"DIFFUSE_1": "1.1.0", "DIFFUSE_1_2": "1.2.0"}
 Built = namedtuple("Built", "release package root")
 
 

@@ -147,6 +147,19 @@ static clock_t small_tree(void) {
     return least;
 }
 
+/* By which way a tree within a limit is found on a factored graph, told by what it grows the second time: a search for a tenth of
+   the vertices uses the kept lists, and sweeps for all of them make their own. */
+static void trees_within(void) {
+    for (uint32_t reached = N / 10; reached <= N; reached += N - N / 10) {
+        for (int run = 0; run < 2; run++) {
+            grown = 0;
+            DONE(diffuse_graph_tree(&graph, DIFFUSE_ALGEBRA_WITHIN, sums[reached - 1], &ONE, 1, codes, N, hops_of, N, NULL, 0));
+        }
+        hold(codes[reached - 1] == sums[reached - 1] && hops_of[reached - 1] == reached - 1, "a tree within a limit");
+        hold((grown < N) == (reached < N), "the way to a tree within a limit");
+    }
+}
+
 /* A handle that shares a graph has no arcs by head of its own: over a graph with an arc from each vertex to each, a route grows less. */
 static void shared_arcs(void) {
     struct diffuse_arc *all = (struct diffuse_arc *)malloc((size_t)FULL * FULL * sizeof *all);
@@ -175,6 +188,7 @@ int main(void) {
     searched = small_tree();
     factors();
     hold(small_tree() <= 5 * searched, "the time of a small tree by factors");
+    trees_within();
     diffuse_stop_free(&stop); /* it was never set */
     answers(1100); /* a chain is a hard case: a code by factors takes a millisecond */
     kept_lists(1);

@@ -176,6 +176,41 @@ static void factors(void) {
     IS(2, code);
 }
 
+static enum diffuse_status factor_by(int algebra, const uint32_t *places, size_t n) {
+    return diffuse_graph_factor_by(&graph, (enum diffuse_algebra)algebra, places, n);
+}
+
+/* Factors by the places of an order: which lists are none, and that answers are the same by any order, also in place of others. */
+static void factors_by_an_order(void) {
+    static const uint32_t ORDERS[4][5] = {{0, 1, 2, 3, 4}, {4, 3, 2, 1, 0}, {2, 0, 4, 1, 3}, {4, 0, 3, 1, 2}};
+    static const uint32_t TWICE[] = {0, 1, 2, 3, 3}, GREAT[] = {0, 1, 2, 3, 5}, FROM_1[] = {1, 2, 3, 4, 5};
+    diffuse_graph_close(&graph);
+    IS(DIFFUSE_STATUS_CLOSED, factor_by(DIFFUSE_ALGEBRA_SHORTEST, ORDERS[0], 5));
+    open(FIVE, 5, 7);
+    IS(DIFFUSE_STATUS_NO_ALGEBRA, factor_by(6, TWICE, 4));
+    IS(DIFFUSE_STATUS_NO_FACTORS, factor_by(DIFFUSE_ALGEBRA_WIDEST, TWICE, 4));
+    IS(DIFFUSE_STATUS_NO_ROOM, factor_by(DIFFUSE_ALGEBRA_SHORTEST, TWICE, 4));
+    IS(DIFFUSE_STATUS_NO_ORDER, factor_by(DIFFUSE_ALGEBRA_SHORTEST, TWICE, 5));
+    IS(DIFFUSE_STATUS_NO_ORDER, factor_by(DIFFUSE_ALGEBRA_HOPS, GREAT, 5));
+    IS(DIFFUSE_STATUS_NO_ORDER, factor_by(DIFFUSE_ALGEBRA_WITHIN, FROM_1, 5));
+    is_short_of_memory = 1;
+    IS(DIFFUSE_STATUS_MEMORY, factor_by(DIFFUSE_ALGEBRA_SHORTEST, ORDERS[0], 5));
+    is_short_of_memory = 0;
+    for (size_t i = 0; i < 4; i++) {
+        IS(DIFFUSE_STATUS_DONE, factor_by(DIFFUSE_ALGEBRA_SHORTEST, ORDERS[i], 5));
+        IS(DIFFUSE_STATUS_DONE, factor_by(DIFFUSE_ALGEBRA_HOPS, ORDERS[i], 5));
+        tables();
+    }
+    open_shape(0, 65536, 4294967295u);
+    uint32_t *places = (uint32_t *)__real_malloc(65536 * sizeof *places);
+    for (uint32_t v = 0; v < 65536; v++) places[v] = v;
+    IS(DIFFUSE_STATUS_HEAVY, factor_by(DIFFUSE_ALGEBRA_SHORTEST, places, 65536));
+    IS(DIFFUSE_STATUS_DONE, factor_by(DIFFUSE_ALGEBRA_HOPS, places, 65536));
+    free(places);
+    IS(DIFFUSE_STATUS_DONE, route(DIFFUSE_ALGEBRA_HOPS, 0, 1, 3, 8));
+    IS(2, code);
+}
+
 static enum diffuse_status reweigh(const struct diffuse_arc *arcs, size_t n) { return diffuse_graph_reweigh(&graph, arcs, n, &second); }
 
 /* Whether the shortest walk from 1 to 4 has this code, by a handle. */
@@ -692,6 +727,7 @@ static void *all(void *nothing) {
     empty_lists();
     unwanted_lists();
     factors();
+    factors_by_an_order();
     factors_once();
     reweighs();
     stops();

@@ -1,5 +1,5 @@
-/* A stop that is set while one call runs, which would take about a second: the call ends within 0.2 s of processor time; a tree by
-   factors, which takes less, within 0.05 s. Link with -pthread.
+/* A stop that is set while one call runs, which would take about a second: the call ends within 0.2 s of processor time; a widest
+   tree, of which many vertices wait, and a tree by factors, which takes less, within 0.05 s. Link with -pthread.
    c_library beside this file says what it must print. */
 #define _GNU_SOURCE
 #include <diffuse.h>
@@ -172,6 +172,7 @@ int main(void) {
     struct asked each[] = {{"route", route, DIFFUSE_ALGEBRA_SHORTEST, BEGUN, LATE, 0, DIFFUSE_STATUS_NONE},
                            {"route within", route, DIFFUSE_ALGEBRA_WITHIN, BEGUN, LATE, 0, DIFFUSE_STATUS_NONE},
                            {"tree", tree, DIFFUSE_ALGEBRA_SHORTEST, BEGUN, LATE, 0, DIFFUSE_STATUS_NONE},
+                           {"widest tree", tree, DIFFUSE_ALGEBRA_WIDEST, BEGUN, SOON, 0, DIFFUSE_STATUS_NONE},
                            {"near", near, DIFFUSE_ALGEBRA_SHORTEST, BEGUN, LATE, 0, DIFFUSE_STATUS_NONE},
                            {"table by searches", far_table, DIFFUSE_ALGEBRA_SHORTEST, BEGUN, LATE, 0, DIFFUSE_STATUS_NONE},
                            {"table of near targets", near_table, DIFFUSE_ALGEBRA_SHORTEST, BEGUN, LATE, 0, DIFFUSE_STATUS_NONE},

@@ -230,6 +230,7 @@ int main() {
     expect(verdict.vertex == 4 && verdict.reason == DIFFUSE_REASON_NOT_BEST, "check of another tree");
     expect(graph.table({1, 5}, {4, 1}) == codes({8, 0, 11, 3}) && graph.table({1}, {}).empty(), "table");
     expect(graph.factor() == DIFFUSE_STATUS_DONE && graph.route(1, 4).vertices == numbers({1, 3, 2, 4}), "factor");
+    expect(graph.factor(diffuse::shortest, numbers({4, 2, 0, 1, 3})) == DIFFUSE_STATUS_DONE && graph.table({1}, {4}) == codes({8}), "factor by an order");
     diffuse::graph other = graph.reweigh({{1, 2, 1}, {2, 4, 30}, {3, 4, 3}});
     expect(other.route(1, 4).code == 31 && graph.route(1, 4).code == 8, "reweigh");
     expect(refused(DIFFUSE_STATUS_NO_LINK, [&] { graph.reweigh({{4, 5, 1}}); }), "no link");
@@ -258,6 +259,7 @@ int main() {
     expect(refused(DIFFUSE_STATUS_CLOSED, [&] { diffuse::graph().route(1, 4); }), "closed");
     expect(refused(DIFFUSE_STATUS_NO_VERTEX, [&] { graph.route(1, 6); }), "no vertex");
     expect(refused(DIFFUSE_STATUS_NO_FACTORS, [&] { graph.factor(DIFFUSE_ALGEBRA_WIDEST); }), "no factors");
+    expect(refused(DIFFUSE_STATUS_NO_ORDER, [&] { graph.factor(diffuse::hops, numbers({0, 0, 1, 2, 3})); }), "no order");
     expect(diffuse::graph::read("p sp 2 1\na 1 2 3\n").route(1, 2).code == 3, "read");
     try {
         diffuse::graph::read("p sp 2 1\na 1 2\n");

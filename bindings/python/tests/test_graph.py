@@ -66,6 +66,15 @@ class Answers(unittest.TestCase):
             for algebra in ("shortest", "hops", diffuse.Algebra.WITHIN):
                 graph.factor(algebra)
 
+    def test_factors_by_an_order(self):
+        graph = Graph(5, ARCS)
+        for places in ([0, 1, 2, 3, 4], (4, 0, 3, 1, 2), range(5)):
+            graph.factor("shortest", places)
+            self.assertEqual([list(map(int, row)) for row in graph.table([1, 5], [4, 1, 5])], [[8, 0, NONE], [11, 3, 0]])
+        self.assertRaises(diffuse.NoRoom, graph.factor, "hops", [0, 1, 2, 3])
+        for places in ([0, 1, 2, 3, 3], [1, 2, 3, 4, 5]):
+            self.assertRaises(diffuse.NoOrder, graph.factor, "hops", places)
+
     def test_what_is_not_factored(self):
         complete = Graph(200, [(v, w, 1) for v in range(1, 201) for w in range(1, 201)])
         self.assertRaises(diffuse.TooDense, complete.factor)

@@ -41,7 +41,7 @@ STATUSES = {
     12: ("BadProblemLine", 400, "not `p sp VERTICES ARCS`"), 13: ("UnknownLine", 400, "none of c, p and a"), 14: ("WrongFields", 400, "number of fields"),
     15: ("NotANumber", 400, "whole number"), 16: ("OutOfRange", 400, "limits"), 17: ("NoVertex", 404, "no vertex"), 18: ("TooManyArcs", 400, "More arc lines"),
     19: ("TooFewArcs", 400, "Fewer arc lines"), 43: ("NoAlgebra", 400, "no such algebra"), 44: ("NoLink", 422, "no link"), 45: ("Stopped", 500, "stop was set"),
-    46: ("OtherArcs", 400, "not those of the graph"), 47: ("NoNumbers", 500, "not numbered"),
+    46: ("OtherArcs", 400, "not those of the graph"), 47: ("NoNumbers", 500, "not numbered"), 48: ("NoOrder", 400, "each place once"),
 }
 REASONS = {
     1: ("NOT_A_SOURCE_LINE", "a source has the value of no arcs"), 2: ("NOT_BEST", "an arc gives a better value"), 3: ("NO_PARENT", "the parent does not give it"),

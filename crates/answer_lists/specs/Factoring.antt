@@ -1,5 +1,5 @@
 -- Factors of a graph, and why it has none.
-use Rattle.std.specs.Prelude.{◌≡◌, ◌↔◌, ℕ, ℤ, pos, length, Option, Some, None}
+use Rattle.std.specs.Prelude.{◌≡◌, ◌≢◌, ◌↔◌, ℕ, List, ℤ, pos, length, Option, Some, None}
 use Rattle.road_graph.specs.GraphData.{GraphData}
 use Rattle.path_algebra.specs.Algebra.{Algebra}
 use Rattle.path_algebra.specs.Carried.{IsCarried}
@@ -9,6 +9,7 @@ use Rattle.path_algebra.specs.declared.choice.AlgebraChoice.{AlgebraChoice}
 use Rattle.path_algebra.specs.declared.counted_sums.Cost.{Cost}
 use Rattle.path_algebra.specs.declared.counted_sums.CountedSums.{CountedSums}
 use Rattle.elimination_order.specs.Bounds.{IsTooDense}
+use Rattle.elimination_order.specs.Orders.{HasEachPlace}
 use Rattle.elimination_order.specs.declared.counts.Counts.{Counts}
 use Rattle.path_factors.specs.State.{FactorState}
 use Rattle.answer_lists.specs.Sharing.{Shared, factored_for}
@@ -47,3 +48,9 @@ IsFactoredBy old new (Some cost) = new ≡ factored_for old cost
 pub record ReportsFactoring (old new : Shared) (status : ℤ) (cost : Option Cost) : Type 0 where
   pub done : status ≡ pos 0 → IsFactoredBy old new cost
   pub none : (status ≡ pos 9) ↔ (cost ≡ None)
+
+-- what the status says of the places of n vertices by which a graph is to be factored
+pub record ReportsPlaces (n : ℕ) (places : List ℕ) (status : ℤ) : Type 0 where
+  pub done : status ≡ pos 0 → (length places ≡ n) × HasEachPlace places
+  pub short : status ≡ pos 2 → length places ≢ n
+  pub refused : status ≡ pos 48 → HasEachPlace places → ⊥

@@ -121,6 +121,27 @@ impl Kept {
             |searchers| searchers.route(graph, by_head, pair, until)
         )
     }
+
+    /// Whether a search within a limit from some sources ends before it is to give up.
+    pub(crate) fn ends_within(
+        &mut self,
+        graph: &OutGraph,
+        sources: &[Vertex],
+        halt: &mut Halt<'_>,
+    ) -> bool
+        requires over { IsKeptOver graph.now self.old }
+        requires sources { All (HasVertex graph.now) sources.now }
+        ensures over { IsKeptOver graph.now self.new }
+    {
+        let Kept::Within(searchers) = self else {
+            return false;
+        };
+        let Ok(Some(found)) = searchers.reach(graph, sources, halt) else {
+            return false;
+        };
+        searchers.trees = Some(found);
+        true
+    }
 }
 
 impl<A: PathAlgebra> Searchers<A> {

@@ -20,6 +20,7 @@ mod algebra_number;
 mod codes;
 mod factored_graph;
 mod factoring;
+mod factoring_by;
 mod judging;
 mod kept;
 mod lines;
@@ -39,6 +40,7 @@ mod tree_lists;
 
 pub use algebra_number::AlgebraNumber;
 pub use factoring::factor_graph;
+pub use factoring_by::factor_graph_by;
 pub use judging::{FirstRefuted, check_tree};
 pub use lines::ListedTree;
 pub use near::answer_near;
@@ -49,8 +51,8 @@ pub use route::{RouteRoom, answer_route};
 pub use route_arcs::{RouteArcsRoom, answer_route_arcs};
 pub use shared_graph::SharedGraph;
 pub use status::{
-    DENSE, DONE, HEAVY, MEMORY, NO_ALGEBRA, NO_FACTORS, NO_LINK, NO_ROOM, NO_ROUTE, NO_VERTEX,
-    STOPPED, WRONG,
+    DENSE, DONE, HEAVY, MEMORY, NO_ALGEBRA, NO_FACTORS, NO_LINK, NO_ORDER, NO_ROOM, NO_ROUTE,
+    NO_VERTEX, STOPPED, WRONG,
 };
 pub use table::{TableEnds, answer_table};
 pub use tree::answer_tree;

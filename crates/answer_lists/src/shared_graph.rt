@@ -1,6 +1,6 @@
 //! A graph that handles share, with what was made of it for its answers.
 
-ghost use Rattle.std.specs.Prelude.{◌≡◌, ℕ, length, IfOk, IfErr, IfNone, IfSome, OnErr, OnOk, is_some};
+ghost use Rattle.std.specs.Prelude.{◌≡◌, ◌≢◌, ℕ, length, IfOk, IfErr, IfNone, IfSome, OnErr, OnOk, is_some};
 ghost use Rattle.std.specs.Arc.{arc_value};
 ghost use Rattle.path_algebra.specs.Carried.{IsCarried};
 ghost use Rattle.path_algebra.specs.Counted.{cost_of, CountsFit};
@@ -13,8 +13,10 @@ mod searching;
 
 use crate::factored_graph::FactoredGraph;
 use crate::kept::Kept;
+use elimination_order::Order;
 use factor_routes::{RoadFactors, Unfactored};
 use path_algebra::{AlgebraChoice, Cost, PathAlgebra, with_algebra};
+use path_factors::Links;
 use road_graph::{InGraph, Memory, OutGraph};
 use std::alloc::{AllocError, Global};
 use std::marker::Model;
@@ -215,6 +217,54 @@ impl SharedGraph {
             return Err(Unfactored::Memory);
         };
         let factors = match RoadFactors::of(self.alloc, cost, &self.graph, &by_head) {
+            Ok(factors) => factors,
+            Err(why) => return Err(why),
+        };
+        let Ok(factored) = FactoredGraph::of(self.alloc, factors) else {
+            return Err(Unfactored::Memory);
+        };
+        self.put_factored(factored);
+        Ok(())
+    }
+
+    /// The factors of the graph for arcs that cost this, by an order of its vertices.
+    fn factors_by(&mut self, cost: Cost, order: &Order) -> Result<RoadFactors, Unfactored>
+        requires order { length order.now.vertices.items ≡ self.old.roads.vertices }
+        ensures same { self.new ≡ self.old }
+        ensures roads { IfOk result (λ f. f.roads ≡ self.old.roads) }
+        ensures cost { IfOk result (λ f. f.algebra.cost ≡ cost) }
+        ensures order { IfOk result (λ f. f.factor.order ≡ order.now.vertices.items) }
+        ensures heavy { IfErr result (λ e. e ≡ Heavy → (k : ℕ) →
+            CountsFit self.old.roads (cost_of cost) k → ⊥) }
+        ensures dense { IfErr result (λ e. (c : Counts) → e ≢ Dense c) }
+    {
+        let Ok(by_head) = self.by_head() else {
+            return Err(Unfactored::Memory);
+        };
+        RoadFactors::by_order(
+            self.alloc,
+            cost,
+            &self.graph,
+            &by_head,
+            order,
+            Links::Needed,
+        )
+    }
+
+    /// Factors the graph by an order of its vertices for arcs that cost this, in place of factors
+    /// that there are.
+    ///
+    /// # Errors
+    /// `Heavy` as of `factor`; never `Dense`.
+    pub(crate) fn factor_by(&mut self, cost: Cost, order: &Order) -> Result<(), Unfactored>
+        requires order { length order.now.vertices.items ≡ self.old.roads.vertices }
+        ensures done { OnOk result (self.new ≡ factored_for self.old cost) }
+        ensures kept { OnErr result (self.new ≡ self.old) }
+        ensures heavy { IfErr result (λ e. e ≡ Heavy → (k : ℕ) →
+            CountsFit self.old.roads (cost_of cost) k → ⊥) }
+        ensures dense { IfErr result (λ e. (c : Counts) → e ≢ Dense c) }
+    {
+        let factors = match self.factors_by(cost, order) {
             Ok(factors) => factors,
             Err(why) => return Err(why),
         };

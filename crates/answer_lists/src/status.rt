@@ -24,3 +24,5 @@ pub const NO_ALGEBRA: i32 = 43;
 pub const NO_LINK: i32 = 44;
 /// The stop was set before there was an answer.
 pub const STOPPED: i32 = 45;
+/// A list of places does not have each place once.
+pub const NO_ORDER: i32 = 48;

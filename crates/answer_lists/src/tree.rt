@@ -18,14 +18,36 @@ use crate::sources::{are_vertices, vertices_of};
 use crate::status::{DONE, MEMORY, NO_ALGEBRA, NO_ROOM, NO_VERTEX, STOPPED};
 use crate::stopping::is_stopped;
 use crate::tree_lists::{Solution, TreeLists, write_found, write_lists};
-use path_algebra::{AlgebraChoice, Labels, PathAlgebra, with_algebra};
+use path_algebra::{AlgebraChoice, Labels, PathAlgebra, Within, with_algebra};
 use path_plain::{Halt, Stop};
 use road_graph::{Memory, OutGraph, Vertex};
 use route_tree::Tree;
-use tree_search::solve_with_tree;
+use tree_search::{solve_with_tree, solve_with_tree_unless};
 
-/// The labels from some sources, and their tree: by the factors, if there are any, or by a search
-/// that does not give up. None if the factors were swept and the stop is set before.
+/// The labels from some sources, and their tree, by a search; none if the stop is set before.
+fn search<A: PathAlgebra>(
+    algebra: A,
+    shared: &SharedGraph,
+    stop: &Option<Stop>,
+    sources: &[Vertex],
+) -> Result<Option<(Labels<A::Value>, Tree)>, Memory>
+    requires { All (HasVertex shared.now.roads) sources.now }
+    ensures labels { IfOk result (λ found. IfSome found (λ s. AreBest (A.meaning algebra)
+        shared.now.roads sources.now s.0)) }
+    ensures tree { IfOk result (λ found. IfSome found (λ s. IsTree (A.meaning algebra)
+        shared.now.roads sources.now s.1)) }
+    ensures stopped { IfOk result (λ found. found ≡ None → IsSome stop.now) }
+{
+    let (alloc, graph) = (shared.alloc(), shared.graph());
+    if stop.is_some() {
+        return solve_with_tree_unless(alloc, algebra, graph, sources, &mut Halt::by(stop));
+    }
+    let found = solve_with_tree(alloc, algebra, graph, sources)?;
+    Ok(Some(found))
+}
+
+/// The labels from some sources, and their tree: by the factors, if there are any, or by a search.
+/// None if the stop is set before.
 fn solve<A: PathAlgebra>(
     algebra: A,
     shared: &mut SharedGraph,
@@ -41,8 +63,7 @@ fn solve<A: PathAlgebra>(
     ensures stopped { IfOk result (λ found. found ≡ None → IsSome stop.now) }
 {
     let Some(factored) = shared.take_factored(algebra) else {
-        let found = solve_with_tree(shared.alloc(), algebra, shared.graph(), sources)?;
-        return Ok(Some(found));
+        return search(algebra, shared, stop, sources);
     };
     let found = match shared.by_head() {
         Ok(by_head) => factored.tree(algebra, &by_head, sources, stop),
@@ -158,15 +179,60 @@ fn answer_searched(
     is_written
 }
 
-/// How many entries a search for a tree on a factored graph takes from its queue, at most, before
-/// the factors are swept. A sweep costs what the whole graph does, so a tree of a small part is had
-/// for less, and another loses some hundredths of its time.
+/// Whether a search within this limit most likely takes less time than to sweep the factors, which
+/// takes about what a search of 2/5 of the vertices does. On a map a quarter of the limit reaches a
+/// sixteenth of what the limit does.
+fn is_cheap(limit: Within, shared: &mut SharedGraph, sources: &[Vertex]) -> bool
+    requires { All (HasVertex shared.old.roads) sources.now }
+    ensures { shared.new ≡ shared.old }
+{
+    let Some(quarter) = Within::new(limit.limit / 4) else {
+        return false;
+    };
+    let mut few = Halt::After(32 + shared.graph().vertices() / 32);
+    let mut kept = shared.take_for_trees(AlgebraChoice::Within(quarter));
+    let is_ended = kept.ends_within(shared.graph(), sources, &mut few);
+    shared.put_for_trees(kept);
+    is_ended
+}
+
+/// How many entries a search for a tree without a limit takes from its queue, at most, before the
+/// factors are swept: another tree then loses some hundredths of its time.
 fn few_entries(graph: &OutGraph) -> u32 {
     500 + graph.vertices() / 64
 }
 
-/// Finds a tree by the chosen algebra and writes it: on a factored graph by a search if that ends
-/// soon. If there is a stop, what finds it looks at that.
+/// Finds a tree on a factored graph by a search and writes it, if that takes less time than to
+/// sweep the factors. Whether it is written.
+fn answer_soon(
+    chosen: AlgebraChoice,
+    shared: &mut SharedGraph,
+    stop: &Option<Stop>,
+    sources: &[Vertex],
+    lists: &mut TreeLists<'_>,
+) -> Result<bool, Memory>
+    requires sources { All (HasVertex shared.old.roads) sources.now }
+    requires places { HavePlacesOrNone shared.old.roads.vertices lists.old }
+    ensures graph { shared.new ≡ shared.old }
+    ensures same { AreSameLists lists.old lists.new }
+    ensures tree { result ≡ Ok true → Under chosen (λ V A. HaveTree A shared.old.roads sources.now
+        lists.new) }
+    ensures kept { (result ≡ Ok true → ⊥) → AreUnwritten lists.old lists.new }
+{
+    let mut halt = match chosen {
+        AlgebraChoice::Within(limit) => {
+            if !is_cheap(limit, shared, sources) {
+                return Ok(false);
+            }
+            Halt::by(stop)
+        }
+        _ => Halt::After(few_entries(shared.graph())),
+    };
+    answer_searched(chosen, shared, sources, &mut halt, lists)
+}
+
+/// Finds a tree by the chosen algebra and writes it. If there is a stop, what finds it looks at
+/// that.
 fn answer_chosen(
     chosen: AlgebraChoice,
     shared: &mut SharedGraph,
@@ -188,21 +254,12 @@ fn answer_chosen(
         return MEMORY;
     };
     if shared.is_factored_for(chosen) {
-        let mut few = Halt::After(few_entries(shared.graph()));
-        let written = answer_searched(chosen, shared, &list, &mut few, lists);
-        if let Ok(true) = written {
+        if let Ok(true) = answer_soon(chosen, shared, stop, &list, lists) {
             return DONE;
         }
         if is_stopped(stop) {
             return STOPPED;
         }
-    } else if stop.is_some() {
-        let mut halt = Halt::by(stop);
-        return match answer_searched(chosen, shared, &list, &mut halt, lists) {
-            Ok(true) => DONE,
-            Ok(false) => STOPPED,
-            Err(Memory) => MEMORY,
-        };
     }
     with_algebra!(
         chosen,

@@ -24,7 +24,7 @@ mod stops;
 mod tables;
 
 pub use arcs::DiffuseArc;
-pub use factors::diffuse_graph_factor;
+pub use factors::{diffuse_graph_factor, diffuse_graph_factor_by};
 pub use graphs::{
     diffuse_graph_arcs, diffuse_graph_close, diffuse_graph_open, diffuse_graph_share,
     diffuse_graph_vertices,

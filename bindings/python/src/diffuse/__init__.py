@@ -10,7 +10,7 @@ from ._library import version
 from .answers import ALGEBRAS, UNREACHED, Algebra, Near, Route, Tree
 from .errors import (
     AlreadyOpen, BadProblemLine, BadShape, Closed, DiffuseError, InputError, MapWarning, NoAlgebra,
-    NoFactors, NoLink, NoNumbers, NoProblemLine, NoRoom, NoRoute, NotANumber, NotFactored,
+    NoFactors, NoLink, NoNumbers, NoOrder, NoProblemLine, NoRoom, NoRoute, NotANumber, NotFactored,
     NoVertex, OtherArcs, OutOfMemory, OutOfRange, Reason, SecondProblemLine, Stopped, TextFault,
     TooDense, TooFewArcs, TooHeavy, TooManyArcs, UnknownLine, WrongFields, WrongTree,
 )
@@ -28,7 +28,7 @@ __all__ = [
     "ALGEBRAS", "Algebra", "AlreadyOpen", "BadProblemLine", "BadShape", "BetweenPoints", "CYCLING",
     "Closed", "Coordinates", "DRIVING", "DiffuseError", "Graph", "InputError", "Isochrone",
     "MapWarning", "NamedRoute", "NamedTable", "NamedTree", "Near", "Network", "NoAlgebra",
-    "NoFactors", "NoLink", "NoNumbers", "NoProblemLine", "NoRoom", "NoRoute", "NoVertex",
+    "NoFactors", "NoLink", "NoNumbers", "NoOrder", "NoProblemLine", "NoRoom", "NoRoute", "NoVertex",
     "NotANumber", "NotFactored", "OtherArcs", "OutOfMemory", "OutOfRange", "Profile", "Reason",
     "Report", "Route", "Routes", "SecondProblemLine", "Snap", "Snaps", "Step", "Stop", "Stopped",
     "TextFault", "TooDense", "TooFewArcs", "TooHeavy", "TooManyArcs", "Tree", "UNREACHED",

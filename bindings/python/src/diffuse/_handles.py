@@ -362,15 +362,16 @@ class Handles:
             raise refusal(status)
         return Handles(second, pool.factored, arcs)
 
-    def factor(self, algebra: int) -> int:
-        """The status of factoring the graph for an algebra, once. Other calls go on meanwhile.
-        Raises Closed, or OutOfMemory."""
+    def factor(self, algebra: int, places: Any) -> int:
+        """The status of factoring the graph for an algebra, once, or by the places of an order.
+        Other calls go on meanwhile. Raises Closed, or OutOfMemory."""
         with self._factoring:
             pool = self.pool
-            if algebra in pool.factored:
+            if places is None and algebra in pool.factored:
                 return DONE
             status, handle = self.work(lambda one: int(
-                library().diffuse_graph_factor(one, algebra)))
+                library().diffuse_graph_factor(one, algebra) if places is None else
+                library().diffuse_graph_factor_by(one, algebra, address(places), len(places))))
             return self._begin_with(status, handle, pool, pool.factored | {algebra})
 
     def number(self, arcs: Any) -> int:

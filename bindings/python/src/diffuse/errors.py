@@ -252,11 +252,17 @@ class NoNumbers(DiffuseError):
     status = 47
 
 
+class NoOrder(InputError):
+    """The list of places in an order does not have each place once."""
+
+    status = 48
+
+
 _KINDS: tuple[type[DiffuseError], ...] = (
     NoRoute, NoRoom, OutOfMemory, Closed, AlreadyOpen, WrongTree, TooDense, TooHeavy, NoFactors,
     NoProblemLine, SecondProblemLine, BadProblemLine, UnknownLine, WrongFields, NotANumber,
     OutOfRange, NoVertex, TooManyArcs, TooFewArcs, NoAlgebra, NoLink, Stopped, OtherArcs,
-    NoNumbers,
+    NoNumbers, NoOrder,
 )
 BY_STATUS = {kind.status: kind for kind in _KINDS}
 

@@ -327,20 +327,31 @@ class Graph:
         table: Union[NDArray[uint64], list[Any]] = rows_of(codes, len(begins), len(ends))
         return table
 
-    def factor(self, algebra: AnyAlgebra = Algebra.SHORTEST) -> None:
+    def factor(self, algebra: AnyAlgebra = Algebra.SHORTEST,
+               places: Optional[Column] = None) -> None:
         """Factors the graph for an algebra, after which its routes, trees and tables are the same:
         a far route or a table takes a fraction of the time, and a far tree about half.
 
         What is near is still found by a search. `shortest` and
         `within` have one factoring, `hops` has its own. Calls of other threads go on meanwhile.
 
+        Parameters
+        ----------
+        algebra : Algebra or str
+        places : iterable of int, or array of any integer type, shape (vertices,)
+            The place of each vertex in an order of elimination, from 0, as `diffuse order` writes
+            them. What was factored before is factored anew. Without it an order is found, once.
+
         Raises
         ------
         NoFactors, TooDense, TooHeavy
             The graph is searched as before.
+        NoRoom, NoOrder, NotANumber, OutOfRange, BadShape
+            The places are not one for each vertex.
         NoAlgebra, OutOfMemory, Closed
         """
-        _check(self._handles.factor(algebra_of(algebra).factored_as))
+        column = None if places is None else self._list(places, "places")
+        _check(self._handles.factor(algebra_of(algebra).factored_as, column))
 
     def number(self, arcs: Any = None) -> None:
         """Numbers the arcs by their places in the list from which the graph was made, so that

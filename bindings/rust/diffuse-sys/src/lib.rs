@@ -124,6 +124,7 @@ unsafe extern "C" {
         count: *mut usize,
     ) -> i32;
     pub fn diffuse_graph_factor(graph: *mut Handle, algebra: u32) -> i32;
+    pub fn diffuse_graph_factor_by(graph: *mut Handle, algebra: u32, places: *const u32, n_places: usize) -> i32;
     pub fn diffuse_graph_reweigh(graph: *mut Handle, arcs: *const Arc, n_arcs: usize, second: *mut Handle) -> i32;
     pub fn diffuse_stop_new(stop: *mut StopHandle) -> i32;
     pub fn diffuse_graph_stop_by(graph: *mut Handle, stop: *mut StopHandle) -> i32;

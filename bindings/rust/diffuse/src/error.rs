@@ -12,7 +12,7 @@ pub enum Error {
     TooLarge,
     /// The limit of [`Algebra::Within`](crate::Algebra::Within) is above 2^63.
     LimitTooGreat,
-    /// A tree to be checked does not have a line for each vertex.
+    /// A tree to be checked does not have a line for each vertex, or a list of places one for each.
     OtherSize,
     /// The graph is not factored: factors would need too many links, since it has no small separators.
     TooDense,
@@ -28,6 +28,8 @@ pub enum Error {
     OtherArcs,
     /// The arcs of the graph were not numbered.
     NoNumbers,
+    /// A list of places in an order does not have each place once.
+    NoOrder,
     /// A text is longer than 2^32 bytes.
     TextTooLong,
     /// The first fault of a text, and its line, counted from 1.
@@ -89,6 +91,7 @@ pub(crate) fn done(status: i32) -> Result<(), Error> {
         45 => Error::Stopped,
         46 => Error::OtherArcs,
         47 => Error::NoNumbers,
+        48 => Error::NoOrder,
         other => Error::Other(other),
     })
 }
@@ -109,7 +112,7 @@ impl fmt::Display for Error {
             Error::NoVertex => out.write_str("not a vertex of the graph"),
             Error::TooLarge => out.write_str("more than 2^25 vertices or 2^27 arcs"),
             Error::LimitTooGreat => out.write_str("a limit above 2^63"),
-            Error::OtherSize => out.write_str("a tree without a line for each vertex"),
+            Error::OtherSize => out.write_str("not one line, or one place, for each vertex"),
             Error::TooDense => out.write_str("factors would need too many links: no small separators"),
             Error::TooHeavy => out.write_str("weights that are too great for factors"),
             Error::NoFactors => out.write_str("an algebra without factors"),
@@ -117,6 +120,7 @@ impl fmt::Display for Error {
             Error::Stopped => out.write_str("stopped before there was an answer"),
             Error::OtherArcs => out.write_str("arcs that are not those of the graph"),
             Error::NoNumbers => out.write_str("a graph whose arcs were not numbered"),
+            Error::NoOrder => out.write_str("a list that does not have each place once"),
             Error::TextTooLong => out.write_str("a text of more than 2^32 bytes"),
             Error::Text { fault, line } => write!(out, "fault {} in line {line}", *fault as i32),
             Error::Other(status) => write!(out, "status {status}"),

@@ -261,6 +261,17 @@ impl Graph {
         error::done(unsafe { diffuse_graph_factor(self.handle.get(), algebra.number_and_limit().0) })
     }
 
+    /// Factors the graph for an algebra by an order of elimination: the place of each vertex in it, from 0, as `diffuse order`
+    /// writes them. What it had for the algebra goes.
+    ///
+    /// Refused with [`Error::OtherSize`] if there is not one place for each vertex, and with [`Error::NoOrder`] if two are the same
+    /// or one is too great.
+    pub fn factor_by(&self, algebra: Algebra, places: &[u32]) -> Result<(), Error> {
+        let number = algebra.number_and_limit().0;
+        // SAFETY: as in `share`; the slice is valid for its length.
+        error::done(unsafe { diffuse_graph_factor_by(self.handle.get(), number, places.as_ptr(), places.len()) })
+    }
+
     /// A second graph, of other arcs on the same vertices, factored as this one is, over the same links, in about half the time.
     ///
     /// Refused with [`Error::TooHeavy`] if the weights are too great for factors, and with [`Error::NoLink`] if an arc joins

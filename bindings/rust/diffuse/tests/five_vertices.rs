@@ -78,6 +78,18 @@ fn a_table_by_searches_and_by_factors() {
 }
 
 #[test]
+fn factors_by_an_order() {
+    let graph = five();
+    for places in [[0, 1, 2, 3, 4], [4, 0, 3, 1, 2]] {
+        assert_eq!(graph.factor_by(Algebra::Shortest, &places), Ok(()));
+        assert_eq!(graph.table(Algebra::Shortest, &[1, 5], &[4, 1, 5]).unwrap().codes, [8, 0, Tree::UNREACHED, 11, 3, 0]);
+    }
+    assert_eq!(graph.factor_by(Algebra::Shortest, &[0, 1, 2, 3]), Err(Error::OtherSize));
+    assert_eq!(graph.factor_by(Algebra::Hops, &[0, 1, 2, 3, 3]), Err(Error::NoOrder));
+    assert_eq!(graph.factor_by(Algebra::Hops, &[1, 2, 3, 4, 5]), Err(Error::NoOrder));
+}
+
+#[test]
 fn what_is_near() {
     let (graph, label) = (five(), |code, hops, parent| Label { code, hops, parent });
     let wanted = [(1, label(0, 0, None)), (3, label(1, 1, Some(1))), (2, label(3, 2, Some(3))), (4, label(8, 3, Some(2)))];

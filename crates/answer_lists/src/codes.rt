@@ -1,5 +1,4 @@
 //! The codes of values, and the number that is written if there is no value.
-
 ghost use Rattle.std.specs.Prelude.{◌≡◌, ◌∷◌, ◌++◌, [], OnOk};
 ghost use Rattle.answer_lists.specs.Tree.{code_for};
 

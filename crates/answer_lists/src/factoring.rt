@@ -1,5 +1,4 @@
 //! Factors of a graph, made for the answers that are asked for later.
-
 ghost use Rattle.std.specs.Prelude.{◌≡◌, ◌↔◌, ◌∷◌, [], pos};
 ghost use Rattle.path_algebra.specs.Choices.{IsAlgebra, OfAlgebra, Under, arc_cost_of};
 ghost use Rattle.answer_lists.specs.Answers.{IsOneOf};

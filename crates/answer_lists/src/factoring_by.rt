@@ -1,5 +1,4 @@
 //! Factors of a graph by an order that the caller gives.
-
 ghost use Rattle.std.specs.Prelude.{◌≡◌, ◌↔◌, ◌≢◌, ◌∷◌, [], length, pos, IfErr, IfOk};
 ghost use Rattle.elimination_order.specs.Orders.{HasEachPlace};
 ghost use Rattle.path_algebra.specs.Choices.{IsAlgebra, OfAlgebra, Under, arc_cost_of};

@@ -1,5 +1,4 @@
 //! The check of a tree in three lists.
-
 ghost use Rattle.std.specs.Prelude.{◌≡◌, ◌∷◌, [], pos, All, IfOk};
 ghost use Rattle.road_graph.specs.GraphData.{HasVertex};
 ghost use Rattle.path_algebra.specs.Choices.{OfAlgebra, Under};

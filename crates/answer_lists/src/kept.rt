@@ -1,5 +1,4 @@
 //! What searches a graph by one algebra, kept from one question to the next.
-
 ghost use Rattle.std.specs.Prelude.{◌≡◌, All, IfOk, IfSome, IsTrue, None};
 ghost use Rattle.road_graph.specs.GraphData.{GraphData, HasVertex};
 ghost use Rattle.path_algebra.specs.Choices.{Under};

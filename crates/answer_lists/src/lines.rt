@@ -1,5 +1,4 @@
 //! The lines of vertices in three lists, each with a number for each vertex.
-
 ghost use Rattle.std.specs.Prelude.{◌≡◌, length};
 ghost use Rattle.answer_lists.specs.Tree.{line_of, lines_of};
 

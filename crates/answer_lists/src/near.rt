@@ -1,6 +1,5 @@
 //! What is reached from the nearest of some sources, the best first, written to four lists of the
 //! caller.
-
 ghost use Rattle.std.specs.Prelude.{◌≡◌, ◌∷◌, [], IsSome, pos};
 ghost use Rattle.std.specs.List.{All};
 ghost use Rattle.road_graph.specs.GraphData.{HasVertex};

@@ -1,5 +1,4 @@
 //! A graph that is factored over the links of another one.
-
 ghost use Rattle.std.specs.Prelude.{◌≡◌, IfOk, IfErr, OnOk};
 ghost use Rattle.answer_lists.specs.Reweighing.{IsRefusal};
 ghost use Rattle.answer_lists.specs.Sharing.{factored_as, reweighed};

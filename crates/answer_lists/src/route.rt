@@ -1,5 +1,4 @@
 //! A route, written to memory that the caller lends.
-
 ghost use Rattle.std.specs.Prelude.{◌≡◌, ◌≤◌, ◌<◌, ◌+◌, ◌∷◌, [], length, take, drop, pos, IfErr, IfOk, IsSome};
 ghost use Rattle.path_algebra.specs.Choices.{OfAlgebra, Under};
 ghost use Rattle.path_algebra.specs.Walks.{IsUnreached};

@@ -1,5 +1,4 @@
 //! A route and the numbers of its arcs, written to memory that the caller lends.
-
 ghost use Rattle.std.specs.Prelude.{◌≡◌, ◌≤◌, ◌+◌, ◌∷◌, [], ℕ, length, take, drop, pos, IsSome};
 ghost use Rattle.path_algebra.specs.Choices.{OfAlgebra, Under};
 ghost use Rattle.path_algebra.specs.Walks.{IsBestCode};

@@ -1,5 +1,4 @@
 //! A graph that handles share, with what was made of it for its answers.
-
 ghost use Rattle.std.specs.Prelude.{◌≡◌, ◌≢◌, ℕ, length, IfOk, IfErr, IfNone, IfSome, OnErr, OnOk, is_some};
 ghost use Rattle.std.specs.Arc.{arc_value};
 ghost use Rattle.path_algebra.specs.Carried.{IsCarried};

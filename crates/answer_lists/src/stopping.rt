@@ -1,5 +1,4 @@
 //! What a caller may set to end a search before it has its answer.
-
 ghost use Rattle.std.specs.Prelude.{IsSome, IsTrue};
 
 use path_plain::Stop;

@@ -1,5 +1,4 @@
 //! The codes of the best values from some vertices to others, written to a list of the caller.
-
 ghost use Rattle.std.specs.Prelude.{◌≡◌, ◌↔◌, ◌*◌, ◌∷◌, [], pos, IfOk, IfSome, IsSome, IsTrue, None};
 ghost use Rattle.path_algebra.specs.Choices.{OfAlgebra, Under};
 ghost use Rattle.answer_lists.specs.Answers.{IsOneOf, ReportsListRefusals};

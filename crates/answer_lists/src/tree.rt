@@ -1,5 +1,4 @@
 //! A tree, written to three lists of the caller.
-
 ghost use Rattle.std.specs.Prelude.{◌≡◌, ◌↔◌, ◌∷◌, [], pos, true, false, IfOk, IfSome, IsSome, IsTrue, None, Ok};
 ghost use Rattle.std.specs.List.{All};
 ghost use Rattle.road_graph.specs.GraphData.{HasVertex};

@@ -1,5 +1,4 @@
 //! The three lists of a caller to which a tree is written.
-
 ghost use Rattle.std.specs.Prelude.{◌≡◌, set};
 ghost use Rattle.road_graph.specs.GraphData.{HasVertex};
 ghost use Rattle.path_algebra.specs.Walks.{AreBest};

@@ -1,5 +1,4 @@
 //! Arcs as a caller in C lends them.
-
 ghost use Rattle.std.specs.Prelude.{◌≡◌, map, IfOk};
 ghost use Rattle.diffuse_c.specs.Lent.{arc_from};
 

@@ -1,5 +1,4 @@
 //! The calls that open and close handles, and report the size of a graph.
-
 ghost use Rattle.std.specs.Prelude.{◌≡◌, ◌↔◌, ◌∷◌, [], length, pos, MatchOption, Some, None, true};
 ghost use Rattle.answer_lists.specs.Answers.{IsOneOf};
 ghost use Rattle.answer_lists.specs.Sharing.{unfactored};

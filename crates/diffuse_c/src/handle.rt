@@ -1,5 +1,4 @@
 //! The handle that C keeps.
-
 ghost use Rattle.std.specs.Prelude.{◌≡◌, Some, None, IfSome, MatchOption, true, false};
 ghost use Rattle.diffuse_c.specs.Holding.{AreNumbersOf, has_graph};
 

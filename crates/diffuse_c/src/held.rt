@@ -1,5 +1,4 @@
 //! A graph that C keeps as a pointer.
-
 ghost use Rattle.std.specs.Prelude.{◌≡◌, Option, Some, None, true};
 ghost use Rattle.path_plain.specs.declared.halt.Stop.{Stop};
 ghost use Rattle.arc_numbers.specs.Numbering.{Numbering};

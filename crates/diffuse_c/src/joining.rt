@@ -1,5 +1,4 @@
 //! Whether lent arcs join the vertices of a graph.
-
 ghost use Rattle.std.specs.Prelude.{◌<◌, ◌≤◌, ◌^◌, ◌↔◌, length, IsTrue};
 ghost use Rattle.road_graph.specs.GraphData.{JoinsVertices, IsGraph};
 ghost use Rattle.diffuse_c.specs.Lent.{arc_from, lent};

@@ -1,5 +1,4 @@
 //! The arcs that leave a vertex, written to a list of the caller.
-
 ghost use Rattle.std.specs.Prelude.{◌≡◌, ◌↔◌, ◌≤◌, ◌∷◌, [], drop, length, map, pos, take, None};
 ghost use Rattle.road_graph.specs.GraphData.{HasVertex};
 ghost use Rattle.answer_lists.specs.Answers.{IsFound, IsOneOf};

@@ -1,5 +1,4 @@
 //! The call that answers what is reached from the nearest of some sources.
-
 ghost use Rattle.std.specs.Prelude.{◌≡◌, ◌↔◌, ◌∷◌, [], pos, All, IsSome, None};
 ghost use Rattle.road_graph.specs.GraphData.{HasVertex};
 ghost use Rattle.path_algebra.specs.Choices.{OfAlgebra};

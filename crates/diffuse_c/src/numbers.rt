@@ -1,5 +1,4 @@
 //! The calls that number the arcs of a graph, and tell those of a route.
-
 ghost use Rattle.std.specs.Prelude.{◌≡◌, ◌≢◌, ◌↔◌, ◌+◌, ◌∷◌, [], take, pos, IfErr, IfOk, IsSome, None, Some};
 ghost use Rattle.path_algebra.specs.Choices.{OfAlgebra};
 ghost use Rattle.arc_numbers.specs.Numbering.{IsReordered};

@@ -1,5 +1,4 @@
 //! A graph that is built from lent arcs.
-
 ghost use Rattle.std.specs.Prelude.{◌≡◌, IfOk, IfErr, None};
 ghost use Rattle.answer_lists.specs.Sharing.{unfactored};
 ghost use Rattle.diffuse_c.specs.Lent.{Fits, IsFault, lent};

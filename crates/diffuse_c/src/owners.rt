@@ -1,5 +1,4 @@
 //! What open handles own: a part of a graph, which is freed with its last owner, and a stop.
-
 ghost use Rattle.std.specs.Prelude.{◌≡◌, ◌↔◌, IfOk, IsSome, None};
 ghost use Rattle.answer_lists.specs.Sharing.{unfactored};
 

@@ -1,5 +1,4 @@
 //! The calls that answer questions: a route, a tree, and whether a tree is right.
-
 ghost use Rattle.std.specs.Prelude.{◌≡◌, ◌↔◌, ◌+◌, ◌∷◌, [], pos, All, IsSome, None};
 ghost use Rattle.road_graph.specs.GraphData.{HasVertex};
 ghost use Rattle.path_algebra.specs.Choices.{OfAlgebra};

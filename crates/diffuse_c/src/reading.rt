@@ -1,5 +1,4 @@
 //! A graph that is read from a text in memory.
-
 ghost use Rattle.std.specs.Prelude.{◌≡◌, ◌≤◌, ◌⊎◌, ◌≢◌, ◌↔◌, ◌∷◌, [], length, pos, true, Ok, None, Some, IfOk, IfErr, refl};
 ghost use Rattle.text_lines.specs.Rules.{text_read};
 ghost use Rattle.graph_text.specs.GraphFiles.{gr_rules};

@@ -1,5 +1,4 @@
 //! The call that opens a handle with other arcs, over the factors of another one.
-
 ghost use Rattle.std.specs.Prelude.{◌≡◌, ◌∷◌, [], pos, Some, None, IfOk, IfErr};
 ghost use Rattle.path_factors.specs.Reweighing.{JoinsNoOthers};
 ghost use Rattle.answer_lists.specs.Answers.{IsOneOf};

@@ -1,5 +1,4 @@
 //! The calls that make, set and free a stop, and give it to handles.
-
 ghost use Rattle.std.specs.Prelude.{◌≡◌, ◌≢◌, ◌↔◌, ◌∷◌, [], pos, IfOk, IsSome, None, true};
 ghost use Rattle.answer_lists.specs.Answers.{IsOneOf};
 ghost use Rattle.diffuse_c.specs.Holding.{has_graph};

@@ -1,5 +1,4 @@
 //! The call that answers with a table of codes.
-
 ghost use Rattle.std.specs.Prelude.{◌≡◌, ◌↔◌, ◌∷◌, [], pos, IsSome, None};
 ghost use Rattle.path_algebra.specs.Choices.{OfAlgebra};
 ghost use Rattle.answer_lists.specs.Answers.{IsOneOf, ReportsListRefusals};

@@ -1,5 +1,4 @@
 //! Searches in a graph that handles share, by searchers that are kept.
-
 ghost use Rattle.std.specs.Prelude.{◌≡◌, IfOk};
 ghost use Rattle.path_algebra.specs.Choices.{Under};
 ghost use Rattle.route_tree.specs.Found.{IsFoundIfNear};

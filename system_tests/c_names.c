@@ -710,7 +710,7 @@ static void texts(void) {
                 IS(0, strcmp(diffuse_reason_text((uint32_t)i), diffuse_reason_text(0)));
         }
     }
-    IS(25, statuses);
+    IS(26, statuses);
     IS(6, reasons);
 }
 

@@ -12,7 +12,7 @@ use Rattle.batch_inputs.specs.Orders.{HasReadOrdered}
 use Rattle.text_lines.specs.Streams.{Input, Output}
 use Rattle.command_args.specs.declared.parsed.WatchOptions.{WatchOptions}
 use Rattle.command_files.specs.Moments.{Moment}
-use Rattle.command_files.specs.declared.files.FileSystem.{Ghosts}
+use Rattle.command_files.specs.Opening.{Tells, Tries}
 use Rattle.program.specs.Commands.{AnswersWatched}
 use Rattle.program.specs.Runs.{given_of}
 use Rattle.program.specs.Watching.{IsAddedIf}
@@ -30,10 +30,10 @@ shown_as shown true old new text h = h
 shown_as shown false old new text h = ap shown h
 
 -- another promise of how the input was read
-module _ {P F I N W E : Type 0} (G : Ghosts P F I N) (others : List (List ℕ)) (watching : WatchOptions) (chosen : AlgebraChoice) (settings : Settings) (is_read : GraphData → Asked → Type 0) (is_own : File → Type 0)
+module _ {S P W E : Type 0} (creates : Tries P) (tells : Tells P) (others : List (List ℕ)) (watching : WatchOptions) (chosen : AlgebraChoice) (settings : Settings) (is_read : GraphData → Asked → Type 0) (is_own : File → Type 0)
     (has_read has_read' : Result (Unit {0}) RunFault → Type 0) (old new : Moment P W E) (result : ℕ) where
-  pub watched_as : AnswersWatched G others watching (given_of chosen settings is_read is_own has_read) old new result →
-      ((o : Result (Unit {0}) RunFault) → has_read o → has_read' o) → AnswersWatched G others watching (given_of chosen settings is_read is_own has_read') old new result
+  pub watched_as : AnswersWatched S creates tells others watching (given_of chosen settings is_read is_own has_read) old new result →
+      ((o : Result (Unit {0}) RunFault) → has_read o → has_read' o) → AnswersWatched S creates tells others watching (given_of chosen settings is_read is_own has_read') old new result
   watched_as it read = record {
     accounts = it.accounts;
     accounts_after = it.accounts_after;

@@ -4,8 +4,7 @@ use path_algebra::Shortest;
 use service::run_service;
 use std::sync::Wait;
 use std::thread::Threads;
-use text_lines::RoadWrite;
-use text_trials::Pieces;
+use text_lines::{Plain, RoadRead, RoadWrite};
 
 /// Five vertices. No arc leads to the last.
 pub(crate) const FIVE: &str =
@@ -32,19 +31,20 @@ pub(crate) fn plain() -> Settings {
 }
 
 /// How a service over `FIVE` ends.
-pub(crate) fn serve<W: RoadWrite, R: AllocGlobal + Threads + Wait + Sync, T: Gate>(
+pub(crate) fn serve<Q: RoadRead, W: RoadWrite, R: AllocGlobal + Threads + Wait + Sync, T: Gate>(
     rt: &R,
     settings: &Settings,
     gate: &T,
-    requests: &mut Pieces<'_>,
+    requests: &mut Q,
     out: &mut W,
 ) -> Result<(), RunFault> {
-    let mut graph = Pieces::new(FIVE.as_bytes(), 64, false);
+    let mut graph = Plain::new(FIVE.as_bytes());
+    let mut order: Option<Plain<&[u8]>> = None;
     let run = Run {
         rt,
         alloc: rt.alloc(),
         settings,
         gate,
     };
-    run_service(&run, Shortest, &mut graph, &mut None, requests, out)
+    run_service(&run, Shortest, &mut graph, &mut order, requests, out)
 }

@@ -3,6 +3,7 @@ use crate::asking::{FIVE, ONE_REPLY, plain};
 use batch_run::{OpenGate, Run};
 use path_algebra::Shortest;
 use service::{ReadWatcher, run_service_watched};
+use text_lines::Plain;
 use text_trials::{Pieces, Sheet};
 
 /// How many reads there were, and how many bytes had been written before each of the first.
@@ -12,14 +13,10 @@ struct Lengths {
     written: [usize; 4],
 }
 
-impl ReadWatcher for Lengths {
-    type Reader = Pieces<'static>;
-
-    type Writer = Sheet;
-
+impl ReadWatcher<Pieces<'_>, Sheet> for Lengths {
     ghost may_become = { λ _ _ _ _. Unit {0} };
 
-    fn before_read(&mut self, _requests: &Pieces<'static>, out: &Sheet) {
+    fn before_read(&mut self, _requests: &Pieces<'_>, out: &Sheet) {
         if self.reads < 4 {
             self.written[self.reads] = out.bytes.len();
             self.reads += 1;
@@ -31,7 +28,8 @@ impl ReadWatcher for Lengths {
 #[test]
 fn a_read_comes_after_the_replies(rt: HostRuntime) {
     let requests = "p aux sp p2p 1\nq 1 4\np aux sp p2p 1\nq 1 4\n";
-    let mut graph = Pieces::new(FIVE.as_bytes(), 64, false);
+    let mut graph = Plain::new(FIVE.as_bytes());
+    let mut order: Option<Plain<&[u8]>> = None;
     let mut input = Pieces::new(requests.as_bytes(), 21, false);
     let mut out = Sheet::new(rt.alloc(), 1_024, true);
     let mut lengths = Lengths {
@@ -49,7 +47,7 @@ fn a_read_comes_after_the_replies(rt: HostRuntime) {
         &run,
         Shortest,
         &mut graph,
-        &mut None,
+        &mut order,
         &mut input,
         &mut out,
         &mut lengths,

@@ -48,7 +48,7 @@ returns-in_err-answer_and_flush g c =
       read = g.met.I.BatchInput.later c.args.input.now c.read_batch.new.input (fault_of cause) refl (no_setting cause) c.in-Ok.ensures.done;
       stopped = stopped;
       watched = watched_first A how is_read g.O.Watcher.may_become _ _ _ _ roads asked c.in-Ok.ensures.read cause
-          (told_as g.A.PathAlgebra.meaning g.A.PathAlgebra.arc_cost _ c.in-Ok.read.0 c.in-Ok.ensures.chosen (has_cost (g.A.PathAlgebra.arc_cost c.args.algebra) how c.suit.result c.if-not-suit.false c.suit.ensures.exactly) g.O.Watcher.may_become _ _ _ _ false was.reported);
+          (told_as g.A.PathAlgebra.meaning g.A.PathAlgebra.arc_cost c.args.algebra how asked c.in-Ok.read.0 c.in-Ok.ensures.chosen (has_cost (g.A.PathAlgebra.arc_cost c.args.algebra) how c.suit.result c.if-not-suit.false c.suit.ensures.exactly) g.O.Watcher.may_become _ _ _ _ false was.reported);
     })
 
 pub returns : goal.returns
@@ -68,5 +68,5 @@ returns g c =
       read = c.in-Ok.ensures.done;
       stopped = record { stalled = tt; gated = tt };
       watched = watched_all A how is_read g.O.Watcher.may_become _ _ _ _ roads asked c.in-Ok.ensures.read
-          (told_as g.A.PathAlgebra.meaning g.A.PathAlgebra.arc_cost _ c.in-Ok.read.0 c.in-Ok.ensures.chosen (has_cost (g.A.PathAlgebra.arc_cost c.args.algebra) how c.suit.result c.if-not-suit.false c.suit.ensures.exactly) g.O.Watcher.may_become _ _ _ _ true was.all);
+          (told_as g.A.PathAlgebra.meaning g.A.PathAlgebra.arc_cost c.args.algebra how asked c.in-Ok.read.0 c.in-Ok.ensures.chosen (has_cost (g.A.PathAlgebra.arc_cost c.args.algebra) how c.suit.result c.if-not-suit.false c.suit.ensures.exactly) g.O.Watcher.may_become _ _ _ _ true was.all);
     }

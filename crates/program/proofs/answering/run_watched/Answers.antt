@@ -16,9 +16,9 @@ use Rattle.program.proofs.answering.run_watched.Goals as goal
 pub shape_of-host : goal.shape_of-host
 shape_of-host g c =
     let told = under_told c.args.method.now.chosen c.args.method.now.settings.now (g.I.BatchInput.is_read c.args.input.now)
-    (Notes g.S.Files.NewFile.RoadWrite.seen g.S.Errors.RoadWrite.seen) _ _ _ _ c.run_chosen-batch.result
+    (Notes g.P.NewFile.RoadWrite.seen g.E.RoadWrite.seen) _ _ _ _ c.run_chosen-batch.result
     c.run_chosen-batch.ensures.watched in
-    let noted = noted_all g.S.Files.NewFile.RoadWrite.seen g.S.Errors.RoadWrite.seen told.0.0 _ _ told.0.1 in
+    let noted = noted_all g.P.NewFile.RoadWrite.seen g.E.RoadWrite.seen told.0.0 _ _ told.0.1 in
     sym noted.same.1
 
 pub returns-clause-ends : goal.returns-clause-ends
@@ -28,8 +28,8 @@ returns-clause-ends g c =
     let is_read = g.I.BatchInput.is_read c.args.input.now in
     let ran = c.run_chosen-batch.ensures in
     let outcome = c.run_chosen-batch.result in
-    let seen = g.S.Files.NewFile.RoadWrite.seen in
-    let shown = g.S.Errors.RoadWrite.seen in
+    let seen = g.P.NewFile.RoadWrite.seen in
+    let shown = g.E.RoadWrite.seen in
     let errors = c.run_chosen-batch.new.watcher.errors.now in
     let told = under_told chosen how is_read (Notes seen shown) _ _ _ _ outcome ran.watched in
     let noted = noted_all seen shown told.0.0 _ _ told.0.1 in

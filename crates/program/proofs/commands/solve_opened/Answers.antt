@@ -19,7 +19,7 @@ returns g c =
       c.answer.ensures.1,
       elim c.answer.ensures.2 [
         | inl refused ↦ inl refused
-        | inr it ↦ inr (watched_as _ _ _ _ _ _ _ _ _ _ _ _ it (after_pair (IsPairOf (seen c.args.graph.now).left (seen c.args.questions.now).left) IsPairFile IsRunFile _ (option_map seen c.answer.ensures.1) _ _
+        | inr it ↦ inr (watched_as _ _ _ _ _ _ _ _ _ _ _ _ _ it (after_pair (IsPairOf (seen c.args.graph.now).left (seen c.args.questions.now).left) IsPairFile IsRunFile _ (option_map seen c.answer.ensures.1) _ _
             (λ (o : Result (Unit {0}) RunFault). HasReadPair (seen c.args.graph.now) (seen graph) (seen c.args.questions.now) (seen questions) o)))
       ],
     )

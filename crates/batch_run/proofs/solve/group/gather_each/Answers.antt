@@ -10,9 +10,9 @@ use Rattle.std.specs.declared.clone.Clone as clone
 use Rattle.rayon.proofs.ListFacts.{AllZip-weaken}
 use Rattle.rayon.specs.Lists.{vec_items}
 use Rattle.question_solvers.proofs.Searches.{gathered}
-use Rattle.batch_run.specs.Batches.{IsGatheredFromIn}
 use Rattle.batch_run.specs.declared.solve.diffusion.EndedDiffusion.{EndedDiffusion}
 use Rattle.batch_run.specs.declared.solve.diffusion.GatheredDiffusion.{GatheredDiffusion}
+use Rattle.batch_run.specs.Diffusions.{IsGatheredFrom}
 use Rattle.batch_run.proofs.Sending.{ended_send, gather_send}
 use Rattle.batch_run.proofs.solve.group.gather_each.Goals as goal
 
@@ -47,10 +47,11 @@ collect-requires-send-Self g c κs within =
 
 pub returns : goal.returns
 returns g c =
-    let came = λ (e : EndedDiffusion g.row.A.Denot g.row.A-Value.Denot) (d : GatheredDiffusion g.row.A-Value.Denot). IsGatheredFromIn g.A.PathAlgebra.meaning c.args.over.now e d in
+    let batch = c.args.batch.now in
+    let came = λ (e : EndedDiffusion g.row.A.Denot g.row.A-Value.Denot) (d : GatheredDiffusion g.row.A-Value.Denot). IsGatheredFrom (g.A.PathAlgebra.meaning batch.algebra) batch.run.now.settings.now batch.graph.now e d in
     let done = c.in_ok-gathered.ensures in
     let chain = done.1 in
     let all = chain.1 ∙ ap (λ it. vec_items it.base) c.map.ensures.base ∙ ap (λ it. vec_items it) c.with_min_len.ensures.base ∙ c.into_par_iter.ensures in
     let ran = AllZip-weaken _ (λ e r. IfOk r (came e))
-    (λ e r found. subst (λ f. IfOk r (IsGatheredFromIn g.A.PathAlgebra.meaning f.0.now e)) c.map.ensures.f found) chain.0 done.0 chain.2 in
+    (λ e r found. subst (λ f. IfOk r (IsGatheredFrom (g.A.PathAlgebra.meaning f.0.now.algebra) f.0.now.run.now.settings.now f.0.now.graph.now e)) c.map.ensures.f found) chain.0 done.0 chain.2 in
     gathered came c.args.ended.items done.0 c.in_ok-gathered.gathered (subst (λ l. AllZip (λ e r. IfOk r (came e)) l done.0) all ran) done.2

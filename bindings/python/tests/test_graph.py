@@ -359,7 +359,7 @@ class Refusals(unittest.TestCase):
     def test_classes_by_status(self):
         from diffuse.errors import BY_STATUS
 
-        self.assertEqual(sorted(BY_STATUS), [*range(1, 20), *range(43, 48)])
+        self.assertEqual(sorted(BY_STATUS), [*range(1, 20), *range(43, 49)])
         for status, kind in BY_STATUS.items():
             self.assertTrue(issubclass(kind, diffuse.DiffuseError) and 400 <= kind.http < 600, status)
         error = diffuse.NoRoute("no route leads from 1 to 5")

@@ -9,13 +9,13 @@
 mod answers;
 mod case;
 mod checking;
+mod chunks;
 mod evidence;
 mod laws;
 mod lines;
 mod pairs;
 mod pass;
 mod place;
-mod chunks;
 mod suspects;
 mod verdict;
 mod vertex_lines;

@@ -10,6 +10,7 @@ use crate::status::{DONE, HEAVY, MEMORY, NO_ALGEBRA, NO_FACTORS, NO_ORDER, NO_RO
 use elimination_order::Order;
 use factor_routes::Unfactored;
 use path_algebra::{AlgebraChoice, PathAlgebra, with_algebra};
+use road_graph::Memory;
 
 /// The order by these places, or the status that says why it is none.
 fn order_of(shared: &SharedGraph, places: &[u32]) -> Result<Order, i32>

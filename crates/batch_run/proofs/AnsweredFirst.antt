@@ -1,25 +1,12 @@
 -- A batch on its way: the first questions were answered, and their answers written.
-use Rattle.std.proofs.Common.{◌≡◌, ◌≢◌, ℕ, ◌+◌, ◌<◌, ◌≤◌, List, [], ◌∷◌, ◌++◌, length, take, get_or, Result, Ok, Err, Bool, true, false, inl, inr, ◌⊎◌, refl, sym, ap, ◌∙◌, subst, append_assoc, append-nil, arith}
-use Rattle.std.proofs.lemmas.List.{take_all, take_more}
-use Rattle.std.specs.Io.KnownBytes.{Appends}
-use Rattle.road_graph.specs.GraphData.{GraphData}
-use Rattle.text_lines.specs.Streams.{Output}
+use Rattle.batch_run.proofs.Words.{◌≡◌, ◌≢◌, ℕ, ◌+◌, ◌<◌, ◌≤◌, List, [], ◌∷◌, ◌++◌, length, take, get_or, Result, Ok, Err, Bool, true, false, inl, inr, ◌⊎◌, refl, sym, ap, ◌∙◌, subst, append_assoc, append-nil, arith, take_all, take_more, Appends, GraphData, Output, Question, Asked, Algebra, AnswerData, IsAnswer, AreAnswers, answer_text, blocks_text, header_text, Cause, GroupFault, AnsweredAll, WroteAnswers, WroteNext, begun_text, WroteFirst, WroteWhole, MayStop}
 use Rattle.text_lines.specs.Written.{WrotePrefix, FailedAfterPrefix}
 use Rattle.text_lines.proofs.WriteLaws.{left_more, left_fell, left_appends}
-use Rattle.road_files.specs.Asked.{Question, Asked}
 use Rattle.road_files.specs.declared.questions.Kind.{Kind}
 use Rattle.path_algebra.specs.declared.name.AlgebraName.{AlgebraName}
-use Rattle.path_algebra.specs.Algebra.{Algebra}
-use Rattle.answer_text.specs.AnswerData.{AnswerData}
-use Rattle.answer_text.specs.IsAnswer.{IsAnswer, AreAnswers}
-use Rattle.answer_text.specs.AnswerText.{answer_text, blocks_text, header_text}
 use Rattle.answer_text.proofs.OneAnswer.{blocks_split, answers_count}
-use Rattle.batch_run.specs.declared.cause.Cause.{Cause}
 use Rattle.batch_run.specs.declared.cause.Cause.TheVariants as causes
-use Rattle.worker_fleet.specs.declared.group.GroupFault.{GroupFault}
 use Rattle.worker_fleet.specs.declared.group.GroupFault.TheVariants as group
-use Rattle.batch_run.specs.Answered.{AnsweredAll, WroteAnswers, WroteNext, begun_text, WroteFirst, WroteWhole}
-use Rattle.batch_run.specs.Causes.{MayStop}
 use Rattle.batch_run.proofs.CauseCases.{write_or_other}
 
 -- the first i questions were answered, and the answers written

@@ -1,10 +1,6 @@
 -- Causes by cases, and by their numbers.
-use Rattle.std.proofs.Common.{◌≡◌, ◌≢◌, ◌⊎◌, inl, inr, Bool, false, refl, ap, arith}
-use Rattle.batch_run.specs.Causes.{MayStop, number_of}
-use Rattle.worker_fleet.specs.declared.group.GroupFault.{GroupFault}
+use Rattle.batch_run.proofs.Words.{◌≡◌, ◌≢◌, ◌⊎◌, inl, inr, Bool, false, refl, ap, arith, MayStop, number_of, GroupFault, Cause, Unsolved, Write}
 use Rattle.worker_fleet.specs.declared.group.GroupFault.TheVariants.{Memory, Stalled, Gated}
-use Rattle.batch_run.specs.declared.cause.Cause.{Cause}
-use Rattle.batch_run.specs.declared.cause.Cause.TheVariants.{Unsolved, Write}
 
 -- a cause is a failed write, or another
 pub write_or_other : (cause : Cause) → (cause ≡ Write) ⊎ (cause ≢ Write)

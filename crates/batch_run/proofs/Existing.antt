@@ -1,18 +1,13 @@
 -- Every question has a right answer: best values, their tree, and the line that both give each
 -- vertex.
 use Rattle.std.proofs.Common.{◌≡◌, ℕ, List, [], ◌∷◌, refl, subst, All, Option, Some, None}
-use Rattle.std.proofs.lemmas.List.Elements.{All-nil, All-cons, All-head, All-tail}
-use Rattle.road_graph.specs.GraphData.{GraphData, IsGraph, HasVertex}
-use Rattle.path_algebra.specs.Algebra.{Algebra}
+use Rattle.batch_run.proofs.Words.{All-nil, All-cons, All-head, All-tail, GraphData, IsGraph, HasVertex, Algebra, Reached, written_lines, AsksWithin}
 use Rattle.path_algebra.specs.Walks.{AreBest, IsBestLabel, label_of, IsParentChain}
 use Rattle.route_tree.specs.Tree.{AreHopsAt, Branches, IsTree, IsLinked, IsRoute, hops_of}
 use Rattle.route_tree.specs.Told.{IsParentRoute}
 use Rattle.road_files.specs.Asked.{Question, FromSource, BetweenPair, FromSources, Asked}
-use Rattle.answer_text.specs.declared.answers.Reached.{Reached}
 use Rattle.answer_text.specs.AnswerData.{AnswerData, SourceAnswer, PairAnswer, SourcesAnswer, FoundData, AnswerList}
 use Rattle.answer_text.specs.IsAnswer.{AreVertexLines, IsPairAnswer, IsAnswer, AreAnswers, IsAnswerList}
-use Rattle.batch_run.specs.WrittenLines.{written_lines}
-use Rattle.batch_run.specs.Answered.{AsksWithin}
 use Rattle.batch_run.proofs.WrittenLines.{lines_are_right}
 
 module _ {V : Type 0} (A : Algebra V) (g : GraphData) (roads : IsGraph g)

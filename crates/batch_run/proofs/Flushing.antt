@@ -1,25 +1,7 @@
 -- What was answered and reported stays so when it is passed on, and the first fault stays.
-use Rattle.std.proofs.Common.{◌≡◌, ◌≢◌, ℕ, ◌+◌, ◌<◌, ◌≤◌, [], ◌++◌, length, Bool, Result, Ok, Err, inl, inr, ◌⊎◌, sym, ap, ◌∙◌, subst, append-nil, arith}
-use Rattle.std.proofs.lemmas.List.{take_all}
+use Rattle.batch_run.proofs.Words.{◌≡◌, ◌≢◌, ℕ, ◌+◌, ◌<◌, ◌≤◌, [], ◌++◌, length, Bool, Result, Ok, Err, inl, inr, ◌⊎◌, sym, ap, ◌∙◌, subst, append-nil, arith, take_all, Appends, Keeps, Appends-kept, Output, GraphData, Asked, Algebra, AreAnswers, blocks_text, header_text, answers_count, Cause, Unsolved, Write, Memory, Settings, Progress, AnsweredAll, WroteAnswers, WroteFirst, WroteWhole, WroteAllOrFirst, begun_text, Factoring, Preparation, ReportedFirst}
 use Rattle.std.proofs.lemmas.Result.{IfErr-at_err, IfErr-weaker}
-use Rattle.std.specs.Io.KnownBytes.{Appends, Keeps}
-use Rattle.std.proofs.KnownBytes.{Appends-kept}
 use Rattle.std.specs.Result.{OnOk, IfErr}
-use Rattle.text_lines.specs.Streams.{Output}
-use Rattle.road_graph.specs.GraphData.{GraphData}
-use Rattle.road_files.specs.Asked.{Asked}
-use Rattle.path_algebra.specs.Algebra.{Algebra}
-use Rattle.answer_text.specs.IsAnswer.{AreAnswers}
-use Rattle.answer_text.specs.AnswerText.{blocks_text, header_text}
-use Rattle.answer_text.proofs.OneAnswer.{answers_count}
-use Rattle.batch_run.specs.declared.cause.Cause.{Cause}
-use Rattle.batch_run.specs.declared.cause.Cause.TheVariants.{Unsolved, Write}
-use Rattle.worker_fleet.specs.declared.group.GroupFault.TheVariants.{Memory}
-use Rattle.batch_settings.specs.declared.settings.Settings.{Settings}
-use Rattle.batch_run.specs.declared.watcher.Progress.{Progress}
-use Rattle.batch_run.specs.Answered.{AnsweredAll, WroteAnswers, WroteFirst, WroteWhole, WroteAllOrFirst, begun_text}
-use Rattle.question_solvers.specs.declared.factor_solver.Factoring.{Factoring}
-use Rattle.batch_run.specs.Reports.{Preparation, ReportedFirst}
 use Rattle.batch_run.proofs.AnsweredFirst.{no_fewer_failures}
 use Rattle.batch_run.proofs.WrittenReports.{first_still, kept_at_least}
 

@@ -1,3 +1,4 @@
+mod Words
 mod SourceByMore
 mod WrittenLines
 pub mod CauseCases

@@ -1,14 +1,8 @@
 -- The diffusions that wait: as they were gathered, and as the next is taken.
-use Rattle.std.proofs.Common.{zero, suc, ◌≡◌, ℕ, ◌≤◌, ◌+◌, List, [], ◌∷◌, ◌++◌, length, map, take, drop, sym, ap, subst, ◌∙◌, arith}
-use Rattle.std.specs.List.{All}
+use Rattle.batch_run.proofs.Words.{zero, suc, ◌≡◌, ℕ, ◌≤◌, ◌+◌, List, [], ◌∷◌, ◌++◌, length, map, take, drop, sym, ap, subst, ◌∙◌, arith, All, All-head, All-nil, All-tail, GraphData, Algebra, GatheredDiffusion, Settings}
 use Rattle.std.proofs.lemmas.List.{take-append-drop}
-use Rattle.std.proofs.lemmas.List.Elements.{All-head, All-nil, All-tail}
-use Rattle.road_graph.specs.GraphData.{GraphData}
-use Rattle.path_algebra.specs.Algebra.{Algebra}
-use Rattle.batch_run.specs.declared.solve.diffusion.GatheredDiffusion.{GatheredDiffusion}
 use Rattle.batch_run.specs.declared.solve.queue.DiffusionQueue.{DiffusionQueue}
-use Rattle.batch_settings.specs.declared.settings.Settings.{Settings}
-use Rattle.batch_run.specs.Cut.{IsCut, IsPaceOf}
+use Rattle.batch_run.specs.Cut.{IsCut, pace_of}
 use Rattle.batch_run.specs.Diffusions.{AreNext, IsGatheredOver}
 
 -- the sources of some diffusions
@@ -17,7 +11,7 @@ sources_of_all ds = map (λ d. d.source) ds
 
 module _ {V : Type 0} (A : Algebra V) (how : Settings) (g : GraphData) where
   -- none waits
-  pub none_waits : (to_come : List ℕ) (queue : DiffusionQueue V) → IsCut how g queue.plan × IsPaceOf how g queue.pace → queue.waiting.items ≡ [] → AreNext A how g to_come queue
+  pub none_waits : (to_come : List ℕ) (queue : DiffusionQueue V) → IsCut how g queue.plan × (queue.pace ≡ pace_of how g) → queue.waiting.items ≡ [] → AreNext A how g to_come queue
   none_waits to_come queue chosen none = record {
     chosen = chosen;
     gathered = rw none (All-nil (IsGatheredOver A how g));
@@ -27,7 +21,7 @@ module _ {V : Type 0} (A : Algebra V) (how : Settings) (g : GraphData) where
 
   module _ (to_come : List ℕ) (w : ℕ) where
     -- those that were gathered together wait
-    pub group_waits : (queue : DiffusionQueue V) → sources_of_all queue.waiting.items ≡ take w to_come → IsCut how g queue.plan × IsPaceOf how g queue.pace → All (IsGatheredOver A how g) queue.waiting.items → AreNext A how g to_come queue
+    pub group_waits : (queue : DiffusionQueue V) → sources_of_all queue.waiting.items ≡ take w to_come → IsCut how g queue.plan × (queue.pace ≡ pace_of how g) → All (IsGatheredOver A how g) queue.waiting.items → AreNext A how g to_come queue
     group_waits queue are chosen gathered = record {
       chosen = chosen;
       gathered = gathered;
@@ -53,16 +47,10 @@ module _ {V : Type 0} (A : Algebra V) (how : Settings) (g : GraphData) where
     all : All (IsGatheredOver A how g) (e ∷ new.waiting.items)
     all = subst (All (IsGatheredOver A how g)) is were.gathered
 
-    pub taken_next : to_come ≡ e.source ∷ left
-    taken_next = let o = order in cc
-
-    pub taken_gathered : IsGatheredOver A how g e
-    taken_gathered = All-head (IsGatheredOver A how g) e new.waiting.items all
-
-    pub others_wait : IsCut how g new.plan × IsPaceOf how g new.pace → AreNext A how g left new
-    others_wait chosen = record {
-      chosen = chosen;
-      gathered = All-tail (IsGatheredOver A how g) e new.waiting.items all;
-      rest = were.rest;
-      sources_are = let o = order in cc;
-    }
+    -- it is the next to come, it was gathered, and the others wait
+    pub taken : IsCut how g new.plan × (new.pace ≡ pace_of how g) → (to_come ≡ e.source ∷ left) × IsGatheredOver A how g e × AreNext A how g left new
+    taken chosen = (
+      let o = order in cc,
+      All-head (IsGatheredOver A how g) e new.waiting.items all,
+      record { chosen = chosen; gathered = All-tail (IsGatheredOver A how g) e new.waiting.items all; rest = were.rest; sources_are = let o = order in cc },
+    )

@@ -1,19 +1,9 @@
 -- What a run promises of inputs that were read, from what answering them promises.
-use Rattle.std.proofs.Common.{◌≢◌, inl, inr, [], ℕ, Ok, Err, Bool, refl, arith}
-use Rattle.road_graph.specs.GraphData.{GraphData}
-use Rattle.road_files.specs.Asked.{Asked}
-use Rattle.path_algebra.specs.Algebra.{Algebra}
-use Rattle.worker_fleet.specs.Stops.{Says}
-use Rattle.batch_run.specs.declared.cause.Cause.{Cause}
+use Rattle.batch_run.proofs.Words.{◌≢◌, inl, inr, [], ℕ, Ok, Err, Bool, refl, arith, GraphData, Asked, Algebra, Says, Cause, Settings, MayStop, fault_of, number_of, without_diffusions, Output, HasEnoughTurns}
 use Rattle.batch_inputs.specs.declared.faults.File.{File}
-use Rattle.batch_settings.specs.declared.settings.Settings.{Settings}
 use Rattle.batch_run.specs.Answered.{PassedOnAll}
-use Rattle.batch_run.specs.Causes.{MayStop, fault_of, number_of}
-use Rattle.batch_settings.specs.Choice.{without_diffusions}
 use Rattle.batch_run.specs.Ran.{BegunUnfinished, BegunWhole}
-use Rattle.text_lines.specs.Streams.{Output}
 use Rattle.batch_run.specs.Runs.{Ran}
-use Rattle.batch_run.specs.Stopping.{HasEnoughTurns}
 use Rattle.batch_run.proofs.CauseCases.{gated_by_number, no_memory_by_number, no_setting, numbered, other_by_number, stalled_by_number, write_by_number}
 
 module _ {V W : Type 0} (A : Algebra V) (how : Settings) (answers : ℕ → ℕ → Bool → Type 0) (IsRead : GraphData → Asked → Type 0) (inputs : File → Type 0) (out out_after : Output W)

@@ -1,20 +1,10 @@
 -- With one shard, best first, a batch whose limit of turns is enough for its graph does not reach
 -- it.
-use Rattle.std.proofs.Common.{◌≡◌, ◌≢◌, ℕ, ◌+◌, ◌*◌, ◌<◌, ◌≤◌, ◌∙◌, Bool, true, cond, Result, Ok, Err, length, refl, sym, ap, subst, inl, inr, arith}
-use Rattle.std.specs.Prelude.{IfErr}
-use Rattle.std.proofs.lemmas.Bool.{cases_lt}
+use Rattle.batch_run.proofs.Words.{◌≡◌, ◌≢◌, ℕ, ◌+◌, ◌*◌, ◌<◌, ◌≤◌, ◌∙◌, Bool, true, cond, Result, Ok, Err, length, refl, sym, ap, subst, inl, inr, arith, IfErr, cases_lt, GraphData, IsGraph, Asked, Algebra, Arrival, BestFirst, SetupData, Stalled, RunFault, Settings}
 use Rattle.std.proofs.Math.Nat.{mul-le-mul_right}
-use Rattle.road_graph.specs.GraphData.{GraphData, IsGraph}
-use Rattle.road_files.specs.Asked.{Asked}
-use Rattle.path_algebra.specs.Algebra.{Algebra}
-use Rattle.shard_store.specs.declared.queue_order.QueueOrder.TheVariants.{Arrival, BestFirst}
-use Rattle.shard_store.specs.Setup.{SetupData}
 use Rattle.batch_settings.specs.declared.dealing.Dealing.{Dealing}
-use Rattle.worker_fleet.specs.declared.group.GroupFault.TheVariants.{Stalled}
 use Rattle.worker_fleet.specs.OneShard.{IsBrief}
 use Rattle.worker_fleet.specs.Stops.{StopsGroup}
-use Rattle.batch_inputs.specs.declared.faults.RunFault.{RunFault}
-use Rattle.batch_settings.specs.declared.settings.Settings.{Settings}
 use Rattle.batch_run.specs.Stopping.{IsDiffusionOf, IsEnoughFor, HasEnoughTurns, Stopped}
 
 -- twice as many turns as a graph has arcs, and three

@@ -1,18 +1,10 @@
 -- The first answers begin the text of all answers.
 use Rattle.std.proofs.Common.{◌≡◌, ℕ, List, ◌++◌, take, ap, ◌∙◌, append_assoc, All, Result, Ok, Err, ◌≤◌, inl, inr, arith}
 use Rattle.std.proofs.lemmas.List.Elements.{All-map}
-use Rattle.std.proofs.lemmas.Result.{IfErr-weaker}
-use Rattle.text_lines.specs.Streams.{Output}
-use Rattle.road_graph.specs.GraphData.{GraphData}
+use Rattle.batch_run.proofs.Words.{IfErr-weaker, Output, GraphData, Questions, Algebra, AnswerData, AnswerList, AreAnswers, IsAnswerList, Cause, Write}
 use Rattle.road_files.specs.Asked.{FromSource, Asked, asked_of, of_pair, of_list, AreQuestionsOf}
-use Rattle.road_files.specs.declared.questions.Questions.{Questions}
 use Rattle.road_files.specs.declared.questions.Questions.TheVariants as variants
-use Rattle.path_algebra.specs.Algebra.{Algebra}
-use Rattle.answer_text.specs.AnswerData.{AnswerData, AnswerList}
-use Rattle.answer_text.specs.IsAnswer.{AreAnswers, IsAnswerList}
 use Rattle.answer_text.specs.AnswerText.{answers_text}
-use Rattle.batch_run.specs.declared.cause.Cause.{Cause}
-use Rattle.batch_run.specs.declared.cause.Cause.TheVariants.{Write}
 use Rattle.std.specs.Prelude.{◌≢◌, IfErr}
 use Rattle.batch_run.specs.Answered.{AsksWithin, IsPassedOn, begun_text, WroteFirst, WroteAnswersPrefix, WroteAllOrFirst, WroteAllOrPrefix}
 

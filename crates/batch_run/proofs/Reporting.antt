@@ -1,24 +1,9 @@
 -- What was reported so far, and one report more.
-use Rattle.std.proofs.Common.{◌≡◌, ℕ, zero, suc, ◌+◌, ◌<◌, ◌≤◌, Bool, true, false, List, [], ◌∷◌, ◌++◌, length, map, take, get_or, Option, None, Some, Result, Err, refl, sym, ap, ◌∙◌, subst, append_assoc, append-nil, arith}
-use Rattle.std.specs.Prelude.{IfNone, IfSome}
-use Rattle.std.specs.List.{AllZip, flat_map}
-use Rattle.std.proofs.lemmas.Bool.{false≢true}
-use Rattle.std.proofs.lemmas.List.{take_all, take_more, map-append}
-use Rattle.std.proofs.lemmas.List.Concat.{flat_map-cons}
-use Rattle.road_graph.specs.GraphData.{GraphData, HasVertex}
-use Rattle.road_files.specs.Asked.{Question}
-use Rattle.path_algebra.specs.Algebra.{Algebra}
-use Rattle.path_algebra.specs.Walks.{AreBest}
-use Rattle.shard_store.specs.Plans.{PlanData}
-use Rattle.shard_store.specs.Setup.{SetupData, setup_of}
+use Rattle.batch_run.proofs.Words.{◌≡◌, ℕ, zero, suc, ◌+◌, ◌<◌, ◌≤◌, Bool, true, false, List, [], ◌∷◌, ◌++◌, length, map, take, get_or, Option, None, Some, Result, Err, refl, sym, ap, ◌∙◌, subst, append_assoc, append-nil, arith, IfNone, IfSome, AllZip, flat_map, false≢true, take_all, take_more, map-append, flat_map-cons, GraphData, HasVertex, Question, Ghosts, Algebra, AreBest, PlanData, SetupData, setup_of, BatchOver, EndedDiffusion, Settings, Progress, IsCut, order_of}
 use Rattle.station.specs.declared.gathering.Gathered.{Gathered}
 use Rattle.station.specs.Gather.{IsGathered}
-use Rattle.batch_run.specs.declared.solve.diffusion.EndedDiffusion.{EndedDiffusion}
-use Rattle.batch_settings.specs.declared.settings.Settings.{Settings}
-use Rattle.batch_run.specs.declared.watcher.Progress.{Progress}
 use Rattle.batch_run.specs.declared.watcher.Progress.TheVariants as report
-use Rattle.batch_run.specs.Cut.{IsCut, order_of}
-use Rattle.batch_run.specs.Diffusions.{IsEnded}
+use Rattle.batch_run.specs.Batches.{IsCutIn, IsEndedIn}
 use Rattle.batch_run.specs.Reports.{IsAccount, Due, Beginning, Account, Preparation, Answering, IsReportOf, FollowsReports, Reported, ReportedAllOrPrefix, ReportedPrefix, accounts_due, question_due, questions_due, due_if, start_due, batch_due, count_diffusions, diffused}
 
 -- the counts of a diffusion that was run to its end are those that were gathered
@@ -35,20 +20,20 @@ module _ {S V : Type 0} (meaning : S → Algebra V) where
   best_of : (t : SetupData S) (found : Gathered V) → IsGathered meaning t found → AreBest (meaning t.diffusion.algebra) t.diffusion.roads (t.diffusion.source ∷ []) found.labels
   best_of t found h = h.labels
 
-  module _ (algebra : S) (how : Settings) (g : GraphData) (plan : PlanData) (e : EndedDiffusion S V) (found : Gathered V) (ended : IsEnded algebra how g plan e)
+  module _ {R T : Type 0} {G : Ghosts S V} (over : BatchOver S R T V G) (plan : PlanData) (e : EndedDiffusion S V) (found : Gathered V) (ended : IsEndedIn over plan e)
       (h : IsGathered meaning e.floor.setup found) where
-    gathered_of : IsGathered meaning (setup_of algebra g e.source plan (order_of how)) found
+    gathered_of : IsGathered meaning (setup_of over.batch.now.task.algebra over.graph.now e.source plan (order_of over.batch.now.settings.now)) found
     gathered_of = subst (λ (t : SetupData S). IsGathered meaning t found) ended.setup h
 
     -- so are the labels
-    pub are_best : AreBest (meaning algebra) g (e.source ∷ []) found.labels
-    are_best = best_of (setup_of algebra g e.source plan (order_of how)) found gathered_of
+    pub are_best : AreBest (meaning over.batch.now.task.algebra) over.graph.now (e.source ∷ []) found.labels
+    are_best = best_of (setup_of over.batch.now.task.algebra over.graph.now e.source plan (order_of over.batch.now.settings.now)) found gathered_of
 
-    pub has_source : HasVertex g e.source
+    pub has_source : HasVertex over.graph.now e.source
     has_source = gathered_of.source
 
-    pub is_account : IsCut how g plan → IsAccount (meaning algebra) how g e.source found.tally
-    is_account cut = account_of algebra how g plan e.source found cut gathered_of
+    pub is_account : IsCutIn over plan → IsAccount (meaning over.batch.now.task.algebra) over.batch.now.settings.now over.graph.now e.source found.tally
+    is_account cut = account_of over.batch.now.task.algebra over.batch.now.settings.now over.graph.now plan e.source found cut gathered_of
 
 module _ {V S : Type 0} (A : Algebra V) (how : Settings) (g : GraphData) (may_become : S → Progress → S → Type 0) where
   all_more : (ds es : List Due) (rs qs : List Progress) → AllZip (IsReportOf A how g) ds rs → AllZip (IsReportOf A how g) es qs → AllZip (IsReportOf A how g) (ds ++ es) (rs ++ qs)
@@ -84,7 +69,7 @@ module _ {V S : Type 0} (A : Algebra V) (how : Settings) (g : GraphData) (may_be
 
   -- nothing was of what is due
   pub prefix_none : (due : List Due) (s : S) → ReportedPrefix A how g may_become due s s
-  prefix_none due s = record { prefix = []; rest = due; due_is = refl; reported = none s }
+  prefix_none due s = ([], due, refl, none s)
 
   pub prefix_if_err : {T E : Type 0} (due : List Due) (old new : S) (r : Result T E) (f : E) → r ≡ Err f → ReportedPrefix A how g may_become due old new → ReportedAllOrPrefix A how g may_become due old new r
   prefix_if_err due old new r f e h = subst (ReportedAllOrPrefix A how g may_become due old new) (sym e) h
@@ -94,7 +79,7 @@ module _ {V S : Type 0} (A : Algebra V) (how : Settings) (g : GraphData) (may_be
 
   -- what was reported is a prefix of what is due
   pub prefix_whole : (ds rest due : List Due) (old new : S) → due ≡ ds ++ rest → Reported A how g may_become ds old new → ReportedPrefix A how g may_become due old new
-  prefix_whole ds rest due old new e h = record { prefix = ds; rest = rest; due_is = e; reported = h }
+  prefix_whole ds rest due old new e h = (ds, rest, e, h)
 
   pub prefix_all : (due : List Due) (old new : S) → Reported A how g may_become due old new → ReportedPrefix A how g may_become due old new
   prefix_all due old new h = prefix_whole due [] due old new (sym (append-nil due)) h

@@ -1,8 +1,6 @@
 -- Best labels from the first sources of a list, and those from the next, merge to those from one
 -- source more.
-use Rattle.std.proofs.Common.{arith, ◌≡◌, ℕ, ◌+◌, ◌<◌, ◌≤◌, List, [], ◌∷◌, ◌++◌, length, get_or, take, ap, sym, ◌∙◌, Option, Bool}
-use Rattle.std.proofs.lemmas.List.{take_more}
-use Rattle.road_graph.specs.GraphData.{GraphData}
+use Rattle.batch_run.proofs.Words.{arith, ◌≡◌, ℕ, ◌+◌, ◌<◌, ◌≤◌, List, [], ◌∷◌, ◌++◌, length, get_or, take, ap, sym, ◌∙◌, Option, Bool, take_more, GraphData}
 use Rattle.path_algebra.specs.Algebra.{Algebra, IsLawful}
 use Rattle.path_algebra.specs.Walks.{AreBest, label_of, better_label}
 use Rattle.path_algebra.proofs.Least.{merged_are_best}

@@ -1,13 +1,10 @@
 -- The sources that are still to come, and how many questions have.
-use Rattle.std.proofs.Common.{zero, suc, ◌≡◌, ℕ, ◌<◌, ◌≤◌, ◌+◌, ◌-◌, List, [], ◌∷◌, ◌++◌, length, get_or, take, drop, refl, sym, ap, ◌∙◌, subst, append_assoc, arith, min}
-use Rattle.std.specs.List.{All, flat_map}
+use Rattle.batch_run.proofs.Words.{zero, suc, ◌≡◌, ℕ, ◌<◌, ◌≤◌, ◌+◌, ◌-◌, List, [], ◌∷◌, ◌++◌, length, get_or, take, drop, refl, sym, ap, ◌∙◌, subst, append_assoc, arith, min, All, flat_map, flat_map-cons, Questions}
 use Rattle.std.proofs.Math.Seq.{drop-cons, drop-append_seam, take-append-add}
 use Rattle.std.proofs.lemmas.Grind.{common_steps}
 use Rattle.std.proofs.lemmas.List.{take_more, take_all, take_min, length-take, drop-append-le, flat_map_more, length-append, get_or-map}
-use Rattle.std.proofs.lemmas.List.Concat.{flat_map-cons}
 use Rattle.std.proofs.lemmas.List.Elements.{All-nil, All-append, All-drop, All-head, All-tail}
 use Rattle.road_files.specs.Asked.{AskWithin, IsVertexOf, Question, FromSource, asked_of, of_source, of_pair, of_list, sources_of}
-use Rattle.road_files.specs.declared.questions.Questions.{Questions}
 use Rattle.road_files.specs.declared.questions.Questions.TheVariants as variants
 use Rattle.road_files.proofs.QuestionLaws.{any_of, asked_within, in_sources, in_pairs, in_lists}
 use Rattle.batch_run.specs.Diffusions.{HasSource, IsNextSource, sources_to_come}

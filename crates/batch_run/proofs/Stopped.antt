@@ -1,15 +1,6 @@
 -- What a fault that stops a batch says of its workers and their gate.
-use Rattle.std.proofs.Common.{ℕ, Bool, Err, sym, subst, inl, inr}
-use Rattle.road_graph.specs.GraphData.{GraphData}
-use Rattle.road_files.specs.Asked.{Asked}
-use Rattle.path_algebra.specs.Algebra.{Algebra}
-use Rattle.worker_fleet.specs.declared.group.GroupFault.{GroupFault}
-use Rattle.worker_fleet.specs.Stops.{Says}
+use Rattle.batch_run.proofs.Words.{ℕ, Bool, Err, sym, subst, inl, inr, GraphData, Asked, Algebra, GroupFault, Says, Cause, Settings, MayStop, fault_of, IsDiffusionOf, Stops, Stopped}
 use Rattle.worker_fleet.proofs.Stopped.{StopsGroup-says}
-use Rattle.batch_run.specs.declared.cause.Cause.{Cause}
-use Rattle.batch_settings.specs.declared.settings.Settings.{Settings}
-use Rattle.batch_run.specs.Causes.{MayStop, fault_of}
-use Rattle.batch_run.specs.Stopping.{IsDiffusionOf, Stops, Stopped}
 use Rattle.batch_run.proofs.CauseCases.{gated_by_number, may_stop_weaker, stalled_by_number}
 
 pub says_of : {S V : Type 0} (meaning : S → Algebra V) (algebra : S) (g : GraphData) (how : Settings) (answers : ℕ → ℕ → Bool → Type 0) (fault : GroupFault)

@@ -1,10 +1,6 @@
 -- A run under settings that suit ends by no fault of a setting.
 use Rattle.std.proofs.Common.{◌≡◌, ◌≢◌, ◌↔◌, ◌∙◌, Bool, true, false, Option, None, Some, Result, Ok, Err, inr, refl, sym, ap}
-use Rattle.std.specs.Prelude.{IsSome}
-use Rattle.path_algebra.specs.declared.counted_sums.Cost.{Cost}
-use Rattle.batch_inputs.specs.declared.faults.File.TheVariants.{NoFile}
-use Rattle.batch_inputs.specs.declared.faults.RunFault.{RunFault}
-use Rattle.batch_settings.specs.declared.settings.Settings.{Settings}
+use Rattle.batch_run.proofs.Words.{IsSome, Cost, NoFile, RunFault, Settings}
 use Rattle.batch_settings.specs.Unsuited.{IsUnsuited}
 use Rattle.batch_run.specs.Unsuited.{IsRefusedUnsuited}
 

@@ -1,26 +1,14 @@
 -- Floors and stations of diffusions side by side: as they are opened, and when they have been run.
 use Rattle.std.proofs.Common.{zero, suc, ◌≡◌, ◌≢◌, ℕ, ◌<◌, ◌≤◌, ◌+◌, List, [], ◌∷◌, length, get_or, map, refl, arith, inl, inr, Option, Some, Vec, Global}
-use Rattle.std.specs.List.{All, AllZip}
-use Rattle.std.proofs.lemmas.Bool.{cases_lt}
-use Rattle.std.proofs.lemmas.List.Elements.{All-cons, All-head, All-nil, All-tail}
-use Rattle.std.proofs.lemmas.List.{get_or-map, length-map}
+use Rattle.batch_run.proofs.Words.{All, AllZip, cases_lt, All-cons, All-head, All-nil, All-tail, get_or-map, length-map, Ghosts, Algebra, SetupData, setup_of, StationData, PlanData, any_of, BatchOver, EndedDiffusion, order_of, GatheredDiffusion}
 use Rattle.std.proofs.lemmas.Option.{slice_get-get_or, get_or_from_slice_get}
-use Rattle.path_algebra.specs.Algebra.{Algebra}
-use Rattle.shard_store.specs.Setup.{SetupData, setup_of}
 use Rattle.shard_part.specs.Opening.{opened_parts}
 use Rattle.post_floor.specs.Data.{FloorData}
-use Rattle.station.specs.Station.{StationData}
 use Rattle.station.specs.Opened.{AreOpened, station_of}
 use Rattle.worker_fleet.specs.Groups.{HasShard, IsDone, Some_of}
 use Rattle.worker_fleet.specs.Turns.{IsOnItsFloor}
-use Rattle.road_graph.specs.GraphData.{GraphData}
-use Rattle.shard_store.specs.Plans.{PlanData}
-use Rattle.road_files.proofs.QuestionLaws.{any_of}
-use Rattle.batch_settings.specs.declared.settings.Settings.{Settings}
-use Rattle.batch_run.specs.declared.solve.diffusion.EndedDiffusion.{EndedDiffusion}
-use Rattle.batch_run.specs.Cut.{order_of}
-use Rattle.batch_run.specs.declared.solve.diffusion.GatheredDiffusion.{GatheredDiffusion}
-use Rattle.batch_run.specs.Diffusions.{AreEnded, IsCountedOn, IsEnded, IsGatheredFrom, IsGatheredOver}
+use Rattle.batch_run.specs.Batches.{IsCountedIn, IsEndedIn, IsGatheredFromIn, IsGatheredIn}
+use Rattle.batch_run.specs.Diffusions.{AreEnded}
 
 -- each of a list was opened, in order
 pub opened_at : {X F L : Type 0} (R : X → F → L → Type 0) (xs : List X) (os : List (F × L)) → AllZip (λ x o. R x o.0 o.1) xs os → (q : ℕ) (x : X) (f : F) (l : L) → q < length xs →
@@ -75,11 +63,11 @@ module _ {S V W : Type 0} (meaning : S → Algebra V) (setup : ℕ → SetupData
   }
 
 -- diffusions were run to their end if floors and stations are, place by place
-pub all_ended : {S V : Type 0} (algebra : S) (how : Settings) (g : GraphData) (plan : PlanData) (es : List (EndedDiffusion S V))
+pub all_ended : {S R T V : Type 0} {G : Ghosts S V} (over : BatchOver S R T V G) (plan : PlanData) (es : List (EndedDiffusion S V))
     → ((q s : ℕ) (f : FloorData S) (v : Vec (StationData S V) Global) → q < length (map (λ (e : EndedDiffusion S V). e.source) es) →
-    AreEnded (setup_of algebra g (get_or (map (λ (e : EndedDiffusion S V). e.source) es) q s) plan (order_of how)) (get_or (map (λ (e : EndedDiffusion S V). e.floor) es) q f)
-    (get_or (map (λ (e : EndedDiffusion S V). e.stations) es) q v).items) → All (IsEnded algebra how g plan) es
-all_ended {S} {V} algebra how g plan es each = λ k d low.
+    AreEnded (setup_of over.batch.now.task.algebra over.graph.now (get_or (map (λ (e : EndedDiffusion S V). e.source) es) q s) plan (order_of over.batch.now.settings.now)) (get_or (map (λ (e : EndedDiffusion S V). e.floor) es) q f)
+    (get_or (map (λ (e : EndedDiffusion S V). e.stations) es) q v).items) → All (IsEndedIn over plan) es
+all_ended {S} {R} {T} {V} over plan es each = λ k d low.
     rw (get_or-map (λ (e : EndedDiffusion S V). e.source) es k d d.source low, get_or-map (λ (e : EndedDiffusion S V). e.floor) es k d d.floor low, get_or-map (λ (e : EndedDiffusion S V). e.stations) es k d d.stations low)
     at (each k d.source d.floor d.stations (rw (length-map es (λ (e : EndedDiffusion S V). e.source)) low))
 
@@ -91,15 +79,15 @@ not_missing k (s ∷ ss) (inl h) missing = All-head (λ s. s.part.shard ≢ k) s
 not_missing k (s ∷ ss) (inr h) missing = not_missing k ss h (All-tail (λ s. s.part.shard ≢ k) s ss missing)
 
 -- what ended diffusions came to, in order
-module _ {S V : Type 0} (A : Algebra V) (algebra : S) (how : Settings) (g : GraphData) (plan : PlanData) where
+module _ {S R T V : Type 0} {G : Ghosts S V} (meaning : S → Algebra V) (over : BatchOver S R T V G) (plan : PlanData) where
   abbrev pub CameTo : List (EndedDiffusion S V) → List (GatheredDiffusion V) → Type 0
-  CameTo es ds = All (IsGatheredOver A how g) ds × (map (λ d. d.source) ds ≡ map (λ (e : EndedDiffusion S V). e.source) es) × AllZip (IsCountedOn algebra how g plan) (map (λ (e : EndedDiffusion S V). e.floor) es) ds
+  CameTo es ds = All (IsGatheredIn meaning over) ds × (map (λ d. d.source) ds ≡ map (λ (e : EndedDiffusion S V). e.source) es) × AllZip (IsCountedIn over plan) (map (λ (e : EndedDiffusion S V). e.floor) es) ds
 
-  pub came_to : (es : List (EndedDiffusion S V)) (ds : List (GatheredDiffusion V)) → All (IsEnded algebra how g plan) es → AllZip (IsGatheredFrom A how g) es ds → CameTo es ds
-  came_to [] [] ended h = (All-nil (IsGatheredOver A how g), refl, tt)
+  pub came_to : (es : List (EndedDiffusion S V)) (ds : List (GatheredDiffusion V)) → All (IsEndedIn over plan) es → AllZip (IsGatheredFromIn meaning over) es ds → CameTo es ds
+  came_to [] [] ended h = (All-nil (IsGatheredIn meaning over), refl, tt)
   came_to [] (d ∷ ds) ended h = absurd h
   came_to (e ∷ es) [] ended h = absurd h
   came_to (e ∷ es) (d ∷ ds) ended h =
-      let rest = came_to es ds (All-tail (IsEnded algebra how g plan) e es ended) h.1 in
-      let here = All-head (IsEnded algebra how g plan) e es ended in
-      (All-cons (IsGatheredOver A how g) d ds h.0.0 rest.0, (λ i. h.0.1 i ∷ rest.1 i), ((e, refl, here, h.0.1, h.0.2), rest.2))
+      let rest = came_to es ds (All-tail (IsEndedIn over plan) e es ended) h.1 in
+      let here = All-head (IsEndedIn over plan) e es ended in
+      (All-cons (IsGatheredIn meaning over) d ds h.0.0 rest.0, (λ i. h.0.1 i ∷ rest.1 i), ((e, refl, here, h.0.1, h.0.2), rest.2))

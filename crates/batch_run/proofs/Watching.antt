@@ -1,16 +1,5 @@
 -- What a run reports to its watcher, from what answering reports.
-use Rattle.std.proofs.Common.{◌≡◌, ◌≢◌, ◌⊎◌, [], true, false, Ok, Err, inl, inr, refl}
-use Rattle.text_lines.specs.Streams.{Output}
-use Rattle.road_graph.specs.GraphData.{GraphData}
-use Rattle.road_files.specs.Asked.{Asked}
-use Rattle.path_algebra.specs.Algebra.{Algebra}
-use Rattle.batch_run.specs.declared.cause.Cause.{Cause}
-use Rattle.batch_inputs.specs.declared.faults.File.TheVariants.{NoFile}
-use Rattle.batch_inputs.specs.declared.faults.RunFault.{RunFault}
-use Rattle.batch_settings.specs.declared.settings.Settings.{Settings}
-use Rattle.batch_run.specs.declared.watcher.Progress.{Progress}
-use Rattle.batch_run.specs.Causes.{fault_of}
-use Rattle.batch_settings.specs.Choice.{without_diffusions}
+use Rattle.batch_run.proofs.Words.{◌≡◌, ◌≢◌, ◌⊎◌, [], true, false, Ok, Err, inl, inr, refl, Output, GraphData, Asked, Algebra, Cause, NoFile, RunFault, Settings, Progress, fault_of, without_diffusions}
 use Rattle.batch_run.specs.Reports.{IsFactoringTold, IsTold, ReportedFirst, Watched}
 use Rattle.batch_run.proofs.CauseCases.{no_setting}
 
@@ -36,7 +25,7 @@ module _ {V S W : Type 0} (A : Algebra V) (how : Settings) (IsRead : GraphData �
     pub watched_all : ReportedFirst A how g asked (without_diffusions how) (IsTold g how.factors) (IsFactoringTold g) may_become old new out out_after true → Watched A how IsRead may_become old new out out_after (Ok tt)
     watched_all w = record {
       reports = w.0;
-      are = record { all = record { graph = g; asked = asked; read = read; first = w.1 }; first = tt; nothing = tt; untouched = tt };
+      are = record { all = (g, asked, read, w.1); first = tt; nothing = tt; untouched = tt };
       told = w.2;
     }
 
@@ -46,7 +35,7 @@ module _ {V S W : Type 0} (A : Algebra V) (how : Settings) (IsRead : GraphData �
       reports = w.0;
       are = record {
         all = tt;
-        first = λ _ _. record { graph = g; asked = asked; read = read; first = w.1 };
+        first = λ _ _. (g, asked, read, w.1);
         nothing = λ other. absurd (other refl);
         untouched = λ setting. absurd (no_setting cause setting);
       };

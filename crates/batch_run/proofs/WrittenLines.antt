@@ -1,11 +1,7 @@
 -- The lines of the vertices by best labels and their tree are right.
-use Rattle.std.proofs.Common.{◌≡◌, ℕ, ◌+◌, ◌-◌, ◌<◌, List, length, get_or, Option, Some, None, inl, inr, refl, ◌∙◌, arith}
+use Rattle.batch_run.proofs.Words.{◌≡◌, ℕ, ◌+◌, ◌-◌, ◌<◌, List, length, get_or, Option, Some, None, inl, inr, refl, ◌∙◌, arith, GraphData, Algebra, AreBest, IsBestLabel, label_of, Reached}
 use Rattle.std.proofs.lemmas.List.FromFn.{get_or-map-range_with_len, length-map-range_with_len}
-use Rattle.road_graph.specs.GraphData.{GraphData}
-use Rattle.path_algebra.specs.Algebra.{Algebra}
-use Rattle.path_algebra.specs.Walks.{AreBest, IsBestLabel, label_of}
 use Rattle.route_tree.specs.Tree.{AreHopsAt, Branches, IsParentAt, IsTree, hops_of, parent_of}
-use Rattle.answer_text.specs.declared.answers.Reached.{Reached}
 use Rattle.answer_text.specs.IsAnswer.{AreVertexLines, IsVertexLine}
 use Rattle.batch_run.specs.WrittenLines.{written_line, written_lines}
 

@@ -1,24 +1,9 @@
 -- What was reported of a batch is so, and stays so.
-use Rattle.std.proofs.Common.{◌≡◌, inl, inr, ℕ, ◌+◌, ◌<◌, ◌≤◌, List, [], ◌∷◌, ◌++◌, length, map, get_or, Bool, false, Option, None, Some, Err, refl, sym, ap, ◌∙◌, subst, append_assoc, append-nil}
-use Rattle.std.specs.Prelude.{IfNone, IfSome}
-use Rattle.std.specs.Io.KnownBytes.{Appends, Keeps}
+use Rattle.batch_run.proofs.Words.{◌≡◌, inl, inr, ℕ, ◌+◌, ◌<◌, ◌≤◌, List, [], ◌∷◌, ◌++◌, length, map, get_or, Bool, false, Option, None, Some, Err, refl, sym, ap, ◌∙◌, subst, append_assoc, append-nil, IfNone, IfSome, Appends, Keeps, false≢true, take_all, GraphData, left_appends, Output, Question, Asked, Algebra, WrotePrefix, Cause, Settings, Progress, Counts, Factoring}
 use Rattle.std.specs.List.{AllByRecursion}
-use Rattle.std.proofs.lemmas.Bool.{false≢true}
-use Rattle.std.proofs.lemmas.List.{take_all}
 use Rattle.std.proofs.KnownBytes.{Appends-kept, Appends-trans}
-use Rattle.road_graph.specs.GraphData.{GraphData}
-use Rattle.text_lines.proofs.WriteLaws.{left_appends}
-use Rattle.text_lines.specs.Streams.{Output}
-use Rattle.road_files.specs.Asked.{Question, Asked}
-use Rattle.path_algebra.specs.Algebra.{Algebra}
-use Rattle.text_lines.specs.Written.{WrotePrefix}
 use Rattle.batch_run.specs.Answered.{WroteAtLeast, WroteNext, begun_text}
-use Rattle.batch_run.specs.declared.cause.Cause.{Cause}
-use Rattle.batch_settings.specs.declared.settings.Settings.{Settings}
-use Rattle.batch_run.specs.declared.watcher.Progress.{Progress}
 use Rattle.batch_run.specs.declared.watcher.Progress.TheVariants as report
-use Rattle.elimination_order.specs.declared.counts.Counts.{Counts}
-use Rattle.question_solvers.specs.declared.factor_solver.Factoring.{Factoring}
 use Rattle.batch_run.specs.Reports.{Account, Attempt, Beginning, Due, Ordering, Preparation, IsSo, Answering, Reported, ReportedFirst, ReportedPrefix, accounts_due, batch_due, count_diffusions, diffused, due_if, question_due, questions_due, start_due}
 use Rattle.batch_run.proofs.CauseCases.{write_or_other}
 use Rattle.batch_run.proofs.AnsweredFirst.{AnsweredFirst}
@@ -203,11 +188,11 @@ module _ {V S W : Type 0} (A : Algebra V) (how : Settings) (g : GraphData) (aske
         ReportedFirst A how g asked undiffused Told MayTell may_become old new out out_after false
     until_stopped q new out_after cause low part wrote =
         let first = due_first undiffused was.made asked.questions i in
-        let after = accounts_follow undiffused was.made asked.questions i (i + 1) q low refl part.prefix part.rest part.due_is in
-        first_are was.made was.told out_after new (first ++ part.prefix) after.0 after.1
-        (more A how g may_become first part.prefix old mid new was.reported part.reported)
-        (so_then A g asked MayTell out out_after first part.prefix (so_at_stop A g asked MayTell (get_or asked.questions i q) out out_mid out_after cause first wrote was.so)
-        (within_accounts A g asked MayTell out out_after undiffused (i + 1) (get_or asked.questions i q) part.prefix part.rest part.due_is))
+        let after = accounts_follow undiffused was.made asked.questions i (i + 1) q low refl part.0 part.1 part.2 in
+        first_are was.made was.told out_after new (first ++ part.0) after.0 after.1
+        (more A how g may_become first part.0 old mid new was.reported part.3)
+        (so_then A g asked MayTell out out_after first part.0 (so_at_stop A g asked MayTell (get_or asked.questions i q) out out_mid out_after cause first wrote was.so)
+        (within_accounts A g asked MayTell out out_after undiffused (i + 1) (get_or asked.questions i q) part.0 part.1 part.2))
 
 -- first reports stay so while what they say does, and while no less may be told of factoring
 pub first_still : {V S W : Type 0} (A : Algebra V) (how : Settings) (g : GraphData) (asked : Asked) (undiffused : Bool) (Told WideTold : Preparation → Type 0) (wider_told : (p : Preparation) → Told p → WideTold p)

@@ -1,6 +1,6 @@
 -- How a batch cuts a graph into shards, in which order the parts of its diffusions take their items,
 -- and how far a shard may run ahead.
-use Rattle.std.specs.Prelude.{◌≡◌, ℕ, ◌/◌, cond, Option, None, Some, length, sum_by, unwrap_or}
+use Rattle.std.specs.Prelude.{ℕ, ◌/◌, cond, Option, None, Some, length, sum_by, unwrap_or}
 use Rattle.road_graph.specs.GraphData.{GraphData}
 use Rattle.shard_store.specs.Plans.{PlanData, IsBlocks}
 use Rattle.shard_store.specs.declared.queue_order.QueueOrder.{QueueOrder}
@@ -25,6 +25,6 @@ mean_weight g = sum_by (λ a. a.weight) g.arcs / length g.arcs
 abbrev pub ahead_of : Settings → GraphData → Option ℕ
 ahead_of how g = cond how.best_first (Some (unwrap_or how.ahead (mean_weight g / 5))) None
 
--- the pace is the one that they ask for
-abbrev pub IsPaceOf : Settings → GraphData → Pace → Type 0
-IsPaceOf how g pace = (pace.order ≡ order_of how) × (pace.ahead ≡ ahead_of how g)
+-- the pace that they ask for
+abbrev pub pace_of : Settings → GraphData → Pace
+pace_of how g = record { order = order_of how; ahead = ahead_of how g }

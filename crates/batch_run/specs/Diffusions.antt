@@ -7,18 +7,15 @@ use Rattle.path_algebra.specs.Algebra.{Algebra}
 use Rattle.path_algebra.specs.Walks.{AreBest}
 use Rattle.route_tree.specs.Tree.{IsTree}
 use Rattle.shard_store.specs.Plans.{PlanData}
-use Rattle.shard_store.specs.Setup.{SetupData, setup_of}
+use Rattle.shard_store.specs.Setup.{SetupData}
 use Rattle.post_floor.specs.Data.{FloorData}
-use Rattle.shard_store.specs.Tallies.{tally_of}
-use Rattle.station.specs.Gather.{counts_in}
 use Rattle.station.specs.Station.{StationData, BelongsTo}
 use Rattle.worker_fleet.specs.Groups.{HasShard}
-use Rattle.batch_run.specs.declared.solve.diffusion.EndedDiffusion.{EndedDiffusion}
 use Rattle.batch_run.specs.declared.solve.diffusion.GatheredDiffusion.{GatheredDiffusion}
 use Rattle.batch_run.specs.declared.solve.diffusion.Labelling.{Labelling}
 use Rattle.batch_run.specs.declared.solve.queue.DiffusionQueue.{DiffusionQueue}
 use Rattle.batch_settings.specs.declared.settings.Settings.{Settings}
-use Rattle.batch_run.specs.Cut.{IsCut, IsPaceOf, order_of}
+use Rattle.batch_run.specs.Cut.{IsCut, pace_of}
 use Rattle.batch_run.specs.Reports.{IsAccount}
 
 -- the plan is one of the graph
@@ -45,10 +42,6 @@ pub record AreEnded {A V : Type 0} (t : SetupData A) (floor : FloorData A) (stat
   pub ended : All (λ s. s.ended ≡ true) stations
   pub all : (k : ℕ) → k < t.plan.shards → HasShard k stations
 
--- it was one over this graph and plan, from its source, in the order that the settings choose
-abbrev pub IsEnded : {A V : Type 0} → A → Settings → GraphData → PlanData → EndedDiffusion A V → Type 0
-IsEnded algebra how roads plan e = AreEnded (setup_of algebra roads e.source plan (order_of how)) e.floor e.stations.items
-
 -- labels are best from these sources, and if there is a tree it is theirs
 pub record IsLabelling {V : Type 0} (A : Algebra V) (g : GraphData) (sources : List ℕ) (l : Labelling V) : Type 0 where
   pub labels : AreBest A g sources l.labels
@@ -60,21 +53,10 @@ pub record IsGatheredOver {V : Type 0} (A : Algebra V) (how : Settings) (g : Gra
   pub labelling : IsLabelling A g (d.source ∷ []) d.labelling
   pub account : IsAccount A how g d.source d.tally
 
--- what this ended diffusion came to was gathered: it is from its source, and its counts are what its
--- stations counted together
-abbrev pub IsGatheredFrom : {A V : Type 0} → Algebra V → Settings → GraphData → EndedDiffusion A V → GatheredDiffusion V → Type 0
-IsGatheredFrom A how g e d = IsGatheredOver A how g d × (d.source ≡ e.source) × (d.tally ≡ tally_of (counts_in e.stations.items))
-
--- its counts are what stations of this floor counted, on which a diffusion from its source was run
--- to its end
-abbrev pub IsCountedOn : {A V : Type 0} → A → Settings → GraphData → PlanData → FloorData A → GatheredDiffusion V → Type 0
-IsCountedOn {A} {V} algebra how roads plan floor d =
-    (e : EndedDiffusion A V) × (e.floor ≡ floor) × IsEnded algebra how roads plan e × (d.source ≡ e.source) × (d.tally ≡ tally_of (counts_in e.stations.items))
-
 -- the plan and the pace are those that the settings choose, those that wait were gathered, and
 -- their sources are a prefix of those to come
 pub record AreNext {V : Type 0} (A : Algebra V) (how : Settings) (g : GraphData) (to_come : List ℕ) (queue : DiffusionQueue V) : Type 0 where
-  pub chosen : IsCut how g queue.plan × IsPaceOf how g queue.pace
+  pub chosen : IsCut how g queue.plan × (queue.pace ≡ pace_of how g)
   pub gathered : All (IsGatheredOver A how g) queue.waiting.items
   pub rest : List ℕ
   pub sources_are : to_come ≡ map (λ d. d.source) queue.waiting.items ++ rest

@@ -7,8 +7,8 @@ use Rattle.path_algebra.specs.declared.counted_sums.Cost.{Cost}
 use Rattle.elimination_order.specs.declared.counts.Counts.{Counts}
 use Rattle.question_solvers.specs.Solvers.{IsFactoredFor, IsFactoringBy, IsSoughtBy, IsToldRightly, IsTried}
 use Rattle.question_solvers.specs.declared.factor_solver.Factoring.{Factoring}
-use Rattle.road_files.specs.Asked.{Asked}
 use Rattle.batch_settings.specs.declared.settings.Settings.{Settings}
+use Rattle.batch_run.specs.declared.batch.Batch.{Batch}
 use Rattle.batch_run.specs.declared.solve.Solver.{Solver}
 use Rattle.batch_run.specs.declared.solve.Solver.TheVariants.{Plain, Factors, Workers}
 use Rattle.batch_settings.specs.Choice.{without_diffusions}
@@ -60,10 +60,10 @@ pub record IsPreparedBy {S V : Type 0} {G : Ghosts S V} (s : Solver S V G) (made
 
 -- what it may tell of factoring its graph: what became of it for the solver that answers, once its
 -- factoring was tried and it is ready for the first question
-pub record MayTell {S V : Type 0} {G : Ghosts S V} (meaning : S → Algebra V) (cost : S → Option Cost) (algebra : S) (how : Settings) (asked : Asked) (s : Solver S V G) (became : Factoring) : Type 0 where
+pub record MayTell {S R T V : Type 0} {G : Ghosts S V} (meaning : S → Algebra V) (cost : S → Option Cost) (batch : Batch S R T V G) (s : Solver S V G) (became : Factoring) : Type 0 where
   pub moment : Solver S V G
   pub same : IsSameSolver s moment
   pub kind : is_by_factors moment ≡ is_by_factors s
-  pub tried : WasTried (meaning algebra) (cost algebra) moment
-  pub ready : IsReady meaning algebra how asked 0 moment
+  pub tried : WasTried (meaning batch.task.algebra) (cost batch.task.algebra) moment
+  pub ready : IsReady meaning batch 0 moment
   pub is_true : IsFactoringOf moment became

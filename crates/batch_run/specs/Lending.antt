@@ -3,7 +3,6 @@ use Rattle.std.specs.Prelude.{ℕ, Result}
 use Rattle.std.specs.Borrow.{Bor, Fml, MutBor, RattleType}
 use Rattle.path_algebra.specs.declared.algebra.PathAlgebra.{Ghosts}
 use Rattle.path_algebra.specs.Algebra.{Algebra}
-use Rattle.road_files.specs.Asked.{asked_of}
 use Rattle.question_solvers.specs.Lending.{Ends}
 use Rattle.question_solvers.specs.declared.solved.Solved.{Solved}
 use Rattle.batch_run.specs.contracts.solve.Solver as Solver
@@ -21,5 +20,4 @@ module _ (A V : RattleType) (G : Ghosts A.Denot V.Denot) {R T E : Type 0} (meani
 
   -- so are the workers
   abbrev pub EndsWorkers : MutBor (WorkerSolver V.Denot) → Result (Bor (Solved V.Denot)) E → Fml
-  EndsWorkers s outcome =
-      Ends (WorkerSolver.the_row V) s (λ n. IsWorkerAfter (meaning batch.algebra) batch.run.now.settings.now (asked_of batch.questions.now) i s.now n outcome)
+  EndsWorkers s outcome = Ends (WorkerSolver.the_row V) s (λ n. IsWorkerAfter meaning batch i s.now n outcome)

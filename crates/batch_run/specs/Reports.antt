@@ -105,9 +105,8 @@ IsOrderTold g false found = found ≡ None
 
 -- what is told of factoring this graph: such an order; and what became of it, exactly if the settings
 -- choose factors
-pub record IsTold (g : GraphData) (factors : Bool) (made : Preparation) : Type 0 where
-  pub order : IsOrderTold g factors made.found
-  pub factoring : is_some made.became ≡ factors
+abbrev pub IsTold : GraphData → (factors : Bool) → Preparation → Type 0
+IsTold g factors made = IsOrderTold g factors made.found × (is_some made.became ≡ factors)
 
 -- what became of it is told once it was tried, and if it is too dense, with counts above a bound
 abbrev pub IsFactoringTold : GraphData → Factoring → Type 0
@@ -125,11 +124,9 @@ pub record Reported {V S : Type 0} (A : Algebra V) (how : Settings) (g : GraphDa
   pub told : FollowsReports may_become old reports new
 
 -- a prefix of what is due was
-pub record ReportedPrefix {V S : Type 0} (A : Algebra V) (how : Settings) (g : GraphData) (may_become : S → Progress → S → Type 0) (due : List Due) (old new : S) : Type 0 where
-  pub prefix : List Due
-  pub rest : List Due
-  pub due_is : due ≡ prefix ++ rest
-  pub reported : Reported A how g may_become prefix old new
+abbrev pub ReportedPrefix : {V S : Type 0} → Algebra V → Settings → GraphData → (S → Progress → S → Type 0) → (due : List Due) → (old new : S) → Type 0
+ReportedPrefix A how g may_become due old new =
+    (prefix : List Due) × (rest : List Due) × (due ≡ prefix ++ rest) × Reported A how g may_become prefix old new
 
 -- all that is due was reported, or before a fault a prefix of it
 abbrev pub ReportedAllOrPrefix : {V S T E : Type 0} (A : Algebra V) (how : Settings) (g : GraphData) (may_become : S → Progress → S → Type 0) (due : List Due) (old new : S) → Result T E → Type 0
@@ -166,11 +163,9 @@ ReportedFirst A how g asked undiffused Told MayTell may_become old new out out_a
     (reports : List Progress) × FirstReports A how g asked undiffused Told MayTell out out_after whole reports × FollowsReports may_become old reports new
 
 -- so they are of a batch over what was read, and what they tell of factoring is right
-pub record AreFirstReports {V W : Type 0} (A : Algebra V) (how : Settings) (IsRead : GraphData → Asked → Type 0) (out out_after : Output W) (whole : Bool) (reports : List Progress) : Type 0 where
-  pub graph : GraphData
-  pub asked : Asked
-  pub read : IsRead graph asked
-  pub first : FirstReports A how graph asked (without_diffusions how) (IsTold graph how.factors) (IsFactoringTold graph) out out_after whole reports
+abbrev pub AreFirstReports : {V W : Type 0} → Algebra V → Settings → (GraphData → Asked → Type 0) → (out out_after : Output W) → (whole : Bool) → List Progress → Type 0
+AreFirstReports A how IsRead out out_after whole reports = (g : GraphData) × (asked : Asked) × IsRead g asked
+    × FirstReports A how g asked (without_diffusions how) (IsTold g how.factors) (IsFactoringTold g) out out_after whole reports
 
 -- these are the reports of a batch over what was read, which ended with this outcome, while the
 -- output took bytes

@@ -1,11 +1,12 @@
 //! Answers all questions of a batch.
-ghost use Rattle.std.specs.Prelude.{◌≡◌, ◌+◌, ◌<◌, length, slice_index_or, true, false, IfErr, IfNone, IfOk, IfSome, OnErr, OnOk};
-ghost use Rattle.road_files.specs.Asked.{AreQuestionsOf, Question, asked_of};
+ghost use Rattle.std.specs.Prelude.{◌≡◌, ◌+◌, true, false, IfErr, IfNone, IfOk, IfSome, OnErr, OnOk};
+ghost use Rattle.road_files.specs.Asked.{AreQuestionsOf, Question};
 ghost use Rattle.batch_run.specs.Answered.{AnsweredAll, WroteNext};
-ghost use Rattle.batch_run.specs.Batches.{IsAfter, IsReadyAt, MayStopBatch, ReportedBatch};
+ghost use Rattle.batch_run.specs.Batches.{IsAfter, MayStopBatch, ReportedBatch, asked_in, question_at};
 ghost use Rattle.batch_run.specs.Factored.{IsSought, is_by_factors};
 ghost use Rattle.batch_run.specs.Reports.{Reported, ReportedPrefix, accounts_due, question_due};
-ghost use Rattle.batch_run.specs.Solvers.{IsSameSolver, graph_of, is_without_diffusions};
+ghost use Rattle.batch_run.specs.Solvers.{IsReady, IsSameSolver, graph_of, is_without_diffusions};
+ghost use Rattle.question_solvers.specs.Questions.{HasPlace};
 
 use crate::batch::Batch;
 use crate::begin::begin;
@@ -29,24 +30,22 @@ fn answer_next<A: PathAlgebra, W: RoadWrite, R: Threads + Wait + Sync, T: Gate, 
     out: &mut W,
     watcher: &mut O,
 ) -> Result<(), Cause>
-    requires place { i < length (asked_of batch.now.questions.now).questions }
-    requires within { AreQuestionsOf (graph_of solver.old).vertices batch.now.questions.now }
-    requires ready { IsReadyAt A.meaning batch.now i solver.old }
+    requires place { HasPlace batch.now.task.questions.now i }
+    requires within { AreQuestionsOf (graph_of solver.old).vertices batch.now.task.questions.now }
+    requires ready { IsReady A.meaning batch.now i solver.old }
     ensures after { IsAfter A.meaning batch.now i solver.old solver.new result }
-    ensures wrote { (default : Question) → WroteNext (A.meaning batch.now.algebra)
-        (graph_of solver.old) (slice_index_or (asked_of batch.now.questions.now).questions i
-        default) (W.seen out.old) (W.seen out.new) result }
+    ensures wrote { (default : Question) → WroteNext (A.meaning batch.now.task.algebra)
+        (graph_of solver.old) (question_at batch.now i default) (W.seen out.old) (W.seen out.new)
+        result }
     ensures kind { IfErr result (MayStopBatch A.meaning T.may_answer batch.now solver.old) }
-    ensures reported { OnOk result ((default : Question) → Reported (A.meaning batch.now.algebra)
-        batch.now.run.now.settings.now (graph_of solver.old) O.may_become
-        (question_due (is_without_diffusions solver.old) (i + 1)
-        (slice_index_or (asked_of batch.now.questions.now).questions i default)) watcher.old
+    ensures reported { OnOk result ((default : Question) → Reported (A.meaning batch.now.task.algebra)
+        batch.now.settings.now (graph_of solver.old) O.may_become (question_due
+        (is_without_diffusions solver.old) (i + 1) (question_at batch.now i default)) watcher.old
         watcher.new) }
     ensures unreported { OnErr result ((default : Question) →
-        ReportedPrefix (A.meaning batch.now.algebra) batch.now.run.now.settings.now
-        (graph_of solver.old) O.may_become (accounts_due (is_without_diffusions solver.old) (i + 1)
-        (slice_index_or (asked_of batch.now.questions.now).questions i default)) watcher.old
-        watcher.new) }
+        ReportedPrefix (A.meaning batch.now.task.algebra) batch.now.settings.now (graph_of solver.old)
+        O.may_become (accounts_due (is_without_diffusions solver.old) (i + 1)
+        (question_at batch.now i default)) watcher.old watcher.new) }
 {
     let n = solver.vertices();
     let solved = solve_next(solver, batch, i, watcher)?;
@@ -68,9 +67,7 @@ fn seek<A: PathAlgebra, R, T>(
 {
     match solver {
         Solver::Plain(_) | Solver::Workers(_) => Ok(None),
-        Solver::Factors(solver) => {
-            seek_order(batch.run.alloc, batch.algebra, batch.questions, solver)
-        }
+        Solver::Factors(solver) => seek_order(&batch.task, solver),
     }
 }
 
@@ -102,23 +99,23 @@ pub fn answer_all<A: PathAlgebra, W: RoadWrite, R: Threads + Wait + Sync, T: Gat
     out: &mut W,
     watcher: &mut O,
 ) -> Result<(), Cause>
-    requires within { AreQuestionsOf (graph_of solver.old).vertices batch.now.questions.now }
+    requires within { AreQuestionsOf (graph_of solver.old).vertices batch.now.task.questions.now }
     ensures same { IsSameSolver solver.old solver.new }
-    ensures answered { AnsweredAll (A.meaning batch.now.algebra) (graph_of solver.old) (asked_of
-        batch.now.questions.now) (MayStopBatch A.meaning T.may_answer batch.now solver.old) (W.seen
-        out.old) (W.seen out.new) result }
+    ensures answered { AnsweredAll (A.meaning batch.now.task.algebra) (graph_of solver.old)
+        (asked_in batch.now) (MayStopBatch A.meaning T.may_answer batch.now solver.old)
+        (W.seen out.old) (W.seen out.new) result }
     ensures all { OnOk result (ReportedBatch A.meaning A.arc_cost batch.now solver.old O.may_become
         watcher.old watcher.new (W.seen out.old) (W.seen out.new) true) }
     ensures reported { ReportedBatch A.meaning A.arc_cost batch.now solver.old O.may_become
         watcher.old watcher.new (W.seen out.old) (W.seen out.new) false }
 {
     let undiffused = solver.is_without_diffusions();
-    begin(batch.algebra, batch.questions, undiffused, out, watcher)?;
+    begin(&batch.task, undiffused, out, watcher)?;
     let found = seek(batch, solver)?;
     report_order(found, watcher);
     start(batch, solver)?;
     report_factoring(solver.factoring(), watcher);
-    for i in 0..batch.questions.len() {
+    for i in 0..batch.task.questions.len() {
         answer_next(batch, solver, i, out, watcher)?;
     }
     Ok(())

@@ -6,7 +6,6 @@ ghost use Rattle.batch_settings.specs.InRange.{AreInRange};
 use batch_settings::Settings;
 use path_algebra::PathAlgebra;
 use question_solvers::Task;
-use road_files::Questions;
 use road_graph::Graph;
 use std::alloc::Global;
 
@@ -23,39 +22,20 @@ pub struct Run<'r, R, T> {
     pub gate: &'r T,
 }
 
-/// Questions, how they are run, and the algebra under which they are answered.
+/// Questions that are to be answered, by which solver, and if it is workers, by which gate.
 #[derive(Drop)]
 pub struct Batch<'b, A: PathAlgebra, R, T> {
-    pub run: &'b Run<'b, R, T>,
-    pub algebra: A,
-    pub questions: &'b Questions,
-    ghost in_range: { AreInRange run.now.settings.now },
-}
-
-impl<'b, A: PathAlgebra, R, T> Batch<'b, A, R, T> {
-    /// The same as a task of the solvers that need no diffusion.
-    pub(crate) fn task(&self) -> Task<'b, A, R>
-        ensures algebra { result.algebra ≡ self.now.algebra }
-        ensures questions { result.questions.now ≡ self.now.questions.now }
-    {
-        Task {
-            rt: self.run.rt,
-            alloc: self.run.alloc,
-            algebra: self.algebra,
-            questions: self.questions,
-            width: self.run.settings.width as usize,
-        }
-    }
+    pub task: Task<'b, A, R>,
+    pub settings: &'b Settings,
+    pub gate: &'b T,
+    ghost in_range: { AreInRange settings.now },
 }
 
 /// A batch over the graph of workers.
 #[derive(Drop)]
 pub(crate) struct BatchOver<'b, A: PathAlgebra, R, T> {
-    pub(crate) run: &'b Run<'b, R, T>,
-    pub(crate) algebra: A,
+    pub(crate) batch: &'b Batch<'b, A, R, T>,
     pub(crate) graph: &'b Graph,
-    pub(crate) questions: &'b Questions,
-    ghost in_range: { AreInRange run.now.settings.now },
-    ghost few: { length (asked_of questions.now).questions ≤ 1048576 },
-    ghost within: { AskWithin graph.now.vertices questions.now } by { AskWithin-prop graph.now.vertices questions.now },
+    ghost few: { length (asked_of batch.now.task.questions.now).questions ≤ 1048576 },
+    ghost within: { AskWithin graph.now.vertices batch.now.task.questions.now } by { AskWithin-prop graph.now.vertices batch.now.task.questions.now },
 }

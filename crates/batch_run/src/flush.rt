@@ -1,9 +1,9 @@
 //! Answers a batch and passes the answers on.
 ghost use Rattle.std.specs.Prelude.{◌≡◌, ◌≢◌, ◌+◌, ◌≤◌, ◌<◌, ◌⊎◌, [], true, false, Ok, Err, OnOk, IfErr};
 ghost use Rattle.std.specs.Io.KnownBytes.{Keeps};
-ghost use Rattle.road_files.specs.Asked.{AreQuestionsOf, asked_of};
+ghost use Rattle.road_files.specs.Asked.{AreQuestionsOf};
 ghost use Rattle.batch_run.specs.Answered.{IsPassedOn, PassedOnAll};
-ghost use Rattle.batch_run.specs.Batches.{MayStopBatch, ReportedBatch};
+ghost use Rattle.batch_run.specs.Batches.{MayStopBatch, ReportedBatch, asked_in};
 ghost use Rattle.batch_run.specs.Solvers.{graph_of};
 
 use crate::answering::answer_all;
@@ -54,18 +54,18 @@ pub(crate) fn answer_and_flush<
     out: &mut W,
     watcher: &mut O,
 ) -> Result<(), Cause>
-    requires within { AreQuestionsOf (graph_of solver.old).vertices batch.now.questions.now }
-    ensures passed_on { PassedOnAll (A.meaning batch.now.algebra) (graph_of solver.old) (asked_of
-        batch.now.questions.now) (MayStopBatch A.meaning T.may_answer batch.now solver.old) (W.seen
-        out.old) (W.seen out.new) result }
+    requires within { AreQuestionsOf (graph_of solver.old).vertices batch.now.task.questions.now }
+    ensures passed_on { PassedOnAll (A.meaning batch.now.task.algebra) (graph_of solver.old)
+        (asked_in batch.now) (MayStopBatch A.meaning T.may_answer batch.now solver.old)
+        (W.seen out.old) (W.seen out.new) result }
     ensures all { OnOk result (ReportedBatch A.meaning A.arc_cost batch.now solver.old O.may_become
         watcher.old watcher.new (W.seen out.old) (W.seen out.new) true) }
     ensures reported { ReportedBatch A.meaning A.arc_cost batch.now solver.old O.may_become
         watcher.old watcher.new (W.seen out.old) (W.seen out.new) false }
 {
     // Laws for the proof: right answers exist, the first of them begin all, and a graph is one.
-    answers_exist(batch.algebra);
-    first_answers_begin_all(batch.algebra);
+    answers_exist(batch.task.algebra);
+    first_answers_begin_all(batch.task.algebra);
     let _ = solver.vertices();
     let answered = answer_all(batch, solver, out, watcher);
     flush_all(out, answered)

@@ -23,7 +23,7 @@ pub use batch_settings::{Dealing, Settings, SolverKind};
 pub use cause::Cause;
 pub use entries::{run_bundle, run_pair};
 pub use laws::{answers_exist, best_first_accounts_count_each_arc_once, usual_turns_are_enough};
-pub use question_solvers::{Counts, FactorSolver, Factoring, NoFactors, PlainSolver, Solved};
+pub use question_solvers::{Counts, FactorSolver, Factoring, NoFactors, PlainSolver, Solved, Task};
 pub use run::{read_batch, run_batch};
 pub use solve::{Solver, WorkerSolver};
 pub use watcher::{Progress, Unwatched, Watcher};

@@ -16,7 +16,7 @@ use crate::watcher::Watcher;
 use batch_inputs::{BatchInput, BatchRead, File, RunFault, SETTINGS, fault_of_run};
 use batch_settings::SolverKind;
 use path_algebra::PathAlgebra;
-use question_solvers::{FactorSolver, PlainSolver};
+use question_solvers::{FactorSolver, PlainSolver, Task};
 use road_files::Questions;
 use road_graph::{Graph, OutGraph};
 use std::sync::Wait;
@@ -79,9 +79,9 @@ pub fn read_batch<A: PathAlgebra, I: BatchInput, R, T>(
 /// one that was solved just before without a new search, and a pair goes on with the search from
 /// its source; `width` searches go side by side on all processors. With `factors` the graph is
 /// factored when the header is written, by the order that was read or else by one that is found,
-/// and its factors answer: pairs in `width` runs side by side,
-/// other questions one after the other. With either no worker is started, the gate is not asked,
-/// and the graph is kept with its arcs by tail alone; for pairs and factors by head too.
+/// and its factors answer: pairs in `width` chunks side by side, other questions one after the
+/// other. With either no worker is started, the gate is not asked, and the graph is kept with its
+/// arcs by tail alone; for pairs and factors by head too.
 ///
 /// With one shard, best first, no worker reaches a limit of turns (40) that is enough for the arcs
 /// of the graph (`usual_turns_are_enough`).
@@ -117,10 +117,18 @@ pub fn run_batch<
         Ok(read) => read,
         Err(fault) => return Err(fault),
     };
-    let batch = Batch {
-        run,
+    let (settings, gate) = (run.settings, run.gate);
+    let task = Task {
+        rt: run.rt,
+        alloc: run.alloc,
         algebra,
         questions: &questions,
+        width: settings.width as usize,
+    };
+    let batch = Batch {
+        task,
+        settings,
+        gate,
     };
     answer_and_flush(&batch, &mut solver, out, watcher)?;
     Ok(())

@@ -1,14 +1,14 @@
 //! How the questions of a batch are solved.
-ghost use Rattle.std.specs.Prelude.{◌≡◌, ◌+◌, ◌<◌, true, length, slice_index_or, is_some, IfErr, IfOk, IfSome, OnOk};
+ghost use Rattle.std.specs.Prelude.{◌≡◌, true, is_some, IfErr, IfOk, IfSome, OnOk};
 ghost use Rattle.std.specs.Borrow.{sem};
 ghost use Rattle.road_graph.specs.GraphData.{IsGraph};
-ghost use Rattle.road_files.specs.Asked.{AreQuestionsOf, Question, asked_of};
-ghost use Rattle.batch_run.specs.Batches.{IsReadyAt, StopsBatch};
+ghost use Rattle.road_files.specs.Asked.{AreQuestionsOf};
+ghost use Rattle.batch_run.specs.Batches.{ReportedAccounts, StopsBatch, asked_in};
 ghost use Rattle.batch_run.specs.Lending.{EndsBatch};
-ghost use Rattle.batch_run.specs.Reports.{ReportedAllOrPrefix, accounts_due};
+ghost use Rattle.question_solvers.specs.Questions.{HasPlace};
 ghost use Rattle.question_solvers.specs.Solved.{IsSolvedFor};
 ghost use Rattle.batch_run.specs.Factored.{IsFactoringOf, WasTried, is_by_factors};
-ghost use Rattle.batch_run.specs.Solvers.{IsSameSolver, graph_of, is_without_diffusions};
+ghost use Rattle.batch_run.specs.Solvers.{IsReady, IsSameSolver, graph_of, is_without_diffusions};
 
 mod diffusion;
 mod group;
@@ -91,13 +91,13 @@ pub(crate) fn start<A: PathAlgebra, R, T>(
 ) -> Result<(), Memory>
     ensures same { IsSameSolver solver.old solver.new }
     ensures kind { is_by_factors solver.new ≡ is_by_factors solver.old }
-    ensures ready { OnOk result (IsReadyAt A.meaning batch.now 0 solver.new) }
-    ensures tried { OnOk result (WasTried (A.meaning batch.now.algebra)
-        (A.arc_cost batch.now.algebra) solver.new) }
+    ensures ready { OnOk result (IsReady A.meaning batch.now 0 solver.new) }
+    ensures tried { OnOk result (WasTried (A.meaning batch.now.task.algebra)
+        (A.arc_cost batch.now.task.algebra) solver.new) }
 {
     match solver {
-        Solver::Plain(solver) => start_plain(&batch.task(), solver),
-        Solver::Factors(solver) => start_factors(&batch.task(), solver),
+        Solver::Plain(solver) => start_plain(&batch.task, solver),
+        Solver::Factors(solver) => start_factors(&batch.task, solver),
         Solver::Workers(solver) => start_workers(batch, solver),
     }
 }
@@ -109,28 +109,26 @@ pub(crate) fn solve_next<'s, A: PathAlgebra, R: Threads + Wait + Sync, T: Gate, 
     i: usize,
     watcher: &mut O,
 ) -> Result<&'s Solved<A::Value>, GroupFault>
-    requires place { i < length (asked_of batch.now.questions.now).questions }
-    requires within { AreQuestionsOf (graph_of solver.old).vertices batch.now.questions.now }
-    requires ready { IsReadyAt A.meaning batch.now i solver.old }
+    requires place { HasPlace batch.now.task.questions.now i }
+    requires within { AreQuestionsOf (graph_of solver.old).vertices batch.now.task.questions.now }
+    requires ready { IsReady A.meaning batch.now i solver.old }
     ensures* after { sem 𝓛 (EndsBatch A.row A.Value.row A.PathAlgebra A.meaning batch.now i
         solver.entry result) }
-    ensures solved { IfOk result (λ s. IsSolvedFor (A.meaning batch.now.algebra)
-        (graph_of solver.old) (asked_of batch.now.questions.now) i s.now) }
+    ensures solved { IfOk result (λ s. IsSolvedFor (A.meaning batch.now.task.algebra)
+        (graph_of solver.old) (asked_in batch.now) i s.now) }
     ensures undiffused { is_without_diffusions solver.old ≡ true → IfErr result (λ f.
         f ≡ GroupFault.Memory) }
     ensures stops { IfErr result (StopsBatch A.meaning T.may_answer batch.now (graph_of
         solver.old)) }
-    ensures reported { (default : Question) → ReportedAllOrPrefix (A.meaning batch.now.algebra)
-        batch.now.run.now.settings.now (graph_of solver.old) O.may_become (accounts_due (is_without_diffusions
-        solver.old) (i + 1) (slice_index_or (asked_of batch.now.questions.now).questions i default))
-        watcher.old watcher.new result }
+    ensures reported { ReportedAccounts A.meaning batch.now (graph_of solver.old)
+        (is_without_diffusions solver.old) i O.may_become watcher.old watcher.new result }
 {
     match solver {
-        Solver::Plain(solver) => match solve_next_plainly(solver, &batch.task(), i) {
+        Solver::Plain(solver) => match solve_next_plainly(solver, &batch.task, i) {
             Ok(solved) => Ok(solved),
             Err(_) => Err(GroupFault::Memory),
         },
-        Solver::Factors(solver) => match solve_next_by_factors(solver, &batch.task(), i) {
+        Solver::Factors(solver) => match solve_next_by_factors(solver, &batch.task, i) {
             Ok(solved) => Ok(solved),
             Err(_) => Err(GroupFault::Memory),
         },

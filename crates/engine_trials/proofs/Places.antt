@@ -3,11 +3,10 @@ use Rattle.std.proofs.Common.{◌≡◌, ℕ, zero, suc, List, [], ◌∷◌, �
 use Rattle.path_algebra.specs.Algebra.{Algebra}
 use Rattle.scholten_core.specs.declared.item.Item.{Item}
 use Rattle.shard_part.specs.PartState.{PartData}
-use Rattle.shard_store.specs.Setup.{SetupData}
+use Rattle.engine_trials.proofs.Words.{SetupData, opened_part, opened_parts}
 use Rattle.shard_part.specs.Handling.{HandledAll}
 use Rattle.shard_part.specs.Weights.{All}
 use Rattle.shard_part.specs.Part.{HandledMany}
-use Rattle.shard_part.specs.Opening.{opened_part, opened_parts}
 use Rattle.post_floor.specs.Data.{FloorData, SeatData, IsAt, seat_of}
 use Rattle.post_floor.proofs.Opened.{opened_shows}
 

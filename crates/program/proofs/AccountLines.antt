@@ -1,9 +1,7 @@
 -- The line of a diffusion, written in two parts.
 use Rattle.std.specs.Prelude.{if◌then◌else◌}
 use Rattle.std.proofs.Common.{◌≡◌, ℕ, List, [], ◌∷◌, ◌++◌, true, false, Result, ap, subst, ◌∙◌, decimal, codes, arith}
-use Rattle.std.proofs.lemmas.Grind.{common_steps}
-use Rattle.text_lines.specs.Texts.{spelled}
-use Rattle.text_lines.specs.Streams.{Output}
+use Rattle.program.proofs.Words.{common_steps, spelled, Output}
 use Rattle.text_lines.specs.Written.{WrotePrefix, FailedAfterPrefix, WritesText}
 use Rattle.text_lines.proofs.WriteLaws.{wrote_then, fell_first}
 use Rattle.shard_store.specs.declared.tally.Tally.{Tally}

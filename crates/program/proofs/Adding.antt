@@ -1,10 +1,7 @@
 -- Texts that are added where a watcher writes, one after the other.
 use Rattle.std.specs.Prelude.{◌≡◌, ◌⊎◌, ℕ, ◌<◌, List, [], ◌++◌, Bool, true, false, Option, Some, None, Result, Ok, Err}
-use Rattle.std.specs.Option.{option_map}
-use Rattle.std.proofs.Common.{inl, inr, refl, sym, subst, ◌∙◌, arith}
+use Rattle.program.proofs.Words.{option_map, inl, inr, refl, sym, subst, ◌∙◌, arith, Output, RunFault}
 use Rattle.std.proofs.KnownBytes.{Appends-nil, Appends-trans, Appends-kept}
-use Rattle.text_lines.specs.Streams.{Output}
-use Rattle.batch_inputs.specs.declared.faults.RunFault.{RunFault}
 use Rattle.command_files.specs.Added.{IsAdded}
 use Rattle.program.specs.Watching.{Account, AreKept, AreLost, EndsAccounts, HasAccounts}
 

@@ -1,21 +1,13 @@
 -- How a command ends, where its input is seen otherwise.
 use Rattle.std.specs.Prelude.{◌↔◌, ℕ, Bool, Option, Some, None, IsSome, Result, Ok, Err}
-use Rattle.std.specs.Option.{option_map}
-use Rattle.std.proofs.Common.{List, ap, true, false, inl, inr}
-use Rattle.road_graph.specs.GraphData.{GraphData}
-use Rattle.road_files.specs.Asked.{Asked}
-use Rattle.path_algebra.specs.declared.choice.AlgebraChoice.{AlgebraChoice}
-use Rattle.batch_inputs.specs.declared.faults.File.{File}
-use Rattle.batch_inputs.specs.declared.faults.RunFault.{RunFault}
-use Rattle.batch_settings.specs.declared.settings.Settings.{Settings}
+use Rattle.program.proofs.Words.{option_map, List, ap, true, false, inl, inr, GraphData, Asked, AlgebraChoice, File, RunFault, Settings, IsAddedIf}
 use Rattle.batch_inputs.specs.Orders.{HasReadOrdered}
 use Rattle.text_lines.specs.Streams.{Input, Output}
 use Rattle.command_args.specs.declared.parsed.WatchOptions.{WatchOptions}
 use Rattle.command_files.specs.Moments.{Moment}
-use Rattle.command_files.specs.Opening.{Tells, Tries}
+use Rattle.command_files.specs.declared.files.FileSystem.{Ghosts}
 use Rattle.program.specs.Commands.{AnswersWatched}
 use Rattle.program.specs.Runs.{given_of}
-use Rattle.program.specs.Watching.{IsAddedIf}
 
 -- what is made of something is there exactly if that is
 pub wanted_made : {S T : Type 0} (f : S → T) (made : Option S) (W : Type 0) → IsSome made ↔ W → IsSome (option_map f made) ↔ W
@@ -30,10 +22,10 @@ shown_as shown true old new text h = h
 shown_as shown false old new text h = ap shown h
 
 -- another promise of how the input was read
-module _ {S P W E : Type 0} (creates : Tries P) (tells : Tells P) (others : List (List ℕ)) (watching : WatchOptions) (chosen : AlgebraChoice) (settings : Settings) (is_read : GraphData → Asked → Type 0) (is_own : File → Type 0)
+module _ {P F I N W E : Type 0} (G : Ghosts P F I N) (others : List (List ℕ)) (watching : WatchOptions) (chosen : AlgebraChoice) (settings : Settings) (is_read : GraphData → Asked → Type 0) (is_own : File → Type 0)
     (has_read has_read' : Result (Unit {0}) RunFault → Type 0) (old new : Moment P W E) (result : ℕ) where
-  pub watched_as : AnswersWatched S creates tells others watching (given_of chosen settings is_read is_own has_read) old new result →
-      ((o : Result (Unit {0}) RunFault) → has_read o → has_read' o) → AnswersWatched S creates tells others watching (given_of chosen settings is_read is_own has_read') old new result
+  pub watched_as : AnswersWatched G others watching (given_of chosen settings is_read is_own has_read) old new result →
+      ((o : Result (Unit {0}) RunFault) → has_read o → has_read' o) → AnswersWatched G others watching (given_of chosen settings is_read is_own has_read') old new result
   watched_as it read = record {
     accounts = it.accounts;
     accounts_after = it.accounts_after;

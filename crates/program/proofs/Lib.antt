@@ -1,3 +1,4 @@
+mod Words
 mod Ungated
 mod Unstalled
 mod GivesUp

@@ -1,20 +1,11 @@
 -- What a watcher leaves to which all reports of a batch were made.
 use Rattle.std.specs.Prelude.{◌≡◌, ℕ, List, [], ◌∷◌, ◌++◌, Bool, true, false, Result}
-use Rattle.std.proofs.Common.{refl, sym, subst, ◌∙◌}
-use Rattle.text_lines.specs.Streams.{Output}
-use Rattle.road_graph.specs.GraphData.{GraphData}
-use Rattle.road_files.specs.Asked.{Asked}
-use Rattle.batch_inputs.specs.declared.faults.RunFault.{RunFault}
-use Rattle.batch_settings.specs.declared.settings.Settings.{Settings}
+use Rattle.program.proofs.Words.{refl, sym, subst, ◌∙◌, Output, GraphData, Asked, RunFault, Settings, AlgebraChoice, Under, accounts_text, HasAccounts, IsAddedIf, Notes}
 use Rattle.batch_run.specs.declared.watcher.Progress.{Progress}
 use Rattle.batch_run.specs.Reports.{AreReports, FollowsReports, Watched}
-use Rattle.path_algebra.specs.declared.choice.AlgebraChoice.{AlgebraChoice}
-use Rattle.path_algebra.specs.Choices.{Under}
 use Rattle.path_algebra.proofs.Chosen.{under_some}
 use Rattle.program.specs.declared.watch.watcher.CommandWatcher.{CommandWatcher}
-use Rattle.program.specs.Accounts.{accounts_text}
 use Rattle.program.specs.Progress.{all_after, left_after, progress_text, shown_at}
-use Rattle.program.specs.Watching.{HasAccounts, IsAddedIf, Notes}
 use Rattle.program.proofs.Adding.{added_none, added_then, has_none, has_then}
 
 -- some reports were made to a watcher

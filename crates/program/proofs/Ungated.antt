@@ -1,17 +1,8 @@
 -- A gate that is always open stops nothing.
 use Rattle.std.proofs.Common.{◌≡◌, ◌≢◌, ℕ, Result, Ok, Err, true, false}
-use Rattle.std.specs.Prelude.{IfErr}
-use Rattle.road_graph.specs.GraphData.{GraphData}
-use Rattle.road_files.specs.Asked.{Asked}
-use Rattle.path_algebra.specs.declared.choice.AlgebraChoice.{AlgebraChoice}
-use Rattle.path_algebra.specs.Choices.{Under}
-use Rattle.path_algebra.proofs.Chosen.{under_any}
-use Rattle.batch_inputs.specs.declared.faults.File.{File}
-use Rattle.batch_inputs.specs.declared.faults.RunFault.{RunFault}
-use Rattle.batch_settings.specs.declared.settings.Settings.{Settings}
+use Rattle.program.proofs.Words.{IfErr, GraphData, Asked, AlgebraChoice, Under, under_any, File, RunFault, Settings, gate_is_open}
 use Rattle.batch_run.specs.Runs.{Output, Ran}
 use Rattle.batch_run.specs.Stopping.{Closes}
-use Rattle.program.specs.Runs.{gate_is_open}
 
 -- 41 is reported only of a gate that answered false, so never of this one
 never_gated : (P : Type 0) (workers turns : ℕ) (r : Result (Unit {0}) RunFault) → IfErr r (λ f. f.number ≡ 41 → P × Closes gate_is_open workers turns) → IfErr r (λ f. f.number ≢ 41)

@@ -1,17 +1,10 @@
 -- With one shard, best first, a limit of turns that is enough for every graph stops nothing.
 use Rattle.std.proofs.Common.{◌≡◌, ◌≢◌, ◌≤◌, ℕ, Bool, Option, Result, true, sym, subst, inl, inr, arith}
-use Rattle.std.specs.Prelude.{IfErr}
+use Rattle.program.proofs.Words.{IfErr, Asked, AlgebraChoice, Under, under_any, File, RunFault, Settings}
 use Rattle.std.proofs.lemmas.Bool.{cases_lt}
 use Rattle.road_graph.specs.GraphData.{GraphData, IsGraph}
-use Rattle.road_files.specs.Asked.{Asked}
 use Rattle.path_algebra.specs.Algebra.{Algebra}
-use Rattle.path_algebra.specs.declared.choice.AlgebraChoice.{AlgebraChoice}
-use Rattle.path_algebra.specs.Choices.{Under}
 use Rattle.path_algebra.specs.declared.counted_sums.Cost.{Cost}
-use Rattle.path_algebra.proofs.Chosen.{under_any}
-use Rattle.batch_inputs.specs.declared.faults.File.{File}
-use Rattle.batch_inputs.specs.declared.faults.RunFault.{RunFault}
-use Rattle.batch_settings.specs.declared.settings.Settings.{Settings}
 use Rattle.batch_run.specs.Runs.{Output, Ran}
 use Rattle.batch_run.specs.Stopping.{IsEnoughFor}
 use Rattle.batch_run.specs.Unsuited.{IsRefusedUnsuited}

@@ -10,20 +10,20 @@ use Rattle.fault_reports.specs.declared.rows.FaultRow.{FaultRow}
 use Rattle.fault_reports.specs.Reports.{EndsAs, IsUsage, Reaches, ReportsFault, run_fault}
 use Rattle.fault_reports.specs.Explained.{Explains, IsFaultTable}
 use Rattle.program.specs.Commands.{DoesBundle, DoesCheck, DoesServe, DoesSolve, IsRefused}
+use Rattle.command_files.specs.declared.files.FileSystem.{Ghosts}
 use Rattle.command_files.specs.declared.refusal.Refusal.{Refusal}
 use Rattle.command_files.specs.declared.refusal.Refusal.TheVariants.{Fault, NoText}
 use Rattle.command_files.specs.Moments.{Moment}
 use Rattle.program.specs.Ordering.{DoesOrder}
-use Rattle.command_files.specs.Opening.{Tells, Tries}
 
--- a subcommand over files of this type, a standard input of that, and new files of a third
-abbrev pub DoesSubcommand : (F I S : Type 0) → {P W E : Type 0} → Tries P → Tries P → Tells P → Subcommand → Moment P W E → Moment P W E → ℕ → Type 0
-DoesSubcommand F I S opens creates tells (Solve args) old new result = DoesSolve F I S opens creates tells args old new result
-DoesSubcommand F I S opens creates tells (Bundle args) old new result = DoesBundle F I S opens creates tells args old new result
-DoesSubcommand F I S opens creates tells (Serve args) old new result = DoesServe F I opens args old new result
-DoesSubcommand F I S opens creates tells (Check args) old new result = DoesCheck F I opens args old new result
-DoesSubcommand F I S opens creates tells (Order args) old new result = DoesOrder F I opens args old new result
-DoesSubcommand F I S opens creates tells (Faults numbers) old new result =
+-- a subcommand over files that are opened and created so
+abbrev pub DoesSubcommand : {P F I N W E : Type 0} → Ghosts P F I N → Subcommand → Moment P W E → Moment P W E → ℕ → Type 0
+DoesSubcommand G (Solve args) old new result = DoesSolve G args old new result
+DoesSubcommand G (Bundle args) old new result = DoesBundle G args old new result
+DoesSubcommand G (Serve args) old new result = DoesServe G args old new result
+DoesSubcommand G (Check args) old new result = DoesCheck G args old new result
+DoesSubcommand G (Order args) old new result = DoesOrder G args old new result
+DoesSubcommand G (Faults numbers) old new result =
     (new.files ≡ old.files) × ((table : List FaultRow) × IsFaultTable table × Explains table numbers.items old.out new.out old.errors new.errors result)
 
 -- some text reached the output, with status 0; or it could not be written, which is reported as
@@ -49,9 +49,9 @@ pub record IsSaid {P W E : Type 0} (kind : ErrorKind) (old new : Moment P W E) (
 
 -- the subcommand that the words ask for was done; or they ask for none, or memory was refused, and
 -- that was said
-abbrev pub DoesCommandLine : (F I S : Type 0) → {P W E : Type 0} → Tries P → Tries P → Tells P → List (List ℕ) → Moment P W E → Moment P W E → ℕ → Type 0
-DoesCommandLine F I S opens creates tells words old new result =
-    ((subcommand : Subcommand) × AskFor words subcommand × DoesSubcommand F I S opens creates tells subcommand old new result)
+abbrev pub DoesCommandLine : {P F I N W E : Type 0} → Ghosts P F I N → List (List ℕ) → Moment P W E → Moment P W E → ℕ → Type 0
+DoesCommandLine G words old new result =
+    ((subcommand : Subcommand) × AskFor words subcommand × DoesSubcommand G subcommand old new result)
     ⊎ ((kind : ErrorKind) × AskForNone words kind × IsSaid kind old new result)
 
 -- the system gives no words: one of them is no text, or memory was refused
@@ -59,7 +59,7 @@ abbrev pub AreNoWords : Refusal → Type 0
 AreNoWords refusal = (refusal ≡ NoText) ⊎ (refusal ≡ Fault (run_fault 3))
 
 -- what some words ask for was done, those that the system gave; or it gave none, and that was said
-abbrev pub RunsWords : (F I S : Type 0) → {P W E : Type 0} → Tries P → Tries P → Tells P → Moment P W E → Moment P W E → ℕ → Type 0
-RunsWords F I S opens creates tells old new result =
-    ((words : List (List ℕ)) × DoesCommandLine F I S opens creates tells words old new result)
+abbrev pub RunsWords : {P F I N W E : Type 0} → Ghosts P F I N → Moment P W E → Moment P W E → ℕ → Type 0
+RunsWords G old new result =
+    ((words : List (List ℕ)) × DoesCommandLine G words old new result)
     ⊎ IsRefused (λ files refusal. (files ≡ old.files) × AreNoWords refusal) old new result

@@ -15,11 +15,12 @@ use Rattle.batch_inputs.specs.declared.faults.File.TheVariants.{Graph}
 use Rattle.batch_inputs.specs.declared.faults.RunFault.{RunFault}
 use Rattle.command_args.specs.declared.parsed.OrderArgs.{OrderArgs}
 use Rattle.fault_reports.specs.Reports.{EndsAs, Reaches, run_fault}
+use Rattle.command_files.specs.declared.files.FileSystem.{Ghosts}
 use Rattle.command_files.specs.declared.opened_input.OpenedInput.{OpenedInput}
 use Rattle.command_files.specs.declared.refusal.Refusal.TheVariants.{Fault}
 use Rattle.program.specs.Commands.{IsRefused}
 use Rattle.command_files.specs.Moments.{Moment}
-use Rattle.command_files.specs.Opening.{AreOpened, IsMissing, Tries, inputs_ordered}
+use Rattle.command_files.specs.Opening.{AreOpened, IsMissing, inputs_ordered}
 
 -- by these counts of its elimination the graph has too many links or triangles, or took too long
 abbrev pub IsTooDenseFor : GraphData → Counts → Type 0
@@ -48,16 +49,16 @@ RanOrder roads roads_after out out_after outcome =
     (graph : Result GraphData ReadFault) × ReadsText roads roads_after gr_rules (λ g. g) 10 19 graph × OrdersRead graph out out_after outcome
 
 -- the graph was opened, and then it was ordered
-pub record OrdersOpened (F I : Type 0) {P W E : Type 0} (opens : Tries P) (args : OrderArgs) (old new : Moment P W E) (result : ℕ) : Type 0 where
+pub record OrdersOpened {P F I N W E : Type 0} (G : Ghosts P F I N) (args : OrderArgs) (old new : Moment P W E) (result : ℕ) : Type 0 where
   pub roads : Input (OpenedInput F I)
   pub roads_after : Input (OpenedInput F I)
-  pub input : AreOpened opens (inputs_ordered args) (roads ∷ []) old.files new.files
+  pub input : AreOpened G.opens (inputs_ordered args) (roads ∷ []) old.files new.files
   pub outcome : Result (Unit {0}) RunFault
   pub ran : RanOrder roads roads_after old.out new.out outcome
   pub ends : EndsAs (λ _. 0) old.errors new.errors outcome result
 
 -- `order` with these arguments
-abbrev pub DoesOrder : (F I : Type 0) → {P W E : Type 0} → Tries P → OrderArgs → Moment P W E → Moment P W E → ℕ → Type 0
-DoesOrder F I opens args old new result =
-    IsRefused (λ files refusal. (f : RunFault) × (refusal ≡ Fault f) × IsMissing opens (inputs_ordered args) old.files files f) old new result
-    ⊎ OrdersOpened F I opens args old new result
+abbrev pub DoesOrder : {P F I N W E : Type 0} → Ghosts P F I N → OrderArgs → Moment P W E → Moment P W E → ℕ → Type 0
+DoesOrder G args old new result =
+    IsRefused (λ files refusal. (f : RunFault) × (refusal ≡ Fault f) × IsMissing G.opens (inputs_ordered args) old.files files f) old new result
+    ⊎ OrdersOpened G args old new result

@@ -86,5 +86,5 @@ pub record EndsWatched {W A E : Type 0} (given : Given) (progress : Bool) (out o
   pub shown : IsAddedIf (λ e. e) progress errors watched (progress_text 0 patience reports)
   pub ends : EndsAs (λ _. 0) watched errors_after (outcome_of outcome kept) result
   -- with one shard, best first, and a limit of turns that is enough for every graph, as the usual
-  -- one is, the exit status is not that of a limit
+  -- one is, the exit status is not 6
   pub finishes : given.settings.shards ≡ 1 → given.settings.best_first ≡ true → 17179869376 ≤ given.settings.turns → result ≢ 6

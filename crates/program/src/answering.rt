@@ -20,7 +20,7 @@ use batch_run::{
     usual_turns_are_enough,
 };
 use command_args::WatchOptions;
-use command_files::{FileSystem, Host, create_accounts, refuse, show_times};
+use command_files::{FileSystem, Host, Streams, create_accounts, refuse, show_times};
 use fault_reports::end_with;
 use path_algebra::with_algebra;
 use service::run_service;
@@ -114,19 +114,19 @@ fn outcome_of(batch: Result<(), RunFault>, kept: Result<(), RunFault>) -> Result
 /// Answers the questions of an input over its graph. It writes accounts and shows progress, each if
 /// it is wanted, lets the files take note of its phases, and gives the exit status. A fault is
 /// reported last, in one line on the error output.
-fn run_watched<R: Threads + Wait + Sync, I: BatchInput, P: FileSystem, W: RoadWrite, E: RoadWrite>(
+fn run_watched<R: Threads + Wait + Sync, I: BatchInput, S: Streams>(
     method: &Method<'_, R>,
     input: &mut I,
-    host: &mut Host<P, W, E>,
-    accounts: &mut Option<P::NewFile>,
+    host: &mut Host<S>,
+    accounts: &mut Option<<S::Files as FileSystem>::NewFile>,
     progress: bool,
 ) -> u8
     ensures files { host.new.files ≡ host.old.files }
-    ensures ends { EndsWatched (given_of method.now.chosen method.now.settings.now
-        (I.is_read input.old) I.is_own (I.has_read input.old input.new)) progress
-        (W.seen host.old.out) (W.seen host.new.out) (option_map P.NewFile.seen accounts.old)
-        (option_map P.NewFile.seen accounts.new) (E.seen host.old.errors) (E.seen host.new.errors)
-        result }
+    ensures ends { let seen = S.Files.NewFile.seen in EndsWatched (given_of method.now.chosen
+        method.now.settings.now (I.is_read input.old) I.is_own (I.has_read input.old input.new))
+        progress (S.Out.seen host.old.out) (S.Out.seen host.new.out) (option_map seen accounts.old)
+        (option_map seen accounts.new) (S.Errors.seen host.old.errors)
+        (S.Errors.seen host.new.errors) result }
 {
     let mut watch = CommandWatcher {
         name: method.chosen.name(),
@@ -147,17 +147,17 @@ fn run_watched<R: Threads + Wait + Sync, I: BatchInput, P: FileSystem, W: RoadWr
 
 /// Answers the questions of an input, as `run_watched` does, after the file of accounts, which may
 /// be none of these others, was created. At last it shows times, if they are wanted.
-fn answer_input<R: Threads + Wait + Sync, I: BatchInput, P: FileSystem, W: RoadWrite, E: RoadWrite>(
+fn answer_input<R: Threads + Wait + Sync, I: BatchInput, S: Streams>(
     method: &Method<'_, R>,
     input: &mut I,
-    host: &mut Host<P, W, E>,
+    host: &mut Host<S>,
     options: &WatchOptions<'_>,
     others: &[&str],
 ) -> u8
-    ensures { Answers P.NewFile P.creates P.tells_same (map (λ name. name.now) others.now)
-        options.now (given_of method.now.chosen method.now.settings.now (I.is_read input.old)
-        I.is_own (I.has_read input.old input.new)) (moment W.seen E.seen host.old)
-        (moment W.seen E.seen host.new) result }
+    ensures { Answers S.Files.FileSystem (map (λ name. name.now) others.now) options.now (given_of
+        method.now.chosen method.now.settings.now (I.is_read input.old) I.is_own (I.has_read
+        input.old input.new)) (moment S.Out.seen S.Errors.seen host.old) (moment S.Out.seen
+        S.Errors.seen host.new) result }
 {
     let mut accounts = match create_accounts(&mut host.files, options, others) {
         Ok(accounts) => accounts,
@@ -170,27 +170,20 @@ fn answer_input<R: Threads + Wait + Sync, I: BatchInput, P: FileSystem, W: RoadW
 
 /// Answers the questions of an input, as `answer_input` does. The graph is factored by the order of
 /// a further input, if there is one.
-pub(crate) fn answer<
-    R: Threads + Wait + Sync,
-    I: BatchInput,
-    O: RoadRead,
-    P: FileSystem,
-    W: RoadWrite,
-    E: RoadWrite,
->(
+pub(crate) fn answer<R: Threads + Wait + Sync, I: BatchInput, O: RoadRead, S: Streams>(
     method: &Method<'_, R>,
     input: &mut I,
     order: &mut Option<O>,
-    host: &mut Host<P, W, E>,
+    host: &mut Host<S>,
     options: &WatchOptions<'_>,
     others: &[&str],
 ) -> u8
-    ensures { (after : I) × (order_after : Option O) × Answers P.NewFile P.creates P.tells_same
-        (map (λ name. name.now) others.now) options.now (given_of method.now.chosen
-        method.now.settings.now (I.is_read input.old) (IsOrderedFile I.is_own) (HasReadOrdered
-        (I.is_read input.old) I.is_own IsRunFile (I.has_read input.old after) (option_map O.seen
-        order.old) (option_map O.seen order_after))) (moment W.seen E.seen host.old) (moment W.seen
-        E.seen host.new) result }
+    ensures { (after : I) × (order_after : Option O) × Answers S.Files.FileSystem (map (λ name.
+        name.now) others.now) options.now (given_of method.now.chosen method.now.settings.now
+        (I.is_read input.old) (IsOrderedFile I.is_own) (HasReadOrdered (I.is_read input.old)
+        I.is_own IsRunFile (I.has_read input.old after) (option_map O.seen order.old) (option_map
+        O.seen order_after))) (moment S.Out.seen S.Errors.seen host.old) (moment S.Out.seen
+        S.Errors.seen host.new) result }
 {
     let mut ordered = OrderedInput { input, order };
     answer_input(method, &mut ordered, host, options, others)

@@ -10,7 +10,7 @@ use batch_run::fault_of_run;
 use clap::Error;
 use clap::error::ErrorKind;
 use command_args::{Subcommand, parse_args};
-use command_files::{FileSystem, Host, HostFiles, Refusal, Stopwatch, TimedWriter, refuse};
+use command_files::{Host, HostFiles, Refusal, Stopwatch, Streams, TimedWriter, refuse};
 use fault_reports::{all_faults, end_with, explain, report_fault, report_usage, write_and_flush};
 use std::alloc::Global;
 use std::io::Write;
@@ -19,13 +19,13 @@ use std::sync::Wait;
 use std::thread::Threads;
 use std::time::Clock;
 use std::{env, io};
-use text_lines::{Buffered, MEMORY, Plain, RoadWrite};
+use text_lines::{Buffered, MEMORY, Plain};
 
 /// Writes what the command line's parser says: help on the output, a usage fault on the error
 /// output.
-fn say<P, W: RoadWrite, E: RoadWrite>(alloc: Global, host: &mut Host<P, W, E>, error: &Error) -> u8
-    ensures { IsSaid (kind_of error.now) (moment W.seen E.seen host.old) (moment W.seen E.seen
-        host.new) result }
+fn say<S: Streams>(alloc: Global, host: &mut Host<S>, error: &Error) -> u8
+    ensures { IsSaid (kind_of error.now) (moment S.Out.seen S.Errors.seen host.old) (moment
+        S.Out.seen S.Errors.seen host.new) result }
 {
     if error.kind() == ErrorKind::OutOfMemory {
         return report_fault(&mut host.errors, fault_of_run(MEMORY));
@@ -43,15 +43,13 @@ fn say<P, W: RoadWrite, E: RoadWrite>(alloc: Global, host: &mut Host<P, W, E>, e
 
 /// Does what the words of a command line ask for, the program's own first, and gives the exit
 /// status.
-pub fn run_command_line<
-    R: AllocGlobal + Threads + Wait + Sync,
-    P: FileSystem,
-    W: RoadWrite,
-    E: RoadWrite,
->(rt: &R, host: &mut Host<P, W, E>, words: &[String]) -> u8
-    ensures { DoesCommandLine P.File P.Stdin P.NewFile P.opens P.creates P.tells_same (map (λ word.
-        string_bytes word) words.now) (moment W.seen E.seen host.old) (moment W.seen E.seen
-        host.new) result }
+pub fn run_command_line<R: AllocGlobal + Threads + Wait + Sync, S: Streams>(
+    rt: &R,
+    host: &mut Host<S>,
+    words: &[String],
+) -> u8
+    ensures { DoesCommandLine S.Files.FileSystem (map (λ word. string_bytes word) words.now) (moment
+        S.Out.seen S.Errors.seen host.old) (moment S.Out.seen S.Errors.seen host.new) result }
 {
     match parse_args(rt.alloc(), words) {
         Ok(Subcommand::Solve(args)) => solve(rt, host, &args),
@@ -91,14 +89,12 @@ fn words_of<R: Env + AllocGlobal>(rt: &R) -> Result<Vec<String>, Refusal>
 }
 
 /// Does what the words that the system gives ask for, and gives the exit status.
-fn run_words<
-    R: Env + AllocGlobal + Threads + Wait + Sync,
-    P: FileSystem,
-    W: RoadWrite,
-    E: RoadWrite,
->(rt: &R, host: &mut Host<P, W, E>) -> u8
-    ensures { RunsWords P.File P.Stdin P.NewFile P.opens P.creates P.tells_same (moment W.seen
-        E.seen host.old) (moment W.seen E.seen host.new) result }
+fn run_words<R: Env + AllocGlobal + Threads + Wait + Sync, S: Streams>(
+    rt: &R,
+    host: &mut Host<S>,
+) -> u8
+    ensures { RunsWords S.Files.FileSystem (moment S.Out.seen S.Errors.seen host.old) (moment
+        S.Out.seen S.Errors.seen host.new) result }
 {
     match words_of(rt) {
         Ok(words) => run_command_line(rt, host, words.as_slice()),
@@ -123,6 +119,6 @@ where
         stopwatch: &stopwatch,
     };
     let out = TimedWriter::new(out, &stopwatch);
-    let mut host = Host { files, out, errors };
+    let mut host: Host<(_, _, _)> = Host { files, out, errors };
     run_words(rt, &mut host)
 }

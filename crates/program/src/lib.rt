@@ -16,7 +16,7 @@ pub use command_args::{
     parse_args,
 };
 pub use command_files::{
-    FileSystem, Host, HostFiles, OpenedInput, Phase, Refusal, Stopwatch, Times, choose,
+    FileSystem, Host, HostFiles, OpenedInput, Phase, Refusal, Stopwatch, Streams, Times, choose,
 };
 pub use command_line::{run, run_command_line};
 pub use commands::{bundle, check, order, serve, solve};

@@ -74,7 +74,7 @@ fn order_graph<S: Orders, W: RoadWrite>(
 }
 
 /// Reads a graph, orders its vertices by nested dissection, and writes their places.
-pub(crate) fn order_input<G: RoadRead, W: RoadWrite>(
+pub(crate) fn read_and_order<G: RoadRead, W: RoadWrite>(
     alloc: Global,
     graph: &mut G,
     out: &mut W,

@@ -1,8 +1,9 @@
 -- What a batch wrote, as an answer of a service; and what may be one.
 use Rattle.std.proofs.Common.{◌≡◌, ◌≢◌, ℕ, ◌+◌, inl, inr, Bool, true, List, [], ◌++◌, Result, refl, sym, append-nil, ◌*◌, ◌<◌, ◌≤◌, Err, subst}
-use Rattle.service.proofs.Words.{GraphData, WrotePrefix, FailedAfterPrefix, WritesText, Asked}
-use Rattle.service.proofs.Words.{Algebra, Settings, IsSameSolver, graph_of, is_without_diffusions}
-use Rattle.service.proofs.Words.{wrote_then, stopped_for}
+use Rattle.service.proofs.Words.{GraphData, Asked, Algebra, Settings, IsSameSolver, graph_of, is_without_diffusions, Output}
+use Rattle.text_lines.specs.Written.{WrotePrefix, FailedAfterPrefix, WritesText}
+use Rattle.text_lines.proofs.WriteLaws.{wrote_then}
+use Rattle.batch_run.proofs.Stopped.{stopped_for}
 use Rattle.batch_run.specs.declared.cause.Cause.{Cause}
 use Rattle.batch_run.specs.declared.cause.Cause.TheVariants.{Unsolved, Write}
 use Rattle.batch_run.specs.Stopping.{IsEnoughFor, Stops}
@@ -11,7 +12,6 @@ use Rattle.batch_run.specs.Causes.{MayStop, number_of, fault_of}
 use Rattle.path_algebra.specs.declared.algebra.PathAlgebra.{Ghosts}
 use Rattle.batch_run.specs.declared.solve.Solver.{Solver}
 use Rattle.batch_settings.specs.Choice.{without_diffusions}
-use Rattle.text_lines.specs.Streams.{Output}
 use Rattle.answer_text.specs.AnswerText.{answers_text}
 use Rattle.worker_fleet.specs.declared.group.GroupFault.TheVariants.{Memory, Stalled, Gated}
 use Rattle.batch_run.specs.Answered.{WroteAnswers, WroteAnswersPrefix, WroteWhole, begun_text}

@@ -1,9 +1,8 @@
 -- A service at the end of its text.
 use Rattle.std.proofs.Common.{◌≡◌, ℕ, ◌+◌, min, true, false, List, [], ◌∷◌, ◌++◌, length, map, None, Result, Ok, Err, refl, sym, ap, ◌∙◌, subst, append_assoc, append-nil, length-append, arith, OnOk, OnErr}
-use Rattle.service.proofs.Words.{strip_carriage_return, IsPresent, IsLine, lines, has_bytes}
-use Rattle.service.proofs.Words.{at_line, fault_at, WritesText, Asked, parser_state, RequestSoFar}
-use Rattle.service.proofs.Words.{lines_of_last, lines_of_none, Service}
-use Rattle.text_lines.specs.Streams.{Output}
+use Rattle.service.proofs.Words.{strip_carriage_return, IsPresent, IsLine, at_line, fault_at, WritesText, Asked, parser_state, RequestSoFar, Service, Output}
+use Rattle.text_lines.specs.Lines.{lines, has_bytes}
+use Rattle.text_lines.proofs.TextLaws.{lines_of_last, lines_of_none}
 use Rattle.road_files.specs.ServiceText.{Request, ServiceState, Gives, LinesMay, service_end}
 use Rattle.service.specs.Fed.{held_line, fault_text, WasFed, HasLines, HasRequests, LineEnded, LastFed, LastFedPart, Finished, FinishedPart, Replied, RepliedOrFell}
 use Rattle.service.proofs.FedLaws.{replied_none, replied_one, replied_then, fell_before}

@@ -1,9 +1,7 @@
 -- Replies that are written one after the other.
-use Rattle.std.proofs.Common.{◌≡◌, ℕ, ◌+◌, List, [], ◌∷◌, ◌++◌, Result, Ok, Err, refl, sym, ap, ◌∙◌, subst, append_assoc, append-nil}
-use Rattle.service.proofs.Words.{Appends, FailedAfterPrefix, WritesText, Asked, fell_first}
+use Rattle.service.proofs.Words.{◌≡◌, ℕ, ◌+◌, List, [], ◌∷◌, ◌++◌, Result, Ok, Err, refl, sym, ap, ◌∙◌, subst, append_assoc, append-nil, Appends, FailedAfterPrefix, WritesText, Asked, Output, Request}
+use Rattle.text_lines.proofs.WriteLaws.{fell_first}
 use Rattle.std.proofs.KnownBytes.{Appends-trans, Appends-nil}
-use Rattle.text_lines.specs.Streams.{Output}
-use Rattle.road_files.specs.ServiceText.{Request}
 use Rattle.service.specs.Fed.{IsReplyBy, AreRepliesBy, joined, Replied, FellIn, RepliedOrFell}
 
 pub joined-append : (xs ys : List (List ℕ)) → joined (xs ++ ys) ≡ joined xs ++ joined ys

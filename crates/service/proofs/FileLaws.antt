@@ -1,14 +1,16 @@
 -- Question files in a row are as many requests.
 use Rattle.std.proofs.Common.{◌≡◌, ℕ, ◌+◌, Bool, true, false, cond, not, nat_lt, ◌==◌, List, [], ◌∷◌, ◌++◌, length, map, take, drop, flat_map, refl, ap, ◌∙◌, sym, subst, append-nil, None, Some, Option, Result, Ok, Err, arith, codes, bytes_eq, slice_index, ne_eqb}
-use Rattle.service.proofs.Words.{AllZip, lines, fields, Rules, at_line, value_of_lines, text_read}
-use Rattle.service.proofs.Words.{unless, ◌>>=◌, Asked, Question, lines_none, lines_cut}
+use Rattle.service.proofs.Words.{lines, fields, unless, ◌>>=◌, Request, requests, requests_of, state_after_lines, ServiceState, Gives, begins_request, given, whole_or_on}
+use Rattle.std.specs.List.{AllZip}
+use Rattle.text_lines.specs.Rules.{Rules, at_line, value_of_lines, text_read}
+use Rattle.road_files.specs.Asked.{Asked, Question}
+use Rattle.text_lines.proofs.TextLaws.{lines_none, lines_cut}
 use Rattle.std.proofs.lemmas.Slice.Eq.{bytes_eq-Decides}
 use Rattle.text_lines.specs.declared.faults.ReadFault.{ReadFault}
 use Rattle.text_lines.specs.Words.{Word, word_of, word_at}
 use Rattle.road_files.specs.declared.questions.Kind.{Kind}
 use Rattle.road_files.specs.declared.questions.Kind.TheVariants.{Sources, Pairs, Multi}
 use Rattle.road_files.specs.QuestionFiles.{AskedSoFar, question_rules, question_end, question_line, question_line_of, question_problem, source_of_line, pair_of_line, sources_of_line, one_question, same_kind, begins_list, vertices_in}
-use Rattle.road_files.specs.ServiceText.{Request, requests, requests_of, state_after_lines, ServiceState, Gives, begins_request, given, whole_or_on}
 use Rattle.service.specs.Files.{IsFileOf}
 use Rattle.service.proofs.RequestLaws.{requests_go_on, line_closed}
 

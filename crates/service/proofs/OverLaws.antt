@@ -1,12 +1,6 @@
 -- What serving over a graph promises, by how it ends.
-use Rattle.std.proofs.Common.{◌≡◌, ◌≢◌, inl, inr, Bool, true, ℕ, ◌+◌, [], Result, Ok, Err, refl, ap, arith}
-use Rattle.service.proofs.Words.{IsAtEnd, GraphData, Algebra, RunFault, Settings, Stopped, RanOver}
-use Rattle.service.proofs.Words.{fault_of_stop}
-use Rattle.batch_inputs.specs.declared.faults.File.TheVariants.{Questions, NoFile}
-use Rattle.text_lines.specs.Streams.{Input, Output}
+use Rattle.service.proofs.Words.{◌≡◌, ◌≢◌, inl, inr, Bool, true, ℕ, ◌+◌, [], Result, Ok, Err, refl, ap, arith, IsAtEnd, GraphData, Algebra, RunFault, Settings, Stopped, RanOver, fault_of_stop, Questions, NoFile, Input, Output, Served, ServedPart, ServedSoFar, ServedUntilTooLong, MayAnswer}
 use Rattle.service.specs.declared.serving.Stopped.TheVariants.{Read, Write, TooLong}
-use Rattle.service.specs.Fed.{Served, ServedSoFar, ServedToLimit, ServedPart}
-use Rattle.service.specs.Answering.{MayAnswer}
 
 -- an outcome is no other
 other_number : (r : Result (Unit {0}) RunFault) (f h : RunFault) → f.number ≢ h.number → r ≡ Err f → r ≡ Err h → ⊥
@@ -51,7 +45,7 @@ module _ {V Q W : Type 0} (A : Algebra V) (how : Settings) (gate : ℕ → ℕ �
   pub stopped : (s : Stopped) (r : Result (Unit {0}) Stopped) → r ≡ Err s
       → (r ≡ Err Read → ServedSoFar (MayAnswer A how gate g) g.vertices input.left input_after.left out out_after × (input_after.failures ≡ input.failures + 1))
       → (r ≡ Err Write → ServedPart (MayAnswer A how gate g) g.vertices input.left out out_after)
-      → (r ≡ Err TooLong → ServedToLimit (MayAnswer A how gate g) g.vertices input.left input_after.left out out_after)
+      → (r ≡ Err TooLong → ServedUntilTooLong (MayAnswer A how gate g) g.vertices input.left input_after.left out out_after)
       → (r ≢ Err Write → out_after.held ≡ []) → (r ≢ Err Read → input_after.failures ≡ input.failures)
       → RanOver A how gate g input input_after out out_after (Err (fault_of_stop s))
   stopped Read r is read write long held sound = record {

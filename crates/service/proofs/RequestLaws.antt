@@ -1,7 +1,8 @@
 -- Requests of a text that grows.
 use Rattle.std.proofs.Common.{◌≡◌, ℕ, ◌+◌, Bool, true, false, List, [], ◌∷◌, ◌++◌, length, map, refl, ap, ◌∙◌, sym, subst, append_assoc, append-nil, None, Some, inl, inr, ◌⊎◌, arith, eqb-true}
-use Rattle.service.proofs.Words.{All, AllByRecursion, lines, fields, is_line_end, at_line}
-use Rattle.service.proofs.Words.{lines_first, lines_cut, strip_carriage_return}
+use Rattle.service.proofs.Words.{at_line, lines_first, lines_cut, strip_carriage_return}
+use Rattle.std.specs.List.{All, AllByRecursion}
+use Rattle.text_lines.specs.Lines.{lines, fields, is_line_end}
 use Rattle.std.proofs.lemmas.List.Elements.{All-append}
 use Rattle.text_lines.proofs.Splits.{All-one}
 use Rattle.service.specs.Replies.{IsNotOutOfMemory}

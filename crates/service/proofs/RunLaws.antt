@@ -1,6 +1,7 @@
 -- What a service promises of its inputs and its output, from what reading and serving promise.
 use Rattle.std.proofs.Common.{◌≡◌, ◌≢◌, ◌⊎◌, ◌↔◌, inl, inr, Bool, true, false, ℕ, ◌≤◌, Option, None, Some, Result, Ok, Err, refl, sym, ap, ◌∙◌, subst, arith}
-use Rattle.service.proofs.Words.{GraphData, Algebra, RunFault, Settings, IsOverFault, RanOver}
+use Rattle.service.proofs.Words.{GraphData, Algebra, RunFault, Settings}
+use Rattle.service.specs.Over.{IsOverFault, RanOver}
 use Rattle.graph_text.specs.GraphFiles.{gr_rules}
 use Rattle.batch_inputs.specs.declared.faults.File.{File}
 use Rattle.batch_inputs.specs.declared.faults.File.TheVariants.{Graph, Questions, Order, NoFile}

@@ -1,11 +1,8 @@
 -- A service that goes on through its input, and a watcher that is told of its reads.
-use Rattle.std.proofs.Common.{◌≡◌, ℕ, ◌+◌, true, List, [], ◌++◌, Option, None, Some, refl, sym, ap, ◌∙◌, subst, append_assoc, append-nil, inl, inr, arith, ◌∷◌, length, length-append}
-use Rattle.service.proofs.Words.{Consumes, IsAtEnd, Keeps, Appends, Asked, lines, parser_state}
-use Rattle.service.proofs.Words.{Service, lines_cut}
+use Rattle.service.proofs.Words.{◌≡◌, ℕ, ◌+◌, true, List, [], ◌++◌, Option, None, Some, refl, sym, ap, ◌∙◌, subst, append_assoc, append-nil, inl, inr, arith, ◌∷◌, length, length-append, Asked, lines, parser_state, Service, lines_cut, Output, Input, Request, Gives, LinesMay}
+use Rattle.std.specs.Io.KnownBytes.{Consumes, IsAtEnd, Keeps, Appends}
 use Rattle.std.proofs.KnownBytes.{Consumes-kept, Consumes-nil, Consumes-trans, Consumes-whole, Appends-nil}
-use Rattle.text_lines.specs.Streams.{Output, Input}
-use Rattle.road_files.specs.ServiceText.{Request, Gives, LinesMay}
-use Rattle.service.specs.Fed.{WasFed, IsUnfinished, HasRequests, MakesWhole, BeginsWith, Fed, FedPart, FedLong, Finished, FinishedPart, HasServed, Served, ServedSoFar, ServedToLimit, ServedPart, Replied, FellIn}
+use Rattle.service.specs.Fed.{WasFed, IsUnfinished, HasRequests, MakesWhole, BeginsWith, Fed, FedPart, FedLong, Finished, FinishedPart, HasServed, Served, ServedSoFar, ServedUntilTooLong, ServedPart, Replied, FellIn}
 use Rattle.service.proofs.FedLaws.{replied_then}
 use Rattle.service.proofs.ServiceLaws.{Done, Failed}
 use Rattle.service.specs.Reading.{ReadMoment, IsReadMoment, AreReadMoments, FollowsReads, ToldReads}
@@ -104,7 +101,7 @@ module _ (answers : Asked → List ℕ → Type 0) where
 
     -- a request is too long
     pub feed_long : (t : Service) (piece : List ℕ) → t.cutter.taker.questions.list.vertices ≡ n → Consumes mid now piece → FedLong answers s t piece was new →
-        ServedToLimit answers n left now first new
+        ServedUntilTooLong answers n left now first new
     feed_long t piece e here f =
         let (fed, rs, gone, taken, replied) = served in
         let (prefix, rest, more, is, some, further, full, after) = f fed rs taken in

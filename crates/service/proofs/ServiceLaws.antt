@@ -1,11 +1,8 @@
 -- A service that goes on through its text.
-use Rattle.std.proofs.Common.{◌≡◌, ℕ, ◌+◌, min, Bool, true, false, cond, not, drop, List, [], ◌∷◌, ◌++◌, length, take, map, None, Result, Ok, Err, refl, sym, ap, ◌∙◌, subst, append_assoc, append-nil, length-append, take-append-drop, length-drop, ◌<◌, inl, inr, arith}
-use Rattle.service.proofs.Words.{strip_carriage_return, IsPresent, IsLine, EndsLine, StaysInLine}
-use Rattle.service.proofs.Words.{lines, fields, at_line, Asked, parser_state, RequestSoFar}
-use Rattle.service.proofs.Words.{ended_of, ended_list, lines_first, lines_cut, Service}
+use Rattle.service.proofs.Words.{◌≡◌, ℕ, ◌+◌, min, Bool, true, false, cond, not, drop, List, [], ◌∷◌, ◌++◌, length, take, map, None, Result, Ok, Err, refl, sym, ap, ◌∙◌, subst, append_assoc, append-nil, length-append, take-append-drop, length-drop, ◌<◌, inl, inr, arith, strip_carriage_return, IsPresent, IsLine, EndsLine, StaysInLine, lines, fields, at_line, Asked, parser_state, RequestSoFar, lines_first, lines_cut, Service, Output}
+use Rattle.road_files.specs.RequestTakes.{ended_of, ended_list}
 use Rattle.std.proofs.lemmas.Bool.{not-false}
 use Rattle.std.proofs.lemmas.List.{append_cancel_left}
-use Rattle.text_lines.specs.Streams.{Output}
 use Rattle.road_files.specs.declared.request_parser.LineDone.{LineDone}
 use Rattle.road_files.specs.ServiceText.{Request, ServiceState, Gives, Step, LineMay, LinesMay}
 use Rattle.service.specs.Fed.{held_line, WasFed, IsUnfinished, goes_on, counts_anew, LinesGoOn, LineEnded, Fed, FedPart, FedLong, RepliedOrFell}

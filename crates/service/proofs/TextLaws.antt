@@ -1,10 +1,7 @@
 -- Each request is read of some lines in a row.
-use Rattle.std.proofs.Common.{◌≡◌, ℕ, ◌+◌, Bool, true, false, not, nat_lt, List, [], ◌∷◌, ◌++◌, length, map, refl, ap, ◌∙◌, sym, append_assoc, length-append, None, Some, Option, Result, Ok, Err, arith}
+use Rattle.service.proofs.Words.{◌≡◌, ℕ, ◌+◌, Bool, true, false, not, nat_lt, List, [], ◌∷◌, ◌++◌, length, map, refl, ap, ◌∙◌, sym, append_assoc, length-append, None, Some, Option, Result, Ok, Err, arith, AllByRecursion, lines, fields, Rules, at_line, fault_at, Asked, AskedSoFar, question_rules, question_end, Request, requests, requests_of, ServiceState, Gives, Passes, Step, service_line, begins_request, given, whole_or_on}
+use Rattle.text_lines.specs.Rules.{value_of_lines, state_after, unless, ◌>>=◌}
 use Rattle.std.specs.Bool.{⊤}
-use Rattle.service.proofs.Words.{AllByRecursion, lines, fields, Rules, at_line, fault_at}
-use Rattle.service.proofs.Words.{value_of_lines, state_after, unless, ◌>>=◌, Asked}
-use Rattle.road_files.specs.QuestionFiles.{AskedSoFar, question_rules, question_end}
-use Rattle.road_files.specs.ServiceText.{Request, requests, requests_of, ServiceState, Gives, Passes, Step, service_line, begins_request, given, whole_or_on}
 use Rattle.service.specs.RequestTexts.{IsTextIn}
 
 -- reading goes on after lines that break no rule

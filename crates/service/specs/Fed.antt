@@ -130,7 +130,7 @@ ServedSoFar answers n left now old new = (text : List ℕ) × (rs : List Request
 
 -- the bytes consumed have more than 2^32 in one request, or in one line: just the requests that the
 -- bytes before make whole were replied to
-pub record ServedToLimit {X : Type 0} (answers : Asked → List ℕ → Type 0) (n : ℕ) (left now : Option (List ℕ)) (old new : Output X) : Type 0 where
+pub record ServedUntilTooLong {X : Type 0} (answers : Asked → List ℕ → Type 0) (n : ℕ) (left now : Option (List ℕ)) (old new : Output X) : Type 0 where
   -- what was taken, and what was consumed beyond it
   pub text : List ℕ
   pub beyond : List ℕ

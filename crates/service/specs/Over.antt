@@ -10,7 +10,7 @@ use Rattle.batch_settings.specs.declared.settings.Settings.{Settings}
 use Rattle.text_lines.specs.Streams.{Input, Output}
 use Rattle.service.specs.declared.serving.Stopped.{Stopped}
 use Rattle.service.specs.declared.serving.Stopped.TheVariants.{Read, Write, TooLong}
-use Rattle.service.specs.Fed.{Served, ServedSoFar, ServedToLimit, ServedPart}
+use Rattle.service.specs.Fed.{Served, ServedPart, ServedSoFar, ServedUntilTooLong}
 use Rattle.service.specs.Answering.{MayAnswer}
 use Rattle.service.specs.Served.{IsStopOfInput}
 
@@ -38,7 +38,7 @@ pub record RanOver {V Q W : Type 0} (A : Algebra V) (how : Settings) (gate : ℕ
   -- at a failed read just the requests that the bytes consumed make whole were replied to
   pub stopped : IfErr outcome (λ f. f.file ≡ Questions → f.number ≡ 1 → ServedSoFar (MayAnswer A how gate g) g.vertices input.left input_after.left out out_after)
   -- at a request with more than 2^32 bytes, or such a line, just those before it
-  pub too_long : IfErr outcome (λ f. f.file ≡ Questions → f.number ≡ 2 → ServedToLimit (MayAnswer A how gate g) g.vertices input.left input_after.left out out_after)
+  pub too_long : IfErr outcome (λ f. f.file ≡ Questions → f.number ≡ 2 → ServedUntilTooLong (MayAnswer A how gate g) g.vertices input.left input_after.left out out_after)
   -- nothing is left buffered in the output after either
   pub nothing_held : IfErr outcome (λ f. f.file ≡ Questions → out_after.held ≡ [])
   -- a failed write leaves a prefix of the replies

@@ -10,7 +10,7 @@ use Rattle.batch_settings.specs.declared.settings.Settings.{Settings}
 use Rattle.batch_inputs.specs.Spelled.{IsReadAs}
 use Rattle.batch_inputs.specs.InputFaults.{IsOrderNumber, IsRoadNumber}
 use Rattle.text_lines.specs.Streams.{Input, Output}
-use Rattle.service.specs.Fed.{Served, ServedSoFar, ServedToLimit, ServedPart}
+use Rattle.service.specs.Fed.{Served, ServedPart, ServedSoFar, ServedUntilTooLong}
 use Rattle.service.specs.Answering.{MayAnswer}
 use Rattle.service.specs.GraphInput.{HasReadGraph, HasReadGraphOrdered}
 
@@ -42,7 +42,7 @@ pub record RanService {V G O Q W : Type 0} (A : Algebra V) (how : Settings) (gat
   -- 2 is reported of the requests only of one that has more than 2^32 bytes, or of such a line:
   -- just the requests before it were replied to
   pub too_long : IfErr outcome (λ f. f.file ≡ Questions → f.number ≡ 2 → OverGraph graph.left (λ g.
-      ServedToLimit (MayAnswer A how gate g) g.vertices input.left input_after.left
+      ServedUntilTooLong (MayAnswer A how gate g) g.vertices input.left input_after.left
       out out_after))
   -- and nothing is left buffered in the output after either
   pub nothing_held : IfErr outcome (λ f. f.file ≡ Questions → out_after.held ≡ [])

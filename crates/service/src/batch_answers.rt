@@ -8,7 +8,7 @@ ghost use Rattle.service.specs.Answering.{MayAnswerBy};
 
 use crate::fault_lines::write_fault;
 use answer_text::first_answers_begin_all;
-use batch_run::{Batch, Cause, Gate, Run, Solver, Unwatched, answer_all, answers_exist};
+use batch_run::{Batch, Cause, Gate, Run, Solver, Task, Unwatched, answer_all, answers_exist};
 use path_algebra::PathAlgebra;
 use road_files::Questions;
 use std::sync::Wait;
@@ -46,10 +46,18 @@ impl<A: PathAlgebra, R: Threads + Wait + Sync, T: Gate> BatchAnswers<'_, A, R, T
         first_answers_begin_all(self.algebra);
         one_shard_never_stalls(self.algebra, self.run.gate);
         let _ = solver.vertices();
-        let batch = Batch {
-            run: self.run,
+        let (settings, gate) = (self.run.settings, self.run.gate);
+        let task = Task {
+            rt: self.run.rt,
+            alloc: self.run.alloc,
             algebra: self.algebra,
             questions,
+            width: settings.width as usize,
+        };
+        let batch = Batch {
+            task,
+            settings,
+            gate,
         };
         match answer_all(&batch, solver, out, &mut Unwatched) {
             Ok(()) => Ok(()),

@@ -19,14 +19,15 @@ ghost use Rattle.service.specs.Served.{RanService};
 
 use crate::batch_answers::BatchAnswers;
 use crate::graph_input::GraphInput;
-use crate::read_watcher::ReadWatcher;
+use crate::read_watcher::{NoReadWatcher, ReadWatcher};
 use crate::serving::{Stopped, serve};
 use batch_run::{
-    BatchInput, Cause, File, Gate, OrderedInput, Run, RunFault, SETTINGS, Solver, Unwatched, WRITE,
-    fault_in, fault_of_run, read_batch,
+    BatchInput, Cause, File, Gate, OrderedInput, Run, RunFault, SETTINGS, Solver, WRITE, fault_in,
+    fault_of_run, read_batch,
 };
 use path_algebra::PathAlgebra;
 use question_solvers::factor;
+use std::marker::PhantomData;
 use std::sync::Wait;
 use std::thread::Threads;
 use text_lines::{READ_FAILED, ReadFault, RoadRead, RoadWrite, TOO_LONG};
@@ -64,20 +65,21 @@ fn read_ordered<A: PathAlgebra, I: BatchInput, O: RoadRead, R, T>(
     }
 }
 
-/// Reads a graph, and then its order if there is one, and makes the solver that the settings choose.
-fn read_solver<A: PathAlgebra, G: RoadRead, O: RoadRead, R, T>(
+/// Reads a graph, and its order if there is one, and makes the solver that the settings choose.
+fn read_solver<A: PathAlgebra, I: RoadRead, R, T>(
     run: &Run<'_, R, T>,
-    graph: &mut G,
-    order: &mut Option<O>,
+    graph: &mut I,
+    order: &mut Option<I>,
 ) -> Result<Solver<A>, RunFault>
     ensures kind { IfOk result (λ s. is_without_diffusions s ≡ without_diffusions run.now.settings.now) }
     ensures factors { IfOk result (λ s. is_by_factors s ≡ run.now.settings.now.factors) }
-    ensures graph { IfOk result (λ s. IsReadAs gr_rules (G.seen graph.old).left (graph_of s)) }
-    ensures read { OnOk result (HasReadGraphOrdered (G.seen graph.old) (G.seen graph.new)
-        (option_map O.seen order.old) (option_map O.seen order.new) (Ok tt)) }
-    ensures fault { IfErr result (λ f. HasReadGraphOrdered (G.seen graph.old) (G.seen graph.new)
-        (option_map O.seen order.old) (option_map O.seen order.new) (Err f)) }
-    ensures kinds { IfErr result (λ f. IsOrderedFile IsGraphFile f.file × IsNumberOf f.file f.number) }
+    ensures graph { IfOk result (λ s. IsReadAs gr_rules (I.seen graph.old).left (graph_of s)) }
+    ensures read { OnOk result (HasReadGraphOrdered (I.seen graph.old) (I.seen graph.new)
+        (option_map I.seen order.old) (option_map I.seen order.new) (Ok tt)) }
+    ensures fault { IfErr result (λ f. HasReadGraphOrdered (I.seen graph.old) (I.seen graph.new)
+        (option_map I.seen order.old) (option_map I.seen order.new) (Err f)) }
+    ensures kinds { IfErr result (λ f. IsOrderedFile IsGraphFile f.file ×
+        IsNumberOf f.file f.number) }
     ensures placed { IfErr result (λ f. f.number ≤ 3 → f.line ≡ 0) }
 {
     let mut input = GraphInput { graph };
@@ -115,29 +117,23 @@ fn fault_of_stop(stop: Stopped) -> RunFault
 
 /// Replies to each request of an input over the graph of a solver, which is factored first if
 /// factors are to answer. The watcher is told at each read.
-fn serve_over<
-    A: PathAlgebra,
-    Q: RoadRead,
-    W: RoadWrite,
-    R: Threads + Wait + Sync,
-    T: Gate,
-    O: ReadWatcher<Q, W>,
->(
+fn serve_over<A: PathAlgebra, R: Threads + Wait + Sync, T: Gate, N: ReadWatcher>(
     answers: &BatchAnswers<'_, A, R, T>,
     solver: &mut Solver<A>,
-    requests: &mut Q,
-    out: &mut W,
-    watcher: &mut O,
+    requests: &mut N::Reader,
+    out: &mut N::Writer,
+    watcher: &mut N,
 ) -> Result<(), RunFault>
     requires kind { is_without_diffusions solver.old ≡
         without_diffusions answers.now.run.now.settings.now }
     requires factors { is_by_factors solver.old ≡ answers.now.run.now.settings.now.factors }
     ensures ran { RanOver (A.meaning answers.now.algebra) answers.now.run.now.settings.now
-        (T.may_answer answers.now.run.now.gate.now) (graph_of solver.old) (Q.seen requests.old)
-        (Q.seen requests.new) (W.seen out.old) (W.seen out.new) result }
+        (T.may_answer answers.now.run.now.gate.now) (graph_of solver.old)
+        (N.Reader.seen requests.old) (N.Reader.seen requests.new) (N.Writer.seen out.old)
+        (N.Writer.seen out.new) result }
     ensures told { ToldReads (MayGiveOver A.meaning T.may_answer answers.now (graph_of solver.old))
-        (graph_of solver.old).vertices O.may_become watcher.old watcher.new
-        (Q.seen requests.old) (Q.seen requests.new) (W.seen out.old) }
+        (graph_of solver.old).vertices N.may_become watcher.old watcher.new
+        (N.Reader.seen requests.old) (N.Reader.seen requests.new) (N.Writer.seen out.old) }
 {
     factor_graph(answers.run, answers.algebra, solver)?;
     match serve(answers, solver, requests, out, watcher) {
@@ -161,60 +157,44 @@ fn serve_over<
 /// memory while the graph is factored (3, of no input), is reported before any request is read.
 /// The service ends at the end of the input, after a failed read (1), at a request with more than
 /// 2^32 bytes (2), or after a failed write or flush (42).
-pub fn run_service<
-    A: PathAlgebra,
-    G: RoadRead,
-    O: RoadRead,
-    Q: RoadRead,
-    W: RoadWrite,
-    R: Threads + Wait + Sync,
-    T: Gate,
->(
+pub fn run_service<A: PathAlgebra, I: RoadRead, W: RoadWrite, R: Threads + Wait + Sync, T: Gate>(
     run: &Run<'_, R, T>,
     algebra: A,
-    graph: &mut G,
-    order: &mut Option<O>,
-    requests: &mut Q,
+    graph: &mut I,
+    order: &mut Option<I>,
+    requests: &mut I,
     out: &mut W,
 ) -> Result<(), RunFault>
     ensures ran { RanService (A.meaning algebra) run.now.settings.now
-        (T.may_answer run.now.gate.now) (G.seen graph.old) (G.seen graph.new)
-        (option_map O.seen order.old) (option_map O.seen order.new) (Q.seen requests.old)
-        (Q.seen requests.new) (W.seen out.old) (W.seen out.new) result }
+        (T.may_answer run.now.gate.now) (I.seen graph.old) (I.seen graph.new)
+        (option_map I.seen order.old) (option_map I.seen order.new) (I.seen requests.old)
+        (I.seen requests.new) (W.seen out.old) (W.seen out.new) result }
     ensures suited { IsRefusedUnsuited (A.arc_cost algebra) run.now.settings.now result }
 {
-    run_service_watched(run, algebra, graph, order, requests, out, &mut Unwatched)
+    let mut nobody = NoReadWatcher { of: PhantomData };
+    run_service_watched(run, algebra, graph, order, requests, out, &mut nobody)
 }
 
 /// Does what `run_service` does, and tells a watcher at each read of the requests, before it: just
 /// the requests that the bytes read so far make whole have been replied to then, and nothing is
 /// left buffered in the output.
-pub fn run_service_watched<
-    A: PathAlgebra,
-    G: RoadRead,
-    O: RoadRead,
-    Q: RoadRead,
-    W: RoadWrite,
-    R: Threads + Wait + Sync,
-    T: Gate,
-    N: ReadWatcher<Q, W>,
->(
+pub fn run_service_watched<A: PathAlgebra, R: Threads + Wait + Sync, T: Gate, N: ReadWatcher>(
     run: &Run<'_, R, T>,
     algebra: A,
-    graph: &mut G,
-    order: &mut Option<O>,
-    requests: &mut Q,
-    out: &mut W,
+    graph: &mut N::Reader,
+    order: &mut Option<N::Reader>,
+    requests: &mut N::Reader,
+    out: &mut N::Writer,
     watcher: &mut N,
 ) -> Result<(), RunFault>
-    ensures ran { RanService (A.meaning algebra) run.now.settings.now
-        (T.may_answer run.now.gate.now) (G.seen graph.old) (G.seen graph.new)
-        (option_map O.seen order.old) (option_map O.seen order.new) (Q.seen requests.old)
-        (Q.seen requests.new) (W.seen out.old) (W.seen out.new) result }
+    ensures ran { let seen = N.Reader.seen in RanService (A.meaning algebra) run.now.settings.now
+        (T.may_answer run.now.gate.now) (seen graph.old) (seen graph.new) (option_map seen
+        order.old) (option_map seen order.new) (seen requests.old) (seen requests.new)
+        (N.Writer.seen out.old) (N.Writer.seen out.new) result }
     ensures suited { IsRefusedUnsuited (A.arc_cost algebra) run.now.settings.now result }
-    ensures told { ToldOfService (A.meaning algebra) run.now.settings.now
-        (T.may_answer run.now.gate.now) N.may_become watcher.old watcher.new
-        (G.seen graph.old) (Q.seen requests.old) (Q.seen requests.new) (W.seen out.old) }
+    ensures told { let seen = N.Reader.seen in ToldOfService (A.meaning algebra)
+        run.now.settings.now (T.may_answer run.now.gate.now) N.may_become watcher.old watcher.new
+        (seen graph.old) (seen requests.old) (seen requests.new) (N.Writer.seen out.old) }
 {
     if !run.settings.suit(algebra) {
         return Err(fault_of_run(SETTINGS));

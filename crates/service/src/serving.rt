@@ -5,7 +5,7 @@ ghost use Rattle.service.specs.Giving.{MayGiveOver};
 ghost use Rattle.batch_settings.specs.Choice.{without_diffusions};
 ghost use Rattle.batch_run.specs.Factored.{WasTried};
 ghost use Rattle.batch_run.specs.Solvers.{graph_of, is_without_diffusions};
-ghost use Rattle.service.specs.Fed.{Served, ServedSoFar, ServedToLimit, ServedPart};
+ghost use Rattle.service.specs.Fed.{Served, ServedPart, ServedSoFar, ServedUntilTooLong};
 ghost use Rattle.service.specs.Reading.{ToldReads};
 
 use crate::batch_answers::BatchAnswers;
@@ -34,19 +34,23 @@ pub(crate) enum Stopped {
 
 /// Reads the next piece, and tells the watcher before. At each read nothing is left buffered in the
 /// output.
-fn read_piece<I: RoadRead, W: RoadWrite, O: ReadWatcher<I, W>>(
-    input: &mut I,
-    out: &W,
-    watcher: &mut O,
+fn read_piece<N: ReadWatcher>(
+    input: &mut N::Reader,
+    out: &N::Writer,
+    watcher: &mut N,
     buffer: &mut [u8],
 ) -> Result<usize, ReadFailed>
-    requires { (W.seen out.now).held ≡ [] }
-    ensures told { O.may_become watcher.old (I.seen input.old) (W.seen out.now) watcher.new }
-    ensures counted { (I.seen input.new).asked ≡ (I.seen input.old).asked + 1 }
+    requires { (N.Writer.seen out.now).held ≡ [] }
+    ensures told { N.may_become watcher.old (N.Reader.seen input.old) (N.Writer.seen out.now)
+        watcher.new }
+    ensures counted { (N.Reader.seen input.new).asked ≡ (N.Reader.seen input.old).asked + 1 }
     ensures bound { IfOk result (λ n. n ≤ length buffer.new) }
-    ensures bytes { ReadConsumes (I.seen input.old).left (I.seen input.new).left result buffer.new }
-    ensures sound { OnOk result ((I.seen input.new).failures ≡ (I.seen input.old).failures) }
-    ensures failed { OnErr result ((I.seen input.new).failures ≡ (I.seen input.old).failures + 1) }
+    ensures bytes { ReadConsumes (N.Reader.seen input.old).left (N.Reader.seen input.new).left
+        result buffer.new }
+    ensures sound { OnOk result ((N.Reader.seen input.new).failures ≡
+        (N.Reader.seen input.old).failures) }
+    ensures failed { OnErr result ((N.Reader.seen input.new).failures ≡
+        (N.Reader.seen input.old).failures + 1) }
 {
     watcher.before_read(input, out);
     input.read(buffer)
@@ -54,44 +58,38 @@ fn read_piece<I: RoadRead, W: RoadWrite, O: ReadWatcher<I, W>>(
 
 /// Replies to each request of an input, over the graph of the solver, as soon as it is whole. If
 /// factors are to answer, the graph was factored before. The watcher is told at each read.
-pub(crate) fn serve<
-    A: PathAlgebra,
-    I: RoadRead,
-    W: RoadWrite,
-    R: Threads + Wait + Sync,
-    T: Gate,
-    O: ReadWatcher<I, W>,
->(
+pub(crate) fn serve<A: PathAlgebra, R: Threads + Wait + Sync, T: Gate, N: ReadWatcher>(
     answers: &BatchAnswers<'_, A, R, T>,
     solver: &mut Solver<A>,
-    input: &mut I,
-    out: &mut W,
-    watcher: &mut O,
+    input: &mut N::Reader,
+    out: &mut N::Writer,
+    watcher: &mut N,
 ) -> Result<(), Stopped>
     requires kind { is_without_diffusions solver.old ≡
         without_diffusions answers.now.run.now.settings.now }
     requires tried { WasTried (A.meaning answers.now.algebra)
         (A.arc_cost answers.now.algebra) solver.old }
     ensures served { OnOk result (Served (MayGiveOver A.meaning T.may_answer answers.now (graph_of
-        solver.old)) (graph_of solver.old).vertices (I.seen input.old).left (W.seen out.old) (W.seen
-        out.new)) }
-    ensures read { result ≡ Err Stopped.Read → ServedSoFar (MayGiveOver A.meaning T.may_answer
-        answers.now (graph_of solver.old)) (graph_of solver.old).vertices (I.seen input.old).left
-        (I.seen input.new).left (W.seen out.old) (W.seen out.new) × ((I.seen input.new).failures ≡
-        (I.seen input.old).failures + 1) }
+        solver.old)) (graph_of solver.old).vertices (N.Reader.seen input.old).left
+        (N.Writer.seen out.old) (N.Writer.seen out.new)) }
+    ensures read { let seen = N.Reader.seen in result ≡ Err Stopped.Read → ServedSoFar (MayGiveOver
+        A.meaning T.may_answer answers.now (graph_of solver.old)) (graph_of solver.old).vertices
+        (seen input.old).left (seen input.new).left (N.Writer.seen out.old) (N.Writer.seen out.new)
+        × ((seen input.new).failures ≡ (seen input.old).failures + 1) }
     ensures write { result ≡ Err Stopped.Write → ServedPart (MayGiveOver A.meaning T.may_answer
-        answers.now (graph_of solver.old)) (graph_of solver.old).vertices (I.seen input.old).left
-        (W.seen out.old) (W.seen out.new) }
-    ensures long { result ≡ Err Stopped.TooLong → ServedToLimit (MayGiveOver A.meaning T.may_answer
-        answers.now (graph_of solver.old)) (graph_of solver.old).vertices (I.seen input.old).left
-        (I.seen input.new).left (W.seen out.old) (W.seen out.new) }
-    ensures passed_on { result ≢ Err Stopped.Write → (W.seen out.new).held ≡ [] }
-    ensures end { OnOk result (IsAtEnd (I.seen input.new).left) }
-    ensures sound { result ≢ Err Stopped.Read → (I.seen input.new).failures ≡
-        (I.seen input.old).failures }
+        answers.now (graph_of solver.old)) (graph_of solver.old).vertices
+        (N.Reader.seen input.old).left (N.Writer.seen out.old) (N.Writer.seen out.new) }
+    ensures long { result ≡ Err Stopped.TooLong → ServedUntilTooLong (MayGiveOver A.meaning
+        T.may_answer answers.now (graph_of solver.old)) (graph_of solver.old).vertices
+        (N.Reader.seen input.old).left (N.Reader.seen input.new).left (N.Writer.seen out.old)
+        (N.Writer.seen out.new) }
+    ensures passed_on { result ≢ Err Stopped.Write → (N.Writer.seen out.new).held ≡ [] }
+    ensures end { OnOk result (IsAtEnd (N.Reader.seen input.new).left) }
+    ensures sound { result ≢ Err Stopped.Read → (N.Reader.seen input.new).failures ≡
+        (N.Reader.seen input.old).failures }
     ensures told { ToldReads (MayGiveOver A.meaning T.may_answer answers.now (graph_of solver.old))
-        (graph_of solver.old).vertices O.may_become watcher.old watcher.new (I.seen input.old)
-        (I.seen input.new) (W.seen out.old) }
+        (graph_of solver.old).vertices N.may_become watcher.old watcher.new
+        (N.Reader.seen input.old) (N.Reader.seen input.new) (N.Writer.seen out.old) }
 {
     match out.flush() {
         Ok(()) => {}

@@ -4,7 +4,8 @@ use path_algebra::Shortest;
 use service::run_service;
 use std::sync::Wait;
 use std::thread::Threads;
-use text_lines::{Plain, RoadRead, RoadWrite};
+use text_lines::RoadWrite;
+use text_trials::Pieces;
 
 /// Five vertices. No arc leads to the last.
 pub(crate) const FIVE: &str =
@@ -31,20 +32,19 @@ pub(crate) fn plain() -> Settings {
 }
 
 /// How a service over `FIVE` ends.
-pub(crate) fn serve<Q: RoadRead, W: RoadWrite, R: AllocGlobal + Threads + Wait + Sync, T: Gate>(
+pub(crate) fn serve<W: RoadWrite, R: AllocGlobal + Threads + Wait + Sync, T: Gate>(
     rt: &R,
     settings: &Settings,
     gate: &T,
-    requests: &mut Q,
+    requests: &mut Pieces<'_>,
     out: &mut W,
 ) -> Result<(), RunFault> {
-    let mut graph = Plain::new(FIVE.as_bytes());
-    let mut order: Option<Plain<&[u8]>> = None;
+    let mut graph = Pieces::new(FIVE.as_bytes(), 64, false);
     let run = Run {
         rt,
         alloc: rt.alloc(),
         settings,
         gate,
     };
-    run_service(&run, Shortest, &mut graph, &mut order, requests, out)
+    run_service(&run, Shortest, &mut graph, &mut None, requests, out)
 }

@@ -15,7 +15,7 @@ fn assert_unwritten(
     flushes: bool,
     written: &[u8],
 ) {
-    let mut input = Plain::new(requests.as_bytes());
+    let mut input = Pieces::new(requests.as_bytes(), 64, false);
     let mut out = Sheet::new(rt.alloc(), room, flushes);
     let write = RunFault {
         number: 42,

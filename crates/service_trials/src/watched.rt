@@ -3,7 +3,6 @@ use crate::asking::{FIVE, ONE_REPLY, plain};
 use batch_run::{OpenGate, Run};
 use path_algebra::Shortest;
 use service::{ReadWatcher, run_service_watched};
-use text_lines::Plain;
 use text_trials::{Pieces, Sheet};
 
 /// How many reads there were, and how many bytes had been written before each of the first.
@@ -13,10 +12,14 @@ struct Lengths {
     written: [usize; 4],
 }
 
-impl ReadWatcher<Pieces<'_>, Sheet> for Lengths {
+impl ReadWatcher for Lengths {
+    type Reader = Pieces<'static>;
+
+    type Writer = Sheet;
+
     ghost may_become = { λ _ _ _ _. Unit {0} };
 
-    fn before_read(&mut self, _requests: &Pieces<'_>, out: &Sheet) {
+    fn before_read(&mut self, _requests: &Pieces<'static>, out: &Sheet) {
         if self.reads < 4 {
             self.written[self.reads] = out.bytes.len();
             self.reads += 1;
@@ -28,8 +31,7 @@ impl ReadWatcher<Pieces<'_>, Sheet> for Lengths {
 #[test]
 fn a_read_comes_after_the_replies(rt: HostRuntime) {
     let requests = "p aux sp p2p 1\nq 1 4\np aux sp p2p 1\nq 1 4\n";
-    let mut graph = Plain::new(FIVE.as_bytes());
-    let mut order: Option<Plain<&[u8]>> = None;
+    let mut graph = Pieces::new(FIVE.as_bytes(), 64, false);
     let mut input = Pieces::new(requests.as_bytes(), 21, false);
     let mut out = Sheet::new(rt.alloc(), 1_024, true);
     let mut lengths = Lengths {
@@ -47,7 +49,7 @@ fn a_read_comes_after_the_replies(rt: HostRuntime) {
         &run,
         Shortest,
         &mut graph,
-        &mut order,
+        &mut None,
         &mut input,
         &mut out,
         &mut lengths,

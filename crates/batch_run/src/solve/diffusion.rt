@@ -4,8 +4,7 @@ ghost use Rattle.std.specs.List.{All};
 ghost use Rattle.road_graph.specs.GraphData.{HasVertex};
 ghost use Rattle.path_algebra.specs.Walks.{AreBest};
 ghost use Rattle.route_tree.specs.Tree.{IsTree};
-ghost use Rattle.batch_run.specs.Cut.{IsCut};
-ghost use Rattle.batch_run.specs.Diffusions.{IsEnded, IsGatheredFrom};
+ghost use Rattle.batch_run.specs.Batches.{IsCutIn, IsEndedIn, IsGatheredFromIn};
 
 use crate::batch::BatchOver;
 use path_algebra::{Labels, PathAlgebra};
@@ -61,46 +60,45 @@ fn finish_all<'g, A: PathAlgebra>(
 /// The tree of labels that are best from a source, if that is the only one of its question, and
 /// memory suffices.
 fn tree_ahead<A: PathAlgebra, R, T>(
-    batch: &BatchOver<'_, A, R, T>,
+    over: &BatchOver<'_, A, R, T>,
     source: Vertex,
     labels: &Labels<A::Value>,
 ) -> Option<Tree>
-    requires source { HasVertex batch.now.graph.now source }
-    requires labels { AreBest (A.meaning batch.now.algebra) batch.now.graph.now (source ∷ [])
-        labels.now }
-    ensures { IfSome result (IsTree (A.meaning batch.now.algebra) batch.now.graph.now
+    requires source { HasVertex over.now.graph.now source }
+    requires labels { AreBest (A.meaning over.now.batch.now.task.algebra) over.now.graph.now
+        (source ∷ []) labels.now }
+    ensures { IfSome result (IsTree (A.meaning over.now.batch.now.task.algebra) over.now.graph.now
         (source ∷ [])) }
 {
-    let Questions::Sources(_) = batch.questions else {
+    let task = &over.batch.task;
+    let Questions::Sources(_) = task.questions else {
         return None;
     };
-    let (alloc, graph) = (batch.run.alloc, batch.graph.outgoing());
-    tree_outgoing(alloc, batch.algebra, graph, &[source], labels).ok()
+    let (alloc, graph) = (task.alloc, over.graph.outgoing());
+    tree_outgoing(alloc, task.algebra, graph, &[source], labels).ok()
 }
 
 /// What an ended diffusion came to.
 pub(crate) fn gather_ended<'g, A: PathAlgebra, R, T>(
-    batch: &BatchOver<'_, A, R, T>,
+    over: &BatchOver<'_, A, R, T>,
     plan: &Plan,
     ended: EndedDiffusion<'g, A>,
 ) -> Result<GatheredDiffusion<A::Value>, AllocError>
-    requires plan { IsCut batch.now.run.now.settings.now batch.now.graph.now plan.now }
-    requires ended { IsEnded batch.now.algebra batch.now.run.now.settings.now batch.now.graph.now
-        plan.now ended }
-    ensures { IfOk result (IsGatheredFrom (A.meaning batch.now.algebra)
-        batch.now.run.now.settings.now batch.now.graph.now ended.entry) }
+    requires plan { IsCutIn over.now plan.now }
+    requires ended { IsEndedIn over.now plan.now ended }
+    ensures { IfOk result (IsGatheredFromIn A.meaning over.now ended.entry) }
 {
     let EndedDiffusion {
         source,
         floor,
         stations,
     } = ended;
-    let alloc = batch.run.alloc;
+    let alloc = over.batch.task.alloc;
     let finished = finish_all(alloc, stations)?;
     match gather(alloc, floor, finished) {
         Ok(gathered) => {
             let Gathered { labels, tally } = gathered;
-            let tree = tree_ahead(batch, source, &labels);
+            let tree = tree_ahead(over, source, &labels);
             Ok(GatheredDiffusion {
                 source,
                 labelling: Labelling { labels, tree },

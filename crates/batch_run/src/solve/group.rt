@@ -2,11 +2,9 @@
 ghost use Rattle.std.specs.Prelude.{◌≡◌, ◌≤◌, length, map, IfOk, IfErr};
 ghost use Rattle.std.specs.List.{All, AllZip};
 ghost use Rattle.road_graph.specs.GraphData.{HasVertex};
-ghost use Rattle.station.specs.Opened.{AreOpened};
-ghost use Rattle.batch_run.specs.Batches.{StopsOver};
-ghost use Rattle.batch_run.specs.Cut.{IsCut, IsPaceOf, ahead_of, order_of};
-ghost use Rattle.batch_run.specs.Diffusions.{IsCountedOn, IsEnded, IsGatheredFrom, IsGatheredOver, IsPlanOf};
-ghost use Rattle.shard_store.specs.Setup.{setup_of};
+ghost use Rattle.batch_run.specs.Batches.{IsCountedIn, IsCutIn, IsEndedIn, IsGatheredFromIn, IsGatheredIn, IsOpenedIn, StopsOver};
+ghost use Rattle.batch_run.specs.Cut.{pace_of};
+ghost use Rattle.batch_run.specs.Diffusions.{IsPlanOf};
 
 use crate::batch::BatchOver;
 use crate::solve::diffusion::{EndedDiffusion, GatheredDiffusion, gather_ended};
@@ -28,18 +26,16 @@ use worker_fleet::{Gate, GroupFault, GroupSettings, TurnSettings, run_group};
 /// A floor, and its stations, for a diffusion from a source. Its shards are held back as the pace
 /// says.
 fn open_at_pace<'g, A: PathAlgebra, R, T>(
-    batch: &'g BatchOver<'_, A, R, T>,
+    over: &'g BatchOver<'_, A, R, T>,
     plan: &'g Plan,
     source: Vertex,
     pace: Pace,
 ) -> Result<(Floor<A>, Vec<Station<'g, A>>), AllocError>
-    requires plan { IsPlanOf batch.now.graph.now plan.now }
-    requires source { HasVertex batch.now.graph.now source }
-    ensures { IfOk result (λ r. AreOpened A.meaning
-        (setup_of batch.now.algebra batch.now.graph.now source plan.now pace.order) pace.ahead r.0
-        r.1.items) }
+    requires plan { IsPlanOf over.now.graph.now plan.now }
+    requires source { HasVertex over.now.graph.now source }
+    ensures { IfOk result (IsOpenedIn A.meaning over.now plan.now pace source) }
 {
-    let (alloc, algebra, graph) = (batch.run.alloc, batch.algebra, batch.graph);
+    let (alloc, algebra, graph) = (over.batch.task.alloc, over.batch.task.algebra, over.graph);
     let Ok(opened) = open_diffusion(alloc, algebra, graph, plan, source, pace.order) else {
         return Err(AllocError);
     };
@@ -53,31 +49,30 @@ fn open_at_pace<'g, A: PathAlgebra, R, T>(
 /// A floor, and its stations, for a diffusion from each source, in order: side by side, on at most
 /// as many threads as there are workers.
 fn open_each<'g, A: PathAlgebra, R: Threads + Sync, T: Gate>(
-    batch: &'g BatchOver<'_, A, R, T>,
+    over: &'g BatchOver<'_, A, R, T>,
     plan: &'g Plan,
     sources: &[Vertex],
     pace: Pace,
 ) -> Result<Vec<(Floor<A>, Vec<Station<'g, A>>)>, AllocError>
-    requires plan { IsPlanOf batch.now.graph.now plan.now }
-    requires sources { All (HasVertex batch.now.graph.now) sources.now }
-    ensures { IfOk result (λ v. AllZip (λ source o. AreOpened A.meaning
-        (setup_of batch.now.algebra batch.now.graph.now source plan.now pace.order) pace.ahead o.0
-        o.1.items) sources.now v.items) }
+    requires plan { IsPlanOf over.now.graph.now plan.now }
+    requires sources { All (HasVertex over.now.graph.now) sources.now }
+    ensures { IfOk result (λ v. AllZip (IsOpenedIn A.meaning over.now plan.now pace) sources.now
+        v.items) }
 {
-    let share = sources.len().div_ceil(batch.run.settings.workers as usize);
+    let (task, settings) = (&over.batch.task, over.batch.settings);
+    let share = sources.len().div_ceil(settings.workers as usize);
     let opened: Result<Vec<(Floor<A>, Vec<Station<'g, A>>)>, AllocError> = sources
         .par_iter()
         .with_min_len(share)
         .map(
             |source: &Vertex| -> Result<(Floor<A>, Vec<Station<'_, A>>), AllocError>
-                requires { HasVertex batch.now.graph.now source.now ×
-                    IsPlanOf batch.now.graph.now plan.now }
-                ensures { IfOk result (λ o. AreOpened A.meaning (setup_of batch.entry.now.algebra
-                    batch.entry.now.graph.now source.now plan.entry.now pace.order) pace.ahead o.0
-                    o.1.items) }
-            { open_at_pace(batch, plan, *source, pace) },
+                requires { HasVertex over.now.graph.now source.now ×
+                    IsPlanOf over.now.graph.now plan.now }
+                ensures { IfOk result (IsOpenedIn A.meaning over.entry.now plan.entry.now pace
+                    source.now) }
+            { open_at_pace(over, plan, *source, pace) },
         )
-        .collect(batch.run.rt, batch.run.alloc)?;
+        .collect(task.rt, task.alloc)?;
     opened
 }
 
@@ -133,58 +128,52 @@ fn pair_all<'g, A: PathAlgebra>(
 /// What each of some ended diffusions came to, in order: gathered side by side, on at most as many
 /// threads as there are workers.
 fn gather_each<'g, A: PathAlgebra, R: Threads + Sync, T: Gate>(
-    batch: &BatchOver<'_, A, R, T>,
+    over: &BatchOver<'_, A, R, T>,
     plan: &Plan,
     ended: Vec<EndedDiffusion<'g, A>>,
 ) -> Result<Vec<GatheredDiffusion<A::Value>>, AllocError>
-    requires plan { IsCut batch.now.run.now.settings.now batch.now.graph.now plan.now }
-    requires ended { All (IsEnded batch.now.algebra batch.now.run.now.settings.now
-        batch.now.graph.now plan.now) ended.items }
-    ensures { IfOk result (λ v. AllZip (IsGatheredFrom (A.meaning batch.now.algebra)
-        batch.now.run.now.settings.now batch.now.graph.now) ended.entry.items v.items) }
+    requires plan { IsCutIn over.now plan.now }
+    requires ended { All (IsEndedIn over.now plan.now) ended.items }
+    ensures { IfOk result (λ v. AllZip (IsGatheredFromIn A.meaning over.now) ended.entry.items
+        v.items) }
 {
-    let share = ended.len().div_ceil(batch.run.settings.workers as usize);
+    let (task, settings) = (&over.batch.task, over.batch.settings);
+    let share = ended.len().div_ceil(settings.workers as usize);
     let gathered: Result<Vec<GatheredDiffusion<A::Value>>, AllocError> = ended
         .into_par_iter()
         .with_min_len(share)
         .map(
             |e: EndedDiffusion<'_, A>| -> Result<GatheredDiffusion<A::Value>, AllocError>
-                requires { IsEnded batch.now.algebra batch.now.run.now.settings.now
-                    batch.now.graph.now plan.now e ×
-                    IsCut batch.now.run.now.settings.now batch.now.graph.now plan.now }
-                ensures { IfOk result (IsGatheredFrom (A.meaning batch.entry.now.algebra)
-                    batch.entry.now.run.now.settings.now batch.entry.now.graph.now e.entry) }
-            { gather_ended(batch, plan, e) },
+                requires { IsEndedIn over.now plan.now e × IsCutIn over.now plan.now }
+                ensures { IfOk result (IsGatheredFromIn A.meaning over.entry.now e.entry) }
+            { gather_ended(over, plan, e) },
         )
-        .collect(batch.run.rt, batch.run.alloc)?;
+        .collect(task.rt, task.alloc)?;
     gathered
 }
 
 /// Runs diffusions that were opened, one from each source, to their end, together, and gathers
 /// each, in order.
 fn run_opened<'g, A: PathAlgebra, R: Threads + Wait + Sync, T: Gate>(
-    batch: &BatchOver<'_, A, R, T>,
+    over: &BatchOver<'_, A, R, T>,
     plan: &Plan,
     sources: &[Vertex],
     opened: Vec<(Floor<A>, Vec<Station<'g, A>>)>,
 ) -> Result<Vec<GatheredDiffusion<A::Value>>, GroupFault>
-    requires plan { IsCut batch.now.run.now.settings.now batch.now.graph.now plan.now }
-    requires sources { All (HasVertex batch.now.graph.now) sources.now }
-    requires width { length sources.now ≤ batch.now.run.now.settings.now.width }
-    requires opened { AllZip (λ source o. AreOpened A.meaning (setup_of batch.now.algebra
-        batch.now.graph.now source plan.now (order_of batch.now.run.now.settings.now))
-        (ahead_of batch.now.run.now.settings.now batch.now.graph.now) o.0 o.1.items)
-        sources.now opened.items }
-    ensures gathered { IfOk result (λ v. All (IsGatheredOver (A.meaning batch.now.algebra)
-        batch.now.run.now.settings.now batch.now.graph.now) v.items) }
+    requires plan { IsCutIn over.now plan.now }
+    requires sources { All (HasVertex over.now.graph.now) sources.now }
+    requires width { length sources.now ≤ over.now.batch.now.settings.now.width }
+    requires opened { AllZip (IsOpenedIn A.meaning over.now plan.now
+        (pace_of over.now.batch.now.settings.now over.now.graph.now)) sources.now opened.items }
+    ensures gathered { IfOk result (λ v. All (IsGatheredIn A.meaning over.now) v.items) }
     ensures sources { IfOk result (λ v. map (λ d. d.source) v.items ≡ sources.now) }
-    ensures counted { IfOk result (λ v. AllZip (IsCountedOn batch.now.algebra
-        batch.now.run.now.settings.now batch.now.graph.now plan.now)
+    ensures counted { IfOk result (λ v. AllZip (IsCountedIn over.now plan.now)
         (map (λ o. o.0) opened.entry.items) v.items) }
-    ensures stops { IfErr result (StopsOver A.meaning T.may_answer batch.now) }
+    ensures stops { IfErr result (StopsOver A.meaning T.may_answer over.now) }
 {
-    let (rt, alloc, settings) = (batch.run.rt, batch.run.alloc, batch.run.settings);
-    roads_hold(batch.graph);
+    let (task, settings) = (&over.batch.task, over.batch.settings);
+    let (rt, alloc) = (task.rt, task.alloc);
+    roads_hold(over.graph);
     plan_holds(plan);
     let (floors, opened) = part_all(alloc, opened)?;
     let how = GroupSettings {
@@ -193,31 +182,30 @@ fn run_opened<'g, A: PathAlgebra, R: Threads + Wait + Sync, T: Gate>(
         turns: TurnSettings {
             budget: settings.budget as u32,
             limit: settings.turns,
-            gate: batch.run.gate,
+            gate: over.batch.gate,
         },
     };
     let lists = run_group(rt, alloc, floors.as_slice(), opened, &how)?;
     let ended = pair_all(alloc, sources, floors, lists)?;
-    let gathered = gather_each(batch, plan, ended)?;
+    let gathered = gather_each(over, plan, ended)?;
     Ok(gathered)
 }
 
 /// Runs diffusions from each source to their end, together, and gathers each, in order.
 pub(crate) fn run_together<A: PathAlgebra, R: Threads + Wait + Sync, T: Gate>(
-    batch: &BatchOver<'_, A, R, T>,
+    over: &BatchOver<'_, A, R, T>,
     plan: &Plan,
     pace: Pace,
     sources: &[Vertex],
 ) -> Result<Vec<GatheredDiffusion<A::Value>>, GroupFault>
-    requires plan { IsCut batch.now.run.now.settings.now batch.now.graph.now plan.now }
-    requires pace { IsPaceOf batch.now.run.now.settings.now batch.now.graph.now pace }
-    requires sources { All (HasVertex batch.now.graph.now) sources.now }
-    requires width { length sources.now ≤ batch.now.run.now.settings.now.width }
-    ensures gathered { IfOk result (λ v. All (IsGatheredOver (A.meaning batch.now.algebra)
-        batch.now.run.now.settings.now batch.now.graph.now) v.items) }
+    requires plan { IsCutIn over.now plan.now }
+    requires pace { pace ≡ pace_of over.now.batch.now.settings.now over.now.graph.now }
+    requires sources { All (HasVertex over.now.graph.now) sources.now }
+    requires width { length sources.now ≤ over.now.batch.now.settings.now.width }
+    ensures gathered { IfOk result (λ v. All (IsGatheredIn A.meaning over.now) v.items) }
     ensures sources { IfOk result (λ v. map (λ d. d.source) v.items ≡ sources.now) }
-    ensures stops { IfErr result (StopsOver A.meaning T.may_answer batch.now) }
+    ensures stops { IfErr result (StopsOver A.meaning T.may_answer over.now) }
 {
-    let opened = open_each(batch, plan, sources, pace)?;
-    run_opened(batch, plan, sources, opened)
+    let opened = open_each(over, plan, sources, pace)?;
+    run_opened(over, plan, sources, opened)
 }

@@ -1,8 +1,8 @@
 //! Best labels from the sources of a question, by workers.
-ghost use Rattle.std.specs.Prelude.{◌+◌, ◌<◌, length, slice_index_or, IfOk, IfErr, OnOk};
-ghost use Rattle.road_files.specs.Asked.{Question, asked_of, sources_of};
-ghost use Rattle.batch_run.specs.Batches.{AreNextAt, ReportedAccounts, StopsOver};
-ghost use Rattle.batch_run.specs.Diffusions.{IsLabelling};
+ghost use Rattle.std.specs.Prelude.{◌+◌, false, IfOk, IfErr, OnOk};
+ghost use Rattle.road_files.specs.Asked.{Question, sources_of};
+ghost use Rattle.batch_run.specs.Batches.{AreNextAt, IsLabellingIn, ReportedAccounts, StopsOver, question_at};
+ghost use Rattle.question_solvers.specs.Questions.{HasPlace};
 
 use crate::batch::BatchOver;
 use crate::solve::diffusion::Labelling;
@@ -16,27 +16,27 @@ use worker_fleet::{Gate, GroupFault};
 /// The best values over all walks from some source of the question at a place: of each source a
 /// diffusion of its own, reported for the question, and then these merged.
 pub(crate) fn merge_all<A: PathAlgebra, R: Threads + Wait + Sync, T: Gate, O: Watcher>(
-    batch: &BatchOver<'_, A, R, T>,
+    over: &BatchOver<'_, A, R, T>,
     queue: &mut DiffusionQueue<A::Value>,
     i: usize,
     watcher: &mut O,
 ) -> Result<Labelling<A::Value>, GroupFault>
-    requires place { i < length (asked_of batch.now.questions.now).questions }
-    requires ready { AreNextAt A.meaning batch.now i 0 queue.old }
-    ensures labels { IfOk result (λ labelling. (default : Question) →
-        IsLabelling (A.meaning batch.now.algebra) batch.now.graph.now (sources_of
-        (slice_index_or (asked_of batch.now.questions.now).questions i default)) labelling) }
-    ensures ready { OnOk result (AreNextAt A.meaning batch.now (i + 1) 0 queue.new) }
-    ensures stops { IfErr result (StopsOver A.meaning T.may_answer batch.now) }
-    ensures reported { ReportedAccounts A.meaning batch.now i O.may_become watcher.old watcher.new
-        result }
+    requires place { HasPlace over.now.batch.now.task.questions.now i }
+    requires ready { AreNextAt A.meaning over.now i 0 queue.old }
+    ensures labels { IfOk result (λ labelling. (default : Question) → IsLabellingIn A.meaning
+        over.now (sources_of (question_at over.now.batch.now i default)) labelling) }
+    ensures ready { OnOk result (AreNextAt A.meaning over.now (i + 1) 0 queue.new) }
+    ensures stops { IfErr result (StopsOver A.meaning T.may_answer over.now) }
+    ensures reported { ReportedAccounts A.meaning over.now.batch.now over.now.graph.now false i
+        O.may_become watcher.old watcher.new result }
 {
-    laws_hold(batch.algebra);
-    let sources = batch.questions.sources(i);
-    let mut merged = next_labels(batch, queue, i, 0, watcher)?;
+    let task = &over.batch.task;
+    laws_hold(task.algebra);
+    let sources = task.questions.sources(i);
+    let mut merged = next_labels(over, queue, i, 0, watcher)?;
     for j in 1..sources.len() {
-        let other = next_labels(batch, queue, i, j, watcher)?;
-        merged.labels.merge(batch.algebra, &other.labels);
+        let other = next_labels(over, queue, i, j, watcher)?;
+        merged.labels.merge(task.algebra, &other.labels);
         merged.tree = None;
     }
     Ok(merged)

@@ -1,9 +1,8 @@
 //! The diffusions of a batch, one after the other: several are run together, and wait here until
 //! they are asked for.
 ghost use Rattle.std.specs.Prelude.{◌≡◌, ℕ, ◌≤◌, ◌+◌, [], ◌∷◌, length, IfOk, IfErr, OnOk, OnErr};
-ghost use Rattle.road_files.specs.Asked.{asked_of};
-ghost use Rattle.batch_run.specs.Batches.{AreNextAt, StopsOver};
-ghost use Rattle.batch_run.specs.Diffusions.{HasSource, IsGatheredOver, IsLabelling, IsNextSource};
+ghost use Rattle.batch_run.specs.Batches.{AreNextAt, IsGatheredIn, IsLabellingIn, StopsOver, questions_in};
+ghost use Rattle.batch_run.specs.Diffusions.{HasSource, IsNextSource};
 ghost use Rattle.batch_run.specs.Reports.{Account, Reported};
 
 use crate::batch::BatchOver;
@@ -30,44 +29,42 @@ pub(crate) struct DiffusionQueue<V: Copy> {
 
 /// Runs the diffusions from source j of question i on, at most the width, unless some wait.
 fn refill<A: PathAlgebra, R: Threads + Wait + Sync, T: Gate>(
-    batch: &BatchOver<'_, A, R, T>,
+    over: &BatchOver<'_, A, R, T>,
     queue: &mut DiffusionQueue<A::Value>,
     i: usize,
     j: usize,
 ) -> Result<(), GroupFault>
-    requires source { HasSource (asked_of batch.now.questions.now).questions i j }
-    requires ready { AreNextAt A.meaning batch.now i j queue.old }
+    requires source { HasSource (questions_in over.now) i j }
+    requires ready { AreNextAt A.meaning over.now i j queue.old }
     ensures some { OnOk result (1 ≤ length queue.new.waiting.items) }
-    ensures ready { OnOk result (AreNextAt A.meaning batch.now i j queue.new) }
-    ensures stops { IfErr result (StopsOver A.meaning T.may_answer batch.now) }
+    ensures ready { OnOk result (AreNextAt A.meaning over.now i j queue.new) }
+    ensures stops { IfErr result (StopsOver A.meaning T.may_answer over.now) }
 {
     if !queue.waiting.is_empty() {
         return Ok(());
     }
-    let width = batch.run.settings.width as usize;
-    let sources = upcoming(batch.run.alloc, batch.questions, i, j, width)?;
-    let gathered = run_together(batch, &queue.plan, queue.pace, &sources)?;
+    let (task, width) = (&over.batch.task, over.batch.settings.width as usize);
+    let sources = upcoming(task.alloc, task.questions, i, j, width)?;
+    let gathered = run_together(over, &queue.plan, queue.pace, &sources)?;
     queue.waiting = VecDeque::from(gathered);
     Ok(())
 }
 
 /// The next diffusion, which is the one from source j of question i, taken from those that wait.
 fn take_next<A: PathAlgebra, R: Threads + Wait + Sync, T: Gate>(
-    batch: &BatchOver<'_, A, R, T>,
+    over: &BatchOver<'_, A, R, T>,
     queue: &mut DiffusionQueue<A::Value>,
     i: usize,
     j: usize,
 ) -> Result<GatheredDiffusion<A::Value>, GroupFault>
-    requires source { HasSource (asked_of batch.now.questions.now).questions i j }
-    requires ready { AreNextAt A.meaning batch.now i j queue.old }
-    ensures next { IfOk result (λ d. IsNextSource (asked_of batch.now.questions.now).questions i j
-        d.source) }
-    ensures gathered { IfOk result (IsGatheredOver (A.meaning batch.now.algebra)
-        batch.now.run.now.settings.now batch.now.graph.now) }
-    ensures ready { OnOk result (AreNextAt A.meaning batch.now i (j + 1) queue.new) }
-    ensures stops { IfErr result (StopsOver A.meaning T.may_answer batch.now) }
+    requires source { HasSource (questions_in over.now) i j }
+    requires ready { AreNextAt A.meaning over.now i j queue.old }
+    ensures next { IfOk result (λ d. IsNextSource (questions_in over.now) i j d.source) }
+    ensures gathered { IfOk result (IsGatheredIn A.meaning over.now) }
+    ensures ready { OnOk result (AreNextAt A.meaning over.now i (j + 1) queue.new) }
+    ensures stops { IfErr result (StopsOver A.meaning T.may_answer over.now) }
 {
-    refill(batch, queue, i, j)?;
+    refill(over, queue, i, j)?;
     let Some(next) = queue.waiting.pop_front() else {
         unreachable!()
     };
@@ -77,27 +74,25 @@ fn take_next<A: PathAlgebra, R: Threads + Wait + Sync, T: Gate>(
 /// What the next diffusion came to, which is the one from source j of question i. It is reported
 /// with its counts.
 pub(crate) fn next_labels<A: PathAlgebra, R: Threads + Wait + Sync, T: Gate, O: Watcher>(
-    batch: &BatchOver<'_, A, R, T>,
+    over: &BatchOver<'_, A, R, T>,
     queue: &mut DiffusionQueue<A::Value>,
     i: usize,
     j: usize,
     watcher: &mut O,
 ) -> Result<Labelling<A::Value>, GroupFault>
-    requires source { HasSource (asked_of batch.now.questions.now).questions i j }
-    requires ready { AreNextAt A.meaning batch.now i j queue.old }
-    ensures labels { IfOk result (λ labelling. (source : ℕ) →
-        IsNextSource (asked_of batch.now.questions.now).questions i j source →
-        IsLabelling (A.meaning batch.now.algebra) batch.now.graph.now (source ∷ []) labelling) }
-    ensures ready { OnOk result (AreNextAt A.meaning batch.now i (j + 1) queue.new) }
-    ensures stops { IfErr result (StopsOver A.meaning T.may_answer batch.now) }
-    ensures reported { OnOk result ((source : ℕ) →
-        IsNextSource (asked_of batch.now.questions.now).questions i j source →
-        Reported (A.meaning batch.now.algebra) batch.now.run.now.settings.now batch.now.graph.now
-        O.may_become (Account (i + 1) source ∷ []) watcher.old watcher.new) }
+    requires source { HasSource (questions_in over.now) i j }
+    requires ready { AreNextAt A.meaning over.now i j queue.old }
+    ensures labels { IfOk result (λ labelling. (source : ℕ) → IsNextSource (questions_in
+        over.now) i j source → IsLabellingIn A.meaning over.now (source ∷ []) labelling) }
+    ensures ready { OnOk result (AreNextAt A.meaning over.now i (j + 1) queue.new) }
+    ensures stops { IfErr result (StopsOver A.meaning T.may_answer over.now) }
+    ensures reported { OnOk result ((source : ℕ) → IsNextSource (questions_in over.now)
+        i j source → Reported (A.meaning over.now.batch.now.task.algebra) over.now.batch.now.settings.now
+        over.now.graph.now O.may_become (Account (i + 1) source ∷ []) watcher.old watcher.new) }
     ensures unreported { OnErr result (watcher.new ≡ watcher.old) }
 {
     let question = (i + 1) as u32;
-    let next = take_next(batch, queue, i, j)?;
+    let next = take_next(over, queue, i, j)?;
     let GatheredDiffusion {
         source,
         labelling,

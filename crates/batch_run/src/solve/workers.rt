@@ -1,13 +1,12 @@
 //! Solves questions by workers, one diffusion for each source.
-ghost use Rattle.std.specs.Prelude.{◌≡◌, ◌+◌, ◌<◌, [], ◌∷◌, length, slice_index_or, false, IfOk, IfErr, OnOk};
+ghost use Rattle.std.specs.Prelude.{◌≡◌, ◌+◌, [], ◌∷◌, false, IfOk, IfErr, OnOk};
 ghost use Rattle.std.specs.Borrow.{sem};
-ghost use Rattle.road_files.specs.Asked.{AreQuestionsOf, Question, asked_of, sources_of};
-ghost use Rattle.batch_run.specs.Batches.{AreNextAt, ReportedAccounts, StopsBatch, StopsOver};
-ghost use Rattle.batch_run.specs.Diffusions.{IsLabelling};
+ghost use Rattle.road_files.specs.Asked.{AreQuestionsOf, Question, sources_of};
+ghost use Rattle.batch_run.specs.Batches.{AreNextAt, IsLabellingIn, IsSolvedIn, ReportedAccounts, StopsBatch, StopsOver, asked_in, question_at};
 ghost use Rattle.batch_run.specs.Lending.{EndsWorkers};
-ghost use Rattle.batch_run.specs.Reports.{ReportedAllOrPrefix, accounts_due};
+ghost use Rattle.question_solvers.specs.Questions.{HasPlace};
 ghost use Rattle.question_solvers.specs.Solved.{IsSolvedFor};
-ghost use Rattle.batch_run.specs.Solvers.{IsWorkerReady};
+ghost use Rattle.batch_run.specs.Solvers.{IsWorkerAfter, IsWorkerReady};
 
 use crate::batch::{Batch, BatchOver};
 use crate::solve::diffusion::Labelling;
@@ -40,20 +39,19 @@ pub struct WorkerSolver<V: Copy> {
 
 /// Solves the question at a place by best labels from its sources, and by their tree if it was made.
 fn solve_by_labels<A: PathAlgebra, R, T>(
-    batch: &BatchOver<'_, A, R, T>,
+    over: &BatchOver<'_, A, R, T>,
     i: usize,
     labelling: Labelling<A::Value>,
 ) -> Result<Solved<A::Value>, Memory>
-    requires place { i < length (asked_of batch.now.questions.now).questions }
-    requires labels { (default : Question) → IsLabelling (A.meaning batch.now.algebra)
-        batch.now.graph.now (sources_of (slice_index_or (asked_of batch.now.questions.now).questions
-        i default)) labelling }
-    ensures { IfOk result (IsSolvedFor (A.meaning batch.now.algebra) batch.now.graph.now
-        (asked_of batch.now.questions.now) i) }
+    requires place { HasPlace over.now.batch.now.task.questions.now i }
+    requires labels { (default : Question) → IsLabellingIn A.meaning over.now (sources_of
+        (question_at over.now.batch.now i default)) labelling }
+    ensures { IfOk result (IsSolvedIn A.meaning over.now i) }
 {
-    let (alloc, algebra, graph) = (batch.run.alloc, batch.algebra, batch.graph);
+    let (task, graph) = (&over.batch.task, over.graph);
+    let (alloc, algebra) = (task.alloc, task.algebra);
     let Labelling { labels, tree } = labelling;
-    match batch.questions {
+    match task.questions {
         Questions::Pairs(pairs) => {
             let (source, target) = pairs[i];
             let found = route_between(alloc, algebra, graph, source, target, &labels)?;
@@ -67,7 +65,7 @@ fn solve_by_labels<A: PathAlgebra, R, T>(
             if let Some(tree) = tree {
                 return Ok(Solved::Tree { labels, tree });
             }
-            let sources = batch.questions.sources(i);
+            let sources = task.questions.sources(i);
             let tree = tree_outgoing(alloc, algebra, graph.outgoing(), sources, &labels)?;
             Ok(Solved::Tree { labels, tree })
         }
@@ -76,22 +74,21 @@ fn solve_by_labels<A: PathAlgebra, R, T>(
 
 /// Solves the question at a place by workers. The diffusions are reported.
 fn solve_by_workers<A: PathAlgebra, R: Threads + Wait + Sync, T: Gate, O: Watcher>(
-    batch: &BatchOver<'_, A, R, T>,
+    over: &BatchOver<'_, A, R, T>,
     queue: &mut DiffusionQueue<A::Value>,
     i: usize,
     watcher: &mut O,
 ) -> Result<Solved<A::Value>, GroupFault>
-    requires place { i < length (asked_of batch.now.questions.now).questions }
-    requires ready { AreNextAt A.meaning batch.now i 0 queue.old }
-    ensures solved { IfOk result (IsSolvedFor (A.meaning batch.now.algebra) batch.now.graph.now
-        (asked_of batch.now.questions.now) i) }
-    ensures ready { OnOk result (AreNextAt A.meaning batch.now (i + 1) 0 queue.new) }
-    ensures stops { IfErr result (StopsOver A.meaning T.may_answer batch.now) }
-    ensures reported { ReportedAccounts A.meaning batch.now i O.may_become watcher.old watcher.new
-        result }
+    requires place { HasPlace over.now.batch.now.task.questions.now i }
+    requires ready { AreNextAt A.meaning over.now i 0 queue.old }
+    ensures solved { IfOk result (IsSolvedIn A.meaning over.now i) }
+    ensures ready { OnOk result (AreNextAt A.meaning over.now (i + 1) 0 queue.new) }
+    ensures stops { IfErr result (StopsOver A.meaning T.may_answer over.now) }
+    ensures reported { ReportedAccounts A.meaning over.now.batch.now over.now.graph.now false i
+        O.may_become watcher.old watcher.new result }
 {
-    let labelling = merge_all(batch, queue, i, watcher)?;
-    match solve_by_labels(batch, i, labelling) {
+    let labelling = merge_all(over, queue, i, watcher)?;
+    match solve_by_labels(over, i, labelling) {
         Ok(solved) => Ok(solved),
         Err(_) => Err(GroupFault::Memory),
     }
@@ -118,10 +115,9 @@ pub(crate) fn start_workers<A: PathAlgebra, R, T>(
     solver: &mut WorkerSolver<A::Value>,
 ) -> Result<(), Memory>
     ensures graph { solver.new.graph ≡ solver.old.graph }
-    ensures ready { OnOk result (IsWorkerReady (A.meaning batch.now.algebra)
-        batch.now.run.now.settings.now (asked_of batch.now.questions.now) 0 solver.new) }
+    ensures ready { OnOk result (IsWorkerReady A.meaning batch.now 0 solver.new) }
 {
-    let (alloc, settings) = (batch.run.alloc, batch.run.settings);
+    let (alloc, settings) = (batch.task.alloc, batch.settings);
     let plan = Plan::blocks(alloc, solver.graph.vertices(), settings.shards as u8)?;
     let pace = Pace::of(settings, &solver.graph);
     solver.queue = Some(DiffusionQueue {
@@ -133,6 +129,34 @@ pub(crate) fn start_workers<A: PathAlgebra, R, T>(
 }
 
 /// Solves the question at a place, the next one, by diffusions, which are reported.
+fn solve_in_turn<A: PathAlgebra, R: Threads + Wait + Sync, T: Gate, O: Watcher>(
+    solver: &mut WorkerSolver<A::Value>,
+    batch: &Batch<'_, A, R, T>,
+    i: usize,
+    watcher: &mut O,
+) -> Result<Solved<A::Value>, GroupFault>
+    requires place { HasPlace batch.now.task.questions.now i }
+    requires within { AreQuestionsOf solver.old.graph.vertices batch.now.task.questions.now }
+    requires ready { IsWorkerReady A.meaning batch.now i solver.old }
+    ensures after { IsWorkerAfter A.meaning batch.now i solver.old solver.new result }
+    ensures solved { IfOk result (IsSolvedFor (A.meaning batch.now.task.algebra) solver.old.graph
+        (asked_in batch.now) i) }
+    ensures stops { IfErr result (StopsBatch A.meaning T.may_answer batch.now solver.old.graph) }
+    ensures reported { ReportedAccounts A.meaning batch.now solver.old.graph false i O.may_become
+        watcher.old watcher.new result }
+{
+    solver.solved = None;
+    let over = BatchOver {
+        batch,
+        graph: &solver.graph,
+    };
+    let Some(queue) = &mut solver.queue else {
+        unreachable!()
+    };
+    solve_by_workers(&over, queue, i, watcher)
+}
+
+/// Solves the question at a place, the next one, and keeps the solution.
 pub(crate) fn solve_next_by_workers<
     's,
     A: PathAlgebra,
@@ -145,30 +169,17 @@ pub(crate) fn solve_next_by_workers<
     i: usize,
     watcher: &mut O,
 ) -> Result<&'s Solved<A::Value>, GroupFault>
-    requires place { i < length (asked_of batch.now.questions.now).questions }
-    requires within { AreQuestionsOf solver.old.graph.vertices batch.now.questions.now }
-    requires ready { IsWorkerReady (A.meaning batch.now.algebra) batch.now.run.now.settings.now
-        (asked_of batch.now.questions.now) i solver.old }
+    requires place { HasPlace batch.now.task.questions.now i }
+    requires within { AreQuestionsOf solver.old.graph.vertices batch.now.task.questions.now }
+    requires ready { IsWorkerReady A.meaning batch.now i solver.old }
     ensures* after { sem 𝓛 (EndsWorkers A.row A.Value.row A.PathAlgebra A.meaning batch.now i
         solver.entry result) }
-    ensures solved { IfOk result (λ s. IsSolvedFor (A.meaning batch.now.algebra) solver.old.graph
-        (asked_of batch.now.questions.now) i s.now) }
+    ensures solved { IfOk result (λ s. IsSolvedFor (A.meaning batch.now.task.algebra) solver.old.graph
+        (asked_in batch.now) i s.now) }
     ensures stops { IfErr result (StopsBatch A.meaning T.may_answer batch.now solver.old.graph) }
-    ensures reported { (default : Question) → ReportedAllOrPrefix (A.meaning batch.now.algebra)
-        batch.now.run.now.settings.now solver.old.graph O.may_become (accounts_due false (i + 1)
-        (slice_index_or (asked_of batch.now.questions.now).questions i default)) watcher.old
-        watcher.new result }
+    ensures reported { ReportedAccounts A.meaning batch.now solver.old.graph false i O.may_become
+        watcher.old watcher.new result }
 {
-    solver.solved = None;
-    let over = BatchOver {
-        run: batch.run,
-        algebra: batch.algebra,
-        graph: &solver.graph,
-        questions: batch.questions,
-    };
-    let Some(queue) = &mut solver.queue else {
-        unreachable!()
-    };
-    let solved = solve_by_workers(&over, queue, i, watcher)?;
+    let solved = solve_in_turn(solver, batch, i, watcher)?;
     Ok(solver.solved.insert(solved))
 }

@@ -1,10 +1,12 @@
 //! Writes the right answer to one question.
-ghost use Rattle.std.specs.Prelude.{◌≡◌, ◌<◌, [], ◌∷◌, length, slice_index_or};
+ghost use Rattle.std.specs.Prelude.{◌≡◌, [], ◌∷◌, length};
 ghost use Rattle.road_graph.specs.GraphData.{GraphData};
 ghost use Rattle.path_algebra.specs.Walks.{AreBest};
 ghost use Rattle.route_tree.specs.Tree.{IsTree};
-ghost use Rattle.road_files.specs.Asked.{Question, FromSource, FromSources, asked_of};
+ghost use Rattle.road_files.specs.Asked.{Question, FromSource, FromSources};
 ghost use Rattle.batch_run.specs.Answered.{WroteAnswer};
+ghost use Rattle.batch_run.specs.Batches.{asked_in, question_at};
+ghost use Rattle.question_solvers.specs.Questions.{HasPlace};
 ghost use Rattle.question_solvers.specs.Solved.{IsSolvedFor};
 
 use crate::batch::Batch;
@@ -64,16 +66,15 @@ pub(crate) fn answer_at<A: PathAlgebra, W: RoadWrite, R, T>(
     solved: &Solved<A::Value>,
     out: &mut W,
 ) -> Result<(), WriteFault>
-    requires place { i < length (asked_of batch.now.questions.now).questions }
-    requires solved { (g : GraphData) × (g.vertices ≡ n) × IsSolvedFor (A.meaning batch.now.algebra)
-        g (asked_of batch.now.questions.now) i solved.now }
-    ensures { (g : GraphData) (default : Question) → g.vertices ≡ n → IsSolvedFor
-        (A.meaning batch.now.algebra) g (asked_of batch.now.questions.now) i solved.now →
-        WroteAnswer (A.meaning batch.now.algebra) g
-        (slice_index_or (asked_of batch.now.questions.now).questions i default) (W.seen out.old)
-        (W.seen out.new) result }
+    requires place { HasPlace batch.now.task.questions.now i }
+    requires solved { (g : GraphData) × (g.vertices ≡ n) ×
+        IsSolvedFor (A.meaning batch.now.task.algebra) g (asked_in batch.now) i solved.now }
+    ensures { (g : GraphData) (default : Question) → g.vertices ≡ n →
+        IsSolvedFor (A.meaning batch.now.task.algebra) g (asked_in batch.now) i solved.now →
+        WroteAnswer (A.meaning batch.now.task.algebra) g (question_at batch.now i default)
+        (W.seen out.old) (W.seen out.new) result }
 {
-    let (algebra, questions) = (batch.algebra, batch.questions);
+    let (algebra, questions) = (batch.task.algebra, batch.task.questions);
     match solved {
         Solved::Answer(answer) => write_answer(out, answer),
         Solved::Tree { labels, tree } => match questions {

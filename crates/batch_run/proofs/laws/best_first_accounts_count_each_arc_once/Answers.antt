@@ -1,9 +1,5 @@
-use Rattle.std.proofs.Common.{ap, cond, ◌∙◌}
-use Rattle.shard_store.specs.declared.queue_order.QueueOrder.TheVariants.{Arrival, BestFirst}
-use Rattle.shard_store.specs.Setup.{setup_of}
-use Rattle.path_algebra.specs.Algebra.{Algebra}
+use Rattle.batch_run.proofs.Words.{ap, cond, ◌∙◌, Arrival, BestFirst, setup_of, Algebra, order_of}
 use Rattle.station.proofs.ExactCounts.{best_first_once_an_arc}
-use Rattle.batch_run.specs.Cut.{order_of}
 use Rattle.batch_run.proofs.laws.best_first_accounts_count_each_arc_once.Goals as goal
 
 pub returns : goal.returns

@@ -1,10 +1,4 @@
-use Rattle.std.proofs.Common.{inl, inr, refl, ap, subst, Bool, true, false, Err}
-use Rattle.std.proofs.lemmas.Result.{err_from_is_err_and}
-use Rattle.road_files.specs.Asked.{asked_of}
-use Rattle.batch_inputs.specs.declared.faults.RunFault.{RunFault}
-use Rattle.batch_run.specs.Causes.{MayStop, fault_of}
-use Rattle.batch_run.specs.Stopping.{Stops}
-use Rattle.batch_run.specs.Solvers.{graph_of}
+use Rattle.batch_run.proofs.Words.{inl, inr, refl, ap, subst, Bool, true, false, Err, err_from_is_err_and, asked_of, RunFault, MayStop, fault_of, Stops, graph_of}
 use Rattle.batch_run.proofs.CauseCases.{no_setting}
 use Rattle.batch_run.proofs.OneShard.{not_stalled}
 use Rattle.batch_run.proofs.OfInputs.{ran_stopped, ran_whole}
@@ -48,7 +42,7 @@ returns-in_err-answer_and_flush g c =
       read = g.met.I.BatchInput.later c.args.input.now c.read_batch.new.input (fault_of cause) refl (no_setting cause) c.in-Ok.ensures.done;
       stopped = stopped;
       watched = watched_first A how is_read g.O.Watcher.may_become _ _ _ _ roads asked c.in-Ok.ensures.read cause
-          (told_as g.A.PathAlgebra.meaning g.A.PathAlgebra.arc_cost c.args.algebra how asked c.in-Ok.read.0 c.in-Ok.ensures.chosen (has_cost (g.A.PathAlgebra.arc_cost c.args.algebra) how c.suit.result c.if-not-suit.false c.suit.ensures.exactly) g.O.Watcher.may_become _ _ _ _ false was.reported);
+          (told_as g.A.PathAlgebra.meaning g.A.PathAlgebra.arc_cost _ c.in-Ok.read.0 c.in-Ok.ensures.chosen (has_cost (g.A.PathAlgebra.arc_cost c.args.algebra) how c.suit.result c.if-not-suit.false c.suit.ensures.exactly) g.O.Watcher.may_become _ _ _ _ false was.reported);
     })
 
 pub returns : goal.returns
@@ -68,5 +62,5 @@ returns g c =
       read = c.in-Ok.ensures.done;
       stopped = record { stalled = tt; gated = tt };
       watched = watched_all A how is_read g.O.Watcher.may_become _ _ _ _ roads asked c.in-Ok.ensures.read
-          (told_as g.A.PathAlgebra.meaning g.A.PathAlgebra.arc_cost c.args.algebra how asked c.in-Ok.read.0 c.in-Ok.ensures.chosen (has_cost (g.A.PathAlgebra.arc_cost c.args.algebra) how c.suit.result c.if-not-suit.false c.suit.ensures.exactly) g.O.Watcher.may_become _ _ _ _ true was.all);
+          (told_as g.A.PathAlgebra.meaning g.A.PathAlgebra.arc_cost _ c.in-Ok.read.0 c.in-Ok.ensures.chosen (has_cost (g.A.PathAlgebra.arc_cost c.args.algebra) how c.suit.result c.if-not-suit.false c.suit.ensures.exactly) g.O.Watcher.may_become _ _ _ _ true was.all);
     }

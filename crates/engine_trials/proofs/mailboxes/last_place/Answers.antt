@@ -1,5 +1,4 @@
-use Rattle.std.proofs.Common.{◌≡◌, ◌++◌, ◌∷◌, [], subst, sym, rules}
-use Rattle.post_floor.specs.Data.{IsAt, seat_of}
+use Rattle.engine_trials.proofs.Words.{◌≡◌, ◌++◌, ◌∷◌, [], subst, sym, rules, IsAt, seat_of}
 use Rattle.post_floor.proofs.Seats.{all_front, last_seat}
 use Rattle.engine_trials.proofs.mailboxes.last_place.Goals as goal
 

@@ -1,6 +1,5 @@
-use Rattle.std.proofs.Common.{◌≡◌, subst, sym, ◌∙◌, rules}
+use Rattle.engine_trials.proofs.Words.{◌≡◌, subst, sym, ◌∙◌, rules, IsAt, seat_of}
 use Rattle.shard_part.specs.Weights.{All}
-use Rattle.post_floor.specs.Data.{IsAt, seat_of}
 use Rattle.engine_trials.proofs.Places.{opened_at}
 use Rattle.engine_trials.proofs.mailboxes.opened.Goals as goal
 

@@ -1,6 +1,5 @@
 use Rattle.std.proofs.Common.{rules, ◌≡◌, ◌++◌, ◌∷◌, [], ap, ◌∙◌}
-use Rattle.shard_store.specs.Setup.{SetupData, setup_of}
-use Rattle.shard_part.specs.Opening.{opened_part, opened_parts}
+use Rattle.engine_trials.proofs.Words.{SetupData, setup_of, opened_part, opened_parts}
 use Rattle.station.proofs.Opening.{opened_next}
 use Rattle.engine_trials.proofs.parts.parts_of.Goals as goal
 

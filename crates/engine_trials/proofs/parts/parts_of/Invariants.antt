@@ -1,6 +1,4 @@
-use Rattle.std.proofs.Common.{◌≡◌}
-use Rattle.shard_part.specs.Opening.{opened_parts}
-use Rattle.shard_store.specs.Setup.{setup_of}
+use Rattle.engine_trials.proofs.Words.{◌≡◌, opened_parts, setup_of}
 use Rattle.engine_trials.proofs.parts.parts_of.Given as goal
 
 abbrev pub invariant-loop-shard : goal.invariant-loop-shard

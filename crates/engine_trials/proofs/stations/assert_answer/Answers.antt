@@ -1,6 +1,5 @@
-use Rattle.std.proofs.Common.{sym, ◌∙◌}
+use Rattle.engine_trials.proofs.Words.{sym, ◌∙◌, BelongsTo}
 use Rattle.std.proofs.lemmas.List.Elements.{All-weaker}
-use Rattle.station.specs.Station.{BelongsTo}
 use Rattle.engine_trials.proofs.stations.assert_answer.Goals as goal
 
 pub turn_all-requires-after_bounds : goal.turn_all-requires-after_bounds

@@ -1,5 +1,4 @@
-use Rattle.std.specs.List.{All}
-use Rattle.station.specs.Station.{BelongsTo}
+use Rattle.engine_trials.proofs.Words.{All, BelongsTo}
 use Rattle.engine_trials.proofs.stations.turn_all.Given as goal
 
 abbrev pub invariant-loop-k : goal.invariant-loop-k

@@ -1,6 +1,5 @@
-use Rattle.std.proofs.Common.{rules}
+use Rattle.engine_trials.proofs.Words.{rules, BelongsTo}
 use Rattle.std.proofs.lemmas.List.Elements.{All-set}
-use Rattle.station.specs.Station.{BelongsTo}
 use Rattle.engine_trials.proofs.stations.turn_one.Goals as goal
 
 pub turn-requires-after_bounds : goal.turn-requires-after_bounds

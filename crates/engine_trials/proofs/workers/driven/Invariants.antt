@@ -1,5 +1,4 @@
-use Rattle.std.specs.List.{All}
-use Rattle.worker_fleet.specs.Turns.{IsOnItsFloor}
+use Rattle.engine_trials.proofs.Words.{All, IsOnItsFloor}
 use Rattle.engine_trials.proofs.workers.driven.Given as goal
 
 abbrev pub invariant-loop : goal.invariant-loop

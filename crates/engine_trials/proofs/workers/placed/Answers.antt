@@ -1,8 +1,4 @@
-use Rattle.std.proofs.Common.{◌≡◌, ◌++◌, ◌∷◌, [], refl, sym, subst, rules}
-use Rattle.std.specs.List.{All}
-use Rattle.std.proofs.lemmas.List.Elements.{All-push}
-use Rattle.station.specs.Station.{BelongsTo}
-use Rattle.worker_fleet.specs.Turns.{IsOnItsFloor}
+use Rattle.engine_trials.proofs.Words.{◌≡◌, ◌++◌, ◌∷◌, [], refl, sym, subst, rules, All, All-push, BelongsTo, IsOnItsFloor}
 use Rattle.worker_fleet.proofs.Carried.{All-first, All-rest}
 use Rattle.engine_trials.proofs.workers.placed.Goals as goal
 

@@ -1,8 +1,5 @@
-use Rattle.std.proofs.Common.{[], ◌∷◌}
-use Rattle.std.specs.List.{All}
+use Rattle.engine_trials.proofs.Words.{[], ◌∷◌, All, BelongsTo, IsOnItsFloor}
 use Rattle.std.specs.Vec.Iter.{into_iter_items}
-use Rattle.station.specs.Station.{BelongsTo}
-use Rattle.worker_fleet.specs.Turns.{IsOnItsFloor}
 use Rattle.engine_trials.proofs.workers.placed.Given as goal
 
 abbrev pub invariant-loop-station : goal.invariant-loop-station

@@ -8,6 +8,6 @@ returns g c = (
   c.answer_input.new.input.order.now,
   elim c.answer_input.ensures [
     | inl refused ↦ inl refused
-    | inr it ↦ inr (watched_as _ _ _ _ _ _ _ _ _ _ _ _ _ it (λ o h. h.2))
+    | inr it ↦ inr (watched_as _ _ _ _ _ _ _ _ _ _ _ _ it (λ o h. h.2))
   ],
 )

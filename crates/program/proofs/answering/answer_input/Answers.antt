@@ -1,5 +1,4 @@
-use Rattle.std.specs.Option.{option_map}
-use Rattle.std.proofs.Common.{inl, inr, refl}
+use Rattle.program.proofs.Words.{option_map, inl, inr, refl}
 use Rattle.command_files.specs.Moments.{moment}
 use Rattle.program.proofs.Ended.{wanted_made}
 use Rattle.program.proofs.answering.answer_input.Goals as goal
@@ -9,9 +8,9 @@ returns-in-Err g c = inl (record { refusal = c.in-Err.refusal; why = c.in-Err.en
 
 pub returns : goal.returns
 returns g c = inr (record {
-  accounts = option_map g.P.NewFile.RoadWrite.seen c.in-Ok.accounts;
+  accounts = option_map g.S.Files.NewFile.RoadWrite.seen c.in-Ok.accounts;
   accounts_after = _;
-  answered = moment g.W.RoadWrite.seen g.E.RoadWrite.seen c.run_watched-status.new.host;
+  answered = moment g.S.Out.RoadWrite.seen g.S.Errors.RoadWrite.seen c.run_watched-status.new.host;
   created = record {
     tried = rw (c.run_watched-status.ensures.files) c.in-Ok.ensures.creates;
     wanted = wanted_made _ c.in-Ok.accounts _ c.in-Ok.ensures.wanted;

@@ -1,10 +1,5 @@
-use Rattle.std.proofs.Common.{◌≡◌, ◌≤◌, false, true, rules, subst, sym}
-use Rattle.std.proofs.Math.Path.{subst⁻¹}
+use Rattle.program.proofs.Words.{◌≡◌, ◌≤◌, false, true, rules, subst, sym, subst⁻¹, accounts_text, EndsAs, gate_is_open, EndsAccounts, HasAccounts, Notes}
 use Rattle.path_algebra.specs.Choices.{name_of}
-use Rattle.program.specs.Accounts.{accounts_text}
-use Rattle.fault_reports.specs.Reports.{EndsAs}
-use Rattle.program.specs.Runs.{gate_is_open}
-use Rattle.program.specs.Watching.{EndsAccounts, HasAccounts, Notes}
 use Rattle.program.proofs.Adding.{account}
 use Rattle.program.proofs.Ended.{shown_as}
 use Rattle.program.proofs.GivesUp.{finishes}
@@ -16,9 +11,9 @@ use Rattle.program.proofs.answering.run_watched.Goals as goal
 pub shape_of-host : goal.shape_of-host
 shape_of-host g c =
     let told = under_told c.args.method.now.chosen c.args.method.now.settings.now (g.I.BatchInput.is_read c.args.input.now)
-    (Notes g.P.NewFile.RoadWrite.seen g.E.RoadWrite.seen) _ _ _ _ c.run_chosen-batch.result
+    (Notes g.S.Files.NewFile.RoadWrite.seen g.S.Errors.RoadWrite.seen) _ _ _ _ c.run_chosen-batch.result
     c.run_chosen-batch.ensures.watched in
-    let noted = noted_all g.P.NewFile.RoadWrite.seen g.E.RoadWrite.seen told.0.0 _ _ told.0.1 in
+    let noted = noted_all g.S.Files.NewFile.RoadWrite.seen g.S.Errors.RoadWrite.seen told.0.0 _ _ told.0.1 in
     sym noted.same.1
 
 pub returns-clause-ends : goal.returns-clause-ends
@@ -28,8 +23,8 @@ returns-clause-ends g c =
     let is_read = g.I.BatchInput.is_read c.args.input.now in
     let ran = c.run_chosen-batch.ensures in
     let outcome = c.run_chosen-batch.result in
-    let seen = g.P.NewFile.RoadWrite.seen in
-    let shown = g.E.RoadWrite.seen in
+    let seen = g.S.Files.NewFile.RoadWrite.seen in
+    let shown = g.S.Errors.RoadWrite.seen in
     let errors = c.run_chosen-batch.new.watcher.errors.now in
     let told = under_told chosen how is_read (Notes seen shown) _ _ _ _ outcome ran.watched in
     let noted = noted_all seen shown told.0.0 _ _ told.0.1 in

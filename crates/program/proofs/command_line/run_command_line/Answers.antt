@@ -1,11 +1,13 @@
-use Rattle.std.proofs.Common.{inl, map, refl, rules, string_bytes}
+use Rattle.std.proofs.Common.{inl, map, refl, rules, string_bytes, subst}
+use Rattle.command_args.specs.declared.parsed.Subcommand.{Subcommand}
 use Rattle.command_args.specs.declared.parsed.Subcommand.TheVariants.{Solve, Bundle, Serve, Check, Order, Faults}
 use Rattle.command_args.specs.Asked.{AskFor}
 use Rattle.program.proofs.command_line.run_command_line.Goals as goal
 
 pub returns-in-Ok-Faults : goal.returns-in-Ok-Faults
 returns-in-Ok-Faults g c =
-    let asked : AskFor (map (λ word. string_bytes word) c.args.words.now) (Faults c.in-Ok-Faults.numbers) = search rules in
+    let asked : AskFor (map (λ word. string_bytes word) c.args.words.now) (Faults c.in-Ok-Faults.numbers) =
+    subst (λ (x : Subcommand). AskFor (map (λ word. string_bytes word) c.args.words.now) x) c.in-Ok-Faults.field-0-is c.in-Ok-Faults.ensures.asked in
     inl (
       Faults c.in-Ok-Faults.numbers,
       asked,

@@ -1,20 +1,14 @@
-use Rattle.std.proofs.Common.{◌≡◌, inl, inr, rules, subst}
-use Rattle.std.specs.Option.{option_map}
-use Rattle.std.specs.Prelude.{Result, is_some}
+use Rattle.program.proofs.Words.{◌≡◌, inl, inr, rules, subst, option_map, Result, is_some, IsRunFile, RunFault, opened_input, IsChosen}
 use Rattle.batch_inputs.specs.Inputs.{HasReadBundle}
 use Rattle.batch_inputs.specs.InputFaults.{IsBundleFile}
-use Rattle.batch_inputs.specs.Orders.{IsRunFile}
 use Rattle.batch_inputs.specs.Spelled.{IsBundleOf}
-use Rattle.batch_inputs.specs.declared.faults.RunFault.{RunFault}
-use Rattle.command_files.specs.Inputs.{opened_input}
-use Rattle.command_files.specs.Opening.{IsChosen}
 use Rattle.program.proofs.Ended.{after_bundle, watched_as}
 use Rattle.program.proofs.commands.bundle.Goals as goal
 
 pub returns : goal.returns
 returns g c =
     let wanted : c.is_some.result ≡ is_some c.args.args.now.watching.accounts = search rules in
-    let seen = opened_input g.P.File.RoadRead.seen g.P.Stdin.RoadRead.seen in
+    let seen = opened_input g.S.Files.File.RoadRead.seen g.S.Files.Stdin.RoadRead.seen in
     let text = seen c.in-Ok-open_to_bundle.opened.0 in
     let text_after = seen c.answer.ensures.0.bundle.now in
     let order = option_map seen c.in-Ok-open_to_bundle.opened.1 in
@@ -31,7 +25,7 @@ returns g c =
         order_after = order_after;
         answers = elim c.answer.ensures.2 [
           | inl refused ↦ inl refused
-          | inr it ↦ inr (watched_as _ _ _ _ _ _ _ _ _ _ _ _ _ it (after_bundle (IsBundleOf text.left) IsBundleFile IsRunFile order order_after _
+          | inr it ↦ inr (watched_as _ _ _ _ _ _ _ _ _ _ _ _ it (after_bundle (IsBundleOf text.left) IsBundleFile IsRunFile order order_after _
               (λ (o : Result (Unit {0}) RunFault). HasReadBundle text text_after o)))
         ];
       }),

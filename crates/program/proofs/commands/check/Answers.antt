@@ -3,13 +3,13 @@ use Rattle.program.proofs.commands.check.Goals as goal
 
 pub returns : goal.returns
 returns g c = inr (record {
-  first = _;
-  first_after = _;
-  second = _;
-  second_after = _;
-  third = _;
-  third_after = _;
-  order = c.in-Ok.ensures.opened;
+  roads = _;
+  roads_after = _;
+  questions = _;
+  questions_after = _;
+  answers = _;
+  answers_after = _;
+  inputs = c.in-Ok.ensures.opened;
   outcome = c.judge-judged.result;
   judged = c.judge-judged.ensures;
   ends = c.end_check.ensures;

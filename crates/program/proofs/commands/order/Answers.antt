@@ -6,7 +6,7 @@ returns g c = inr (record {
   roads = _;
   roads_after = _;
   input = c.in-Ok.ensures.opened;
-  outcome = c.order_input-outcome.result;
-  ran = c.order_input-outcome.ensures;
+  outcome = c.read_and_order-outcome.result;
+  ran = c.read_and_order-outcome.ensures;
   ends = c.end_with.ensures;
 })

@@ -1,6 +1,4 @@
-use Rattle.std.proofs.Common.{[], ◌∷◌, Ok, Err, Result, ap, map}
-use Rattle.service.proofs.Words.{fault_at, at_line, ended_list, MayGive}
-use Rattle.service.specs.Fed.{fault_text}
+use Rattle.service.proofs.Words.{[], ◌∷◌, Ok, Err, Result, ap, map, fault_at, at_line, ended_list, MayGive, fault_text}
 use Rattle.service.proofs.FedLaws.{replied_one, replied_then, fell_before}
 use Rattle.service.proofs.ServiceLaws.{ended_early}
 use Rattle.service.proofs.replies.send_done.Goals as goal

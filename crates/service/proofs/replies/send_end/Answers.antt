@@ -1,6 +1,4 @@
-use Rattle.std.proofs.Common.{Ok, Err, ap}
-use Rattle.service.proofs.Words.{fault_at, asked_of, MayGive}
-use Rattle.service.specs.Fed.{fault_text}
+use Rattle.service.proofs.Words.{Ok, Err, ap, fault_at, asked_of, MayGive, fault_text}
 use Rattle.service.proofs.FedLaws.{replied_one}
 use Rattle.service.proofs.replies.send_end.Goals as goal
 

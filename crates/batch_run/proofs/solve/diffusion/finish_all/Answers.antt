@@ -1,7 +1,5 @@
-use Rattle.std.proofs.Common.{rules, ◌≡◌, refl, true}
-use Rattle.station.specs.Station.{StationData}
+use Rattle.batch_run.proofs.Words.{rules, ◌≡◌, refl, true, StationData, moved_on, moved_all}
 use Rattle.worker_fleet.proofs.Carried.{All-first, All-rest}
-use Rattle.batch_run.proofs.Moved.{moved_on, moved_all}
 use Rattle.batch_run.proofs.solve.diffusion.finish_all.Goals as goal
 
 pub loop-station-init : goal.loop-station-init

@@ -1,6 +1,4 @@
-use Rattle.std.proofs.Common.{◌≡◌, ◌++◌, true}
-use Rattle.std.specs.List.{All}
-use Rattle.std.specs.Vec.Iter.{into_iter_items}
+use Rattle.batch_run.proofs.Words.{◌≡◌, ◌++◌, true, All, into_iter_items}
 use Rattle.batch_run.proofs.solve.diffusion.finish_all.Given as goal
 
 abbrev pub invariant-loop-station : goal.invariant-loop-station

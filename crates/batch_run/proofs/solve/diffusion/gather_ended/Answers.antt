@@ -1,5 +1,4 @@
-use Rattle.std.proofs.Common.{◌<◌, refl, subst}
-use Rattle.shard_store.specs.Setup.{SetupData}
+use Rattle.batch_run.proofs.Words.{◌<◌, refl, subst, SetupData}
 use Rattle.station.specs.Gather.{IsGatherFault}
 use Rattle.station.specs.declared.gathering.GatherFault.{GatherFault}
 use Rattle.batch_run.proofs.Reporting.{are_best, has_source, is_account}
@@ -11,24 +10,21 @@ gather-requires-after_bounds g c κs within = rw c.in_ok-finished.ensures c.requ
 
 pub tree_ahead-tree-requires-clause-source : goal.tree_ahead-tree-requires-clause-source
 tree_ahead-tree-requires-clause-source g c κs within =
-    let batch = c.args.batch.now in
-    has_source g.A.PathAlgebra.meaning batch.algebra batch.run.now.settings.now batch.graph.now c.args.plan.now c.args.ended c.in-Ok.gathered c.requires.ended c.in-Ok.ensures.gathered.1
+    has_source g.A.PathAlgebra.meaning c.args.over.now c.args.plan.now c.args.ended c.in-Ok.gathered c.requires.ended c.in-Ok.ensures.gathered.1
 
 pub tree_ahead-tree-requires-clause-labels : goal.tree_ahead-tree-requires-clause-labels
 tree_ahead-tree-requires-clause-labels g c κs within =
-    let batch = c.args.batch.now in
-    are_best g.A.PathAlgebra.meaning batch.algebra batch.run.now.settings.now batch.graph.now c.args.plan.now c.args.ended c.in-Ok.gathered c.requires.ended c.in-Ok.ensures.gathered.1
+    are_best g.A.PathAlgebra.meaning c.args.over.now c.args.plan.now c.args.ended c.in-Ok.gathered c.requires.ended c.in-Ok.ensures.gathered.1
 
 pub returns-in-Ok : goal.returns-in-Ok
 returns-in-Ok g c =
-    let batch = c.args.batch.now in
     let found = c.in-Ok.ensures.gathered.1 in (
       record {
         labelling = record {
-          labels = are_best g.A.PathAlgebra.meaning batch.algebra batch.run.now.settings.now batch.graph.now c.args.plan.now c.args.ended c.in-Ok.gathered c.requires.ended found;
+          labels = are_best g.A.PathAlgebra.meaning c.args.over.now c.args.plan.now c.args.ended c.in-Ok.gathered c.requires.ended found;
           tree = c.tree_ahead-tree.ensures;
         };
-        account = is_account g.A.PathAlgebra.meaning batch.algebra batch.run.now.settings.now batch.graph.now c.args.plan.now c.args.ended c.in-Ok.gathered c.requires.ended found c.requires.plan;
+        account = is_account g.A.PathAlgebra.meaning c.args.over.now c.args.plan.now c.args.ended c.in-Ok.gathered c.requires.ended found c.requires.plan;
       },
       refl,
       rw c.in_ok-finished.ensures at c.in-Ok.ensures.counted,

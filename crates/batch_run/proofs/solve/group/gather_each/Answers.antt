@@ -1,18 +1,9 @@
-use Rattle.std.proofs.Common.{◌∙◌, ap, subst}
-use Rattle.std.specs.Prelude.{IfOk}
-use Rattle.std.specs.List.{AllZip}
+use Rattle.batch_run.proofs.Words.{◌∙◌, ap, subst, IfOk, AllZip, NamedLft, crosses, AllZip-weaken, gathered, IsGatheredFromIn, EndedDiffusion, GatheredDiffusion}
 use denote.Param.{copied, param}
 use denote.Exit.{no}
 use denote.Param.Send.{param_send, arg_send, sendable}
-use denote.Ref.{NamedLft}
-use Rattle.std.proofs.Crossing.{crosses}
 use Rattle.std.specs.declared.clone.Clone as clone
-use Rattle.rayon.proofs.ListFacts.{AllZip-weaken}
 use Rattle.rayon.specs.Lists.{vec_items}
-use Rattle.question_solvers.proofs.Searches.{gathered}
-use Rattle.batch_run.specs.declared.solve.diffusion.EndedDiffusion.{EndedDiffusion}
-use Rattle.batch_run.specs.declared.solve.diffusion.GatheredDiffusion.{GatheredDiffusion}
-use Rattle.batch_run.specs.Diffusions.{IsGatheredFrom}
 use Rattle.batch_run.proofs.Sending.{ended_send, gather_send}
 use Rattle.batch_run.proofs.solve.group.gather_each.Goals as goal
 
@@ -47,11 +38,10 @@ collect-requires-send-Self g c κs within =
 
 pub returns : goal.returns
 returns g c =
-    let batch = c.args.batch.now in
-    let came = λ (e : EndedDiffusion g.row.A.Denot g.row.A-Value.Denot) (d : GatheredDiffusion g.row.A-Value.Denot). IsGatheredFrom (g.A.PathAlgebra.meaning batch.algebra) batch.run.now.settings.now batch.graph.now e d in
+    let came = λ (e : EndedDiffusion g.row.A.Denot g.row.A-Value.Denot) (d : GatheredDiffusion g.row.A-Value.Denot). IsGatheredFromIn g.A.PathAlgebra.meaning c.args.over.now e d in
     let done = c.in_ok-gathered.ensures in
     let chain = done.1 in
     let all = chain.1 ∙ ap (λ it. vec_items it.base) c.map.ensures.base ∙ ap (λ it. vec_items it) c.with_min_len.ensures.base ∙ c.into_par_iter.ensures in
     let ran = AllZip-weaken _ (λ e r. IfOk r (came e))
-    (λ e r found. subst (λ f. IfOk r (IsGatheredFrom (g.A.PathAlgebra.meaning f.0.now.algebra) f.0.now.run.now.settings.now f.0.now.graph.now e)) c.map.ensures.f found) chain.0 done.0 chain.2 in
+    (λ e r found. subst (λ f. IfOk r (IsGatheredFromIn g.A.PathAlgebra.meaning f.0.now e)) c.map.ensures.f found) chain.0 done.0 chain.2 in
     gathered came c.args.ended.items done.0 c.in_ok-gathered.gathered (subst (λ l. AllZip (λ e r. IfOk r (came e)) l done.0) all ran) done.2

@@ -1,7 +1,4 @@
-use Rattle.std.proofs.Common.{◌∙◌, ◌∷◌, ◌++◌, [], ap, arith, length, map, refl, sym}
-use Rattle.std.proofs.lemmas.List.{map-append, take_all, take_more}
-use Rattle.batch_run.specs.declared.solve.diffusion.EndedDiffusion.{EndedDiffusion}
-use Rattle.batch_run.proofs.Moved.{moved_on, moved_all}
+use Rattle.batch_run.proofs.Words.{◌∙◌, ◌∷◌, ◌++◌, [], ap, arith, length, map, refl, sym, map-append, take_all, take_more, EndedDiffusion, moved_on, moved_all}
 use Rattle.batch_run.proofs.solve.group.pair_all.Goals as goal
 
 pub loop-source-preserved : goal.loop-source-preserved

@@ -1,7 +1,4 @@
-use Rattle.std.proofs.Common.{rules, ◌≡◌, ◌∙◌, ap, length, map, refl}
-use Rattle.std.proofs.lemmas.List.{length-map}
-use Rattle.std.specs.Vec.Iter.{into_iter_items}
-use Rattle.batch_run.proofs.Moved.{moved_on, moved_all}
+use Rattle.batch_run.proofs.Words.{rules, ◌≡◌, ◌∙◌, ap, length, map, refl, length-map, into_iter_items, moved_on, moved_all}
 use Rattle.batch_run.proofs.solve.group.part_all.Goals as goal
 use Rattle.batch_run.proofs.solve.group.part_all.Goals.{In-None}
 

@@ -1,5 +1,4 @@
-use Rattle.std.proofs.Common.{◌≡◌, ◌++◌, map}
-use Rattle.std.specs.Vec.Iter.{into_iter_items}
+use Rattle.batch_run.proofs.Words.{◌≡◌, ◌++◌, map, into_iter_items}
 use Rattle.batch_run.proofs.solve.group.part_all.Given as goal
 
 abbrev pub invariant-loop-diffusion : goal.invariant-loop-diffusion

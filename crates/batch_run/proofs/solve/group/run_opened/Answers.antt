@@ -1,12 +1,7 @@
 use Rattle.std.proofs.Common.{inl, inr, rules, vec_len, ℕ, ◌≡◌, ◌∙◌, ◌<◌, ap, refl, sym, get_or, length}
-use Rattle.std.specs.List.{All}
-use Rattle.std.proofs.lemmas.List.{length-map}
+use Rattle.batch_run.proofs.Words.{All, length-map, err_from_is_err_and, IsEndedIn, SetupData, setup_of, AreOpened}
 use Rattle.std.proofs.lemmas.Slice.Zip.{AllZip-long}
-use Rattle.std.proofs.lemmas.Result.{err_from_is_err_and}
 use Rattle.batch_run.specs.Cut.{ahead_of, order_of}
-use Rattle.batch_run.specs.Diffusions.{IsEnded}
-use Rattle.shard_store.specs.Setup.{SetupData, setup_of}
-use Rattle.station.specs.Opened.{AreOpened}
 use Rattle.batch_run.proofs.Together.{CameTo, all_ended, came_to, opened_at, opened_placed, run_ended}
 use Rattle.batch_run.proofs.solve.group.run_opened.Goals as goal
 use Rattle.batch_run.proofs.solve.group.run_opened.Goals.{In_ok-floors, In_ok-ended, In_ok-gathered}
@@ -21,12 +16,12 @@ lens_are : (g : _) (c : In_ok-floors g) → vec_len c.in_ok-floors.opened ≡ le
 lens_are g c = let l = lists_are g c in search rules
 
 abbrev setup : (g : _) (c : In_ok-floors g) → ℕ → SetupData g.row.A.Denot
-setup g c source = setup_of c.args.batch.now.algebra c.args.batch.now.graph.now source c.args.plan.now (order_of c.args.batch.now.run.now.settings.now)
+setup g c source = setup_of c.args.over.now.batch.now.task.algebra c.args.over.now.graph.now source c.args.plan.now (order_of c.args.over.now.batch.now.settings.now)
 
 opened : (g : _) (c : In_ok-floors g) → (q s : ℕ) (f : _) (v : _) → q < length c.args.sources.now →
-    AreOpened g.A.PathAlgebra.meaning (setup g c (get_or c.args.sources.now q s)) (ahead_of c.args.batch.now.run.now.settings.now c.args.batch.now.graph.now) (get_or c.in_ok-floors.floors.items q f) (get_or c.in_ok-floors.opened.items q v).items
+    AreOpened g.A.PathAlgebra.meaning (setup g c (get_or c.args.sources.now q s)) (ahead_of c.args.over.now.batch.now.settings.now c.args.over.now.graph.now) (get_or c.in_ok-floors.floors.items q f) (get_or c.in_ok-floors.opened.items q v).items
 opened g c q s f v low = rw (c.in_ok-floors.ensures.floors, c.in_ok-floors.ensures.stations)
-    (opened_at (λ source f v. AreOpened g.A.PathAlgebra.meaning (setup g c source) (ahead_of c.args.batch.now.run.now.settings.now c.args.batch.now.graph.now) f v.items) c.args.sources.now c.args.opened.items c.requires.opened q s f v low)
+    (opened_at (λ source f v. AreOpened g.A.PathAlgebra.meaning (setup g c source) (ahead_of c.args.over.now.batch.now.settings.now c.args.over.now.graph.now) f v.items) c.args.sources.now c.args.opened.items c.requires.opened q s f v low)
 
 pub run_group-requires-clause-width : goal.run_group-requires-clause-width
 run_group-requires-clause-width g c κs within = let at = (goal.at.run_group-requires-clause-width g c).In_ok-floors in rw c.as_slice.ensures.value (floors_are g at ∙ sym (lens_are g at))
@@ -47,14 +42,14 @@ pair_all-requires-clause-stations g c κs within = let n = lens_are g (goal.at.p
 -- all ended
 ended : (g : _) (c : In_ok-ended g) → length c.in_ok-floors.floors.items ≡ length c.args.sources.now → vec_len c.in_ok-floors.opened ≡ length c.args.sources.now
     → ((q s : ℕ) (f : _) (v : _) → q < length c.args.sources.now →
-    AreOpened g.A.PathAlgebra.meaning (setup_of c.args.batch.now.algebra c.args.batch.now.graph.now (get_or c.args.sources.now q s) c.args.plan.now (order_of c.args.batch.now.run.now.settings.now))
-    (ahead_of c.args.batch.now.run.now.settings.now c.args.batch.now.graph.now) (get_or c.in_ok-floors.floors.items q f) (get_or c.in_ok-floors.opened.items q v).items)
-    → All (IsEnded c.args.batch.now.algebra c.args.batch.now.run.now.settings.now c.args.batch.now.graph.now c.args.plan.now) c.in_ok-ended.ended.items
+    AreOpened g.A.PathAlgebra.meaning (setup_of c.args.over.now.batch.now.task.algebra c.args.over.now.graph.now (get_or c.args.sources.now q s) c.args.plan.now (order_of c.args.over.now.batch.now.settings.now))
+    (ahead_of c.args.over.now.batch.now.settings.now c.args.over.now.graph.now) (get_or c.in_ok-floors.floors.items q f) (get_or c.in_ok-floors.opened.items q v).items)
+    → All (IsEndedIn c.args.over.now c.args.plan.now) c.in_ok-ended.ended.items
 ended g c floors lens each =
-    let batch = c.args.batch.now in
+    let over = c.args.over.now in
     let paired = c.in_ok-ended.ensures in
-    all_ended batch.algebra batch.run.now.settings.now batch.graph.now c.args.plan.now c.in_ok-ended.ended.items (λ q s f v low. rw (paired.sources, paired.floors, paired.stations)
-    (run_ended g.A.PathAlgebra.meaning (λ q. setup_of batch.algebra batch.graph.now (get_or c.args.sources.now q s) c.args.plan.now (order_of batch.run.now.settings.now)) c.in_ok-floors.floors.items c.in_ok-floors.opened.items
+    all_ended c.args.over.now c.args.plan.now c.in_ok-ended.ended.items (λ q s f v low. rw (paired.sources, paired.floors, paired.stations)
+    (run_ended g.A.PathAlgebra.meaning (λ q. setup_of over.batch.now.task.algebra over.graph.now (get_or c.args.sources.now q s) c.args.plan.now (order_of over.batch.now.settings.now)) c.in_ok-floors.floors.items c.in_ok-floors.opened.items
     (length c.args.sources.now) floors (λ q f v low. each q s f v low) c.in_ok-lists.lists.items
     (λ q k d e low. c.in_ok-lists.ensures.all q k d e (rw lens low))
     (λ q d low. rw c.as_slice.ensures.value at (c.in_ok-lists.ensures.done q d (rw lens low)))
@@ -65,36 +60,31 @@ gather_each-requires-clause-ended g c κs within =
     let at = goal.at.gather_each-requires-clause-ended g c in ended g at.In_ok-ended (floors_are g at.In_ok-floors) (lens_are g at.In_ok-floors) (opened g at.In_ok-floors)
 
 -- what each came to
-came : (g : _) (c : In_ok-gathered g) → All (IsEnded c.args.batch.now.algebra c.args.batch.now.run.now.settings.now c.args.batch.now.graph.now c.args.plan.now) c.in_ok-ended.ended.items
-    → CameTo (g.A.PathAlgebra.meaning c.args.batch.now.algebra) c.args.batch.now.algebra c.args.batch.now.run.now.settings.now c.args.batch.now.graph.now c.args.plan.now c.in_ok-ended.ended.items c.in_ok-gathered.gathered.items
-came g c all = came_to (g.A.PathAlgebra.meaning c.args.batch.now.algebra) _ _ _ _ _ _ all c.in_ok-gathered.ensures
+came : (g : _) (c : In_ok-gathered g) → All (IsEndedIn c.args.over.now c.args.plan.now) c.in_ok-ended.ended.items
+    → CameTo g.A.PathAlgebra.meaning c.args.over.now c.args.plan.now c.in_ok-ended.ended.items c.in_ok-gathered.gathered.items
+came g c all = came_to g.A.PathAlgebra.meaning c.args.over.now c.args.plan.now _ _ all c.in_ok-gathered.ensures
 
-pub returns-clause-gathered : goal.returns-clause-gathered
-returns-clause-gathered g c =
-    let at = goal.at.returns-clause-gathered g c in
-    (came g at.In_ok-gathered (ended g at.In_ok-ended (floors_are g at.In_ok-floors) (lens_are g at.In_ok-floors) (opened g at.In_ok-floors))).0
-
-pub returns-clause-sources : goal.returns-clause-sources
-returns-clause-sources g c =
-    let at = goal.at.returns-clause-sources g c in
-    (came g at.In_ok-gathered (ended g at.In_ok-ended (floors_are g at.In_ok-floors) (lens_are g at.In_ok-floors) (opened g at.In_ok-floors))).1 ∙ c.in_ok-ended.ensures.sources
-
-pub returns-clause-counted : goal.returns-clause-counted
-returns-clause-counted g c =
-    let at = goal.at.returns-clause-counted g c in
-    rw (c.in_ok-ended.ensures.floors, c.in_ok-floors.ensures.floors) at
-    ((came g at.In_ok-gathered (ended g at.In_ok-ended (floors_are g at.In_ok-floors) (lens_are g at.In_ok-floors) (opened g at.In_ok-floors))).2)
+pub returns : goal.returns
+returns g c =
+    let at = goal.at.returns g c in
+    let all = came g at.In_ok-gathered (ended g at.In_ok-ended (floors_are g at.In_ok-floors) (lens_are g at.In_ok-floors) (opened g at.In_ok-floors)) in
+    record {
+      gathered = all.0;
+      sources = all.1 ∙ c.in_ok-ended.ensures.sources;
+      counted = rw (c.in_ok-ended.ensures.floors, c.in_ok-floors.ensures.floors) at all.2;
+      stops = tt;
+    }
 
 pub returns-in_err-lists-clause-stops : goal.returns-in_err-lists-clause-stops
 returns-in_err-lists-clause-stops g c =
     let p = err_from_is_err_and c.from_residual-in_err-lists.result c.from_residual-in_err-lists.ensures.1 in
     let at = (goal.at.returns-in_err-lists-clause-stops g c).In_ok-floors in
-    let batch = c.args.batch.now in
+    let over = c.args.over.now in
     rw (p.1, p.2) (elim c.in_err-lists.ensures.fault [
       | inl memory ↦ inl memory
       | inr stop ↦ inr (
         record {
-          ahead = ahead_of batch.run.now.settings.now batch.graph.now;
+          ahead = ahead_of over.batch.now.settings.now over.graph.now;
           count = length c.args.sources.now;
           few = c.requires.width;
           setup = λ q. setup g at (get_or c.args.sources.now q 0);

@@ -1,9 +1,6 @@
-use Rattle.std.proofs.Common.{List, ℕ, ◌≡◌, ◌∙◌, ◌+◌, ◌<◌, ◌≤◌, length, map, get_or, subst, sym, arith}
+use Rattle.batch_run.proofs.Words.{List, ℕ, ◌≡◌, ◌∙◌, ◌+◌, ◌<◌, ◌≤◌, length, map, get_or, subst, sym, arith, err_from_is_err_and, FromSource, Question, IsNextSource, Account, Reported, ReportedPrefix}
 use Rattle.std.proofs.lemmas.List.{take_all, get_or_default}
-use Rattle.std.proofs.lemmas.Result.{err_from_is_err_and}
-use Rattle.road_files.specs.Asked.{FromSource, Question, asked_of}
-use Rattle.batch_run.specs.Diffusions.{IsLabelling, IsNextSource}
-use Rattle.batch_run.specs.Reports.{Account, Reported, ReportedPrefix}
+use Rattle.batch_run.specs.Batches.{IsLabellingIn, questions_in}
 use Rattle.batch_run.proofs.SourceByMore.{first_source, source_more}
 use Rattle.batch_run.proofs.SourcesToCome.{has_source, next_source, some_sources, sources_at, sources_over}
 use Rattle.batch_run.proofs.Reporting.{prefix_if_err, prefix_kept, sources_begun, sources_more, sources_stopped, sources_ended}
@@ -12,19 +9,19 @@ use Rattle.batch_run.proofs.solve.merge.merge_all.Goals.{In_ok-other}
 
 pub next_labels-requires-clause-source : goal.next_labels-requires-clause-source
 next_labels-requires-clause-source g c κs within =
-    has_source (asked_of c.args.batch.now.questions.now).questions c.args.i c.requires.place c.sources-sources.result.now c.sources-sources.ensures 0
-    (some_sources c.args.batch.now.graph.now.vertices c.args.batch.now.questions.now c.args.i c.args.batch.now.within c.requires.place c.sources-sources.result.now c.sources-sources.ensures)
+    has_source (questions_in c.args.over.now) c.args.i c.requires.place c.sources-sources.result.now c.sources-sources.ensures 0
+    (some_sources c.args.over.now.graph.now.vertices c.args.over.now.batch.now.task.questions.now c.args.i c.args.over.now.within c.requires.place c.sources-sources.result.now c.sources-sources.ensures)
 
 pub next_labels-requires-in-loop-j-clause-source : goal.next_labels-requires-in-loop-j-clause-source
 next_labels-requires-in-loop-j-clause-source g c κs within =
-    has_source (asked_of c.args.batch.now.questions.now).questions c.args.i c.requires.place c.sources-sources.result.now c.sources-sources.ensures c.loop-j.j c.loop-j-test.true
+    has_source (questions_in c.args.over.now) c.args.i c.requires.place c.sources-sources.result.now c.sources-sources.ensures c.loop-j.j c.loop-j-test.true
 
 pub loop-j-init : goal.loop-j-init
 loop-j-init g c =
-    let qs = (asked_of c.args.batch.now.questions.now).questions in
+    let qs = questions_in c.args.over.now in
     let all = sources_at qs c.args.i in
     let are = λ (d : Question). sym (c.sources-sources.ensures (FromSource 0)) ∙ c.sources-sources.ensures d in
-    let some = some_sources c.args.batch.now.graph.now.vertices c.args.batch.now.questions.now c.args.i c.args.batch.now.within c.requires.place all are in
+    let some = some_sources c.args.over.now.graph.now.vertices c.args.over.now.batch.now.task.questions.now c.args.i c.args.over.now.within c.requires.place all are in
     let source = get_or all 0 0 in
     let is = get_or_default all 0 0 source some in
     let next = next_source qs c.args.i c.requires.place all are 0 source some is in
@@ -32,25 +29,23 @@ loop-j-init g c =
     record {
       best = rw first (c.in_ok-merged.ensures.labels source next);
       ready = c.in_ok-merged.ensures.ready;
-      reported = sources_begun (g.A.PathAlgebra.meaning c.args.batch.now.algebra) c.args.batch.now.run.now.settings.now c.args.batch.now.graph.now g.O.Watcher.may_become
-          (c.args.i + 1) all source _ _ first (c.in_ok-merged.ensures.reported source next);
+      reported = sources_begun _ _ _ _ (c.args.i + 1) all source _ _ first (c.in_ok-merged.ensures.reported source next);
     }
 
 -- the source at place j
 abbrev source : (g : _) (c : In_ok-other g) → ℕ
-source g c = get_or (sources_at (asked_of c.args.batch.now.questions.now).questions c.args.i) c.loop-j.j 0
+source g c = get_or (sources_at (questions_in c.args.over.now) c.args.i) c.loop-j.j 0
 
-low : (g : _) (c : In_ok-other g) → c.loop-j.j < length (sources_at (asked_of c.args.batch.now.questions.now).questions c.args.i)
+low : (g : _) (c : In_ok-other g) → c.loop-j.j < length (sources_at (questions_in c.args.over.now) c.args.i)
 low g c = subst (λ (xs : List ℕ). c.loop-j.j < length xs) (c.sources-sources.ensures (FromSource 0)) c.loop-j-test.true
 
-is : (g : _) (c : In_ok-other g) → source g c ≡ get_or (sources_at (asked_of c.args.batch.now.questions.now).questions c.args.i) c.loop-j.j (source g c)
-is g c = get_or_default (sources_at (asked_of c.args.batch.now.questions.now).questions c.args.i) c.loop-j.j 0 (source g c) (low g c)
+is : (g : _) (c : In_ok-other g) → source g c ≡ get_or (sources_at (questions_in c.args.over.now) c.args.i) c.loop-j.j (source g c)
+is g c = get_or_default (sources_at (questions_in c.args.over.now) c.args.i) c.loop-j.j 0 (source g c) (low g c)
 
 -- the next diffusion is from there
-next : (g : _) (c : In_ok-other g) → IsNextSource (asked_of c.args.batch.now.questions.now).questions c.args.i c.loop-j.j (source g c)
+next : (g : _) (c : In_ok-other g) → IsNextSource (questions_in c.args.over.now) c.args.i c.loop-j.j (source g c)
 next g c =
-    let qs = (asked_of c.args.batch.now.questions.now).questions in
-    next_source qs c.args.i c.requires.place (sources_at qs c.args.i) (λ (d : Question). sym (c.sources-sources.ensures (FromSource 0)) ∙ c.sources-sources.ensures d) c.loop-j.j (source g c) (low g c) (is g c)
+    next_source (questions_in c.args.over.now) c.args.i c.requires.place (sources_at (questions_in c.args.over.now) c.args.i) (λ (d : Question). sym (c.sources-sources.ensures (FromSource 0)) ∙ c.sources-sources.ensures d) c.loop-j.j (source g c) (low g c) (is g c)
 
 pub merge-requires-after_bounds : goal.merge-requires-after_bounds
 merge-requires-after_bounds g c κs within =
@@ -60,53 +55,44 @@ merge-requires-after_bounds g c κs within =
 pub loop-j-preserved : goal.loop-j-preserved
 loop-j-preserved g c =
     let at = (goal.at.loop-j-preserved g c).In_ok-other in
-    let all = sources_at (asked_of c.args.batch.now.questions.now).questions c.args.i in
+    let all = sources_at (questions_in c.args.over.now) c.args.i in
     record {
       best = record {
-        labels = source_more (g.A.PathAlgebra.meaning c.args.batch.now.algebra) c.laws_hold.ensures.lawful c.args.batch.now.graph.now g.A.PathAlgebra.order c.laws_hold.ensures.order
+        labels = source_more (g.A.PathAlgebra.meaning c.args.over.now.batch.now.task.algebra) c.laws_hold.ensures.lawful c.args.over.now.graph.now g.A.PathAlgebra.order c.laws_hold.ensures.order
             all c.loop-j.j (source g at) c.loop-j.merged.labels c.in_ok-other.other.labels c.merge.new.self (low g at) (is g at)
             c.loop-j.invariant.best.labels (c.in_ok-other.ensures.labels (source g at) (next g at)).labels c.merge.ensures.count c.merge.ensures.labels;
         tree = tt;
       };
       ready = c.in_ok-other.ensures.ready;
-      reported = sources_more (g.A.PathAlgebra.meaning c.args.batch.now.algebra) c.args.batch.now.run.now.settings.now c.args.batch.now.graph.now g.O.Watcher.may_become
-          (c.args.i + 1) all c.loop-j.j (source g at) _ _ _
-          (low g at) (is g at) c.loop-j.invariant.reported (c.in_ok-other.ensures.reported (source g at) (next g at));
+      reported = sources_more _ _ _ _ (c.args.i + 1) all c.loop-j.j (source g at) _ _ _ (low g at) (is g at) c.loop-j.invariant.reported (c.in_ok-other.ensures.reported (source g at) (next g at));
     }
 
-pub returns-clause-labels : goal.returns-clause-labels
-returns-clause-labels g c = λ d.
-    let all = sources_at (asked_of c.args.batch.now.questions.now).questions c.args.i in
+pub returns : goal.returns
+returns g c =
+    let qs = questions_in c.args.over.now in
+    let all = sources_at qs c.args.i in
     let own = c.sources-sources.ensures (FromSource 0) in
-    subst (λ (xs : List ℕ). IsLabelling (g.A.PathAlgebra.meaning c.args.batch.now.algebra) c.args.batch.now.graph.now xs c.loop-j.merged)
-    (take_all c.loop-j.j all (subst (λ (xs : List ℕ). length xs ≤ c.loop-j.j) own c.loop-j-test.false) ∙ sym own ∙ c.sources-sources.ensures d) c.loop-j.invariant.best
-
-pub returns-clause-ready : goal.returns-clause-ready
-returns-clause-ready g c =
-    let some = (some_sources c.args.batch.now.graph.now.vertices c.args.batch.now.questions.now c.args.i c.args.batch.now.within c.requires.place c.sources-sources.result.now c.sources-sources.ensures) in
-    let over : c.loop-j.j ≡ length c.sources-sources.result.now = omega (arith, some, c.loop-j-test.false, c.loop-j.auto.j-end) in
-    rw (← sources_over (asked_of c.args.batch.now.questions.now).questions c.args.i c.requires.place c.sources-sources.result.now c.sources-sources.ensures c.loop-j.j over) c.loop-j.invariant.ready
-
-pub returns-clause-reported : goal.returns-clause-reported
-returns-clause-reported g c = λ d.
-    let all = sources_at (asked_of c.args.batch.now.questions.now).questions c.args.i in
-    let own = c.sources-sources.ensures (FromSource 0) in
-    subst (λ (xs : List ℕ). Reported (g.A.PathAlgebra.meaning c.args.batch.now.algebra) c.args.batch.now.run.now.settings.now c.args.batch.now.graph.now g.O.Watcher.may_become
-    (map (Account (c.args.i + 1)) xs) c.args.watcher.now c.loop-j.watcher) (sym own ∙ c.sources-sources.ensures d)
-    (sources_ended (g.A.PathAlgebra.meaning c.args.batch.now.algebra) c.args.batch.now.run.now.settings.now c.args.batch.now.graph.now g.O.Watcher.may_become
-    (c.args.i + 1) all c.loop-j.j _ _ (subst (λ (xs : List ℕ). length xs ≤ c.loop-j.j) own c.loop-j-test.false) c.loop-j.invariant.reported)
+    let are = λ (d : Question). sym own ∙ c.sources-sources.ensures d in
+    let ended = subst (λ (xs : List ℕ). length xs ≤ c.loop-j.j) own c.loop-j-test.false in
+    let some = some_sources c.args.over.now.graph.now.vertices c.args.over.now.batch.now.task.questions.now c.args.i c.args.over.now.within c.requires.place c.sources-sources.result.now c.sources-sources.ensures in
+    let last : c.loop-j.j ≡ length c.sources-sources.result.now = omega (arith, some, c.loop-j-test.false, c.loop-j.auto.j-end) in
+    record {
+      labels = λ d. subst (λ (xs : List ℕ). IsLabellingIn g.A.PathAlgebra.meaning c.args.over.now xs c.loop-j.merged) (take_all c.loop-j.j all ended ∙ are d) c.loop-j.invariant.best;
+      ready = rw (← sources_over qs c.args.i c.requires.place c.sources-sources.result.now c.sources-sources.ensures c.loop-j.j last) c.loop-j.invariant.ready;
+      stops = tt;
+      reported = λ d. subst (λ (xs : List ℕ). Reported (g.A.PathAlgebra.meaning c.args.over.now.batch.now.task.algebra) c.args.over.now.batch.now.settings.now c.args.over.now.graph.now g.O.Watcher.may_become
+          (map (Account (c.args.i + 1)) xs) c.args.watcher.now c.loop-j.watcher) (are d) (sources_ended _ _ _ _ (c.args.i + 1) all c.loop-j.j _ _ ended c.loop-j.invariant.reported);
+    }
 
 pub returns-in_err-other-clause-reported : goal.returns-in_err-other-clause-reported
 returns-in_err-other-clause-reported g c =
     let fault = err_from_is_err_and c.from_residual-in_err-other.result c.from_residual-in_err-other.ensures.1 in
-    λ d. prefix_if_err (g.A.PathAlgebra.meaning c.args.batch.now.algebra) c.args.batch.now.run.now.settings.now c.args.batch.now.graph.now g.O.Watcher.may_become _ _ _ _ fault.0 fault.1 (
-    subst (λ (xs : List ℕ). ReportedPrefix (g.A.PathAlgebra.meaning c.args.batch.now.algebra) c.args.batch.now.run.now.settings.now c.args.batch.now.graph.now g.O.Watcher.may_become
+    λ d. prefix_if_err _ _ _ _ _ _ _ _ fault.0 fault.1 (
+    subst (λ (xs : List ℕ). ReportedPrefix (g.A.PathAlgebra.meaning c.args.over.now.batch.now.task.algebra) c.args.over.now.batch.now.settings.now c.args.over.now.graph.now g.O.Watcher.may_become
     (map (Account (c.args.i + 1)) xs) c.args.watcher.now c.next_labels-in-loop-j.new.watcher) (sym (c.sources-sources.ensures (FromSource 0)) ∙ c.sources-sources.ensures d)
-    (sources_stopped (g.A.PathAlgebra.meaning c.args.batch.now.algebra) c.args.batch.now.run.now.settings.now c.args.batch.now.graph.now g.O.Watcher.may_become
-    (c.args.i + 1) (sources_at (asked_of c.args.batch.now.questions.now).questions c.args.i) c.loop-j.j _ _ _ c.loop-j.invariant.reported c.in_err-other.ensures.unreported))
+    (sources_stopped _ _ _ _ (c.args.i + 1) (sources_at (questions_in c.args.over.now) c.args.i) c.loop-j.j _ _ _ c.loop-j.invariant.reported c.in_err-other.ensures.unreported))
 
 pub returns-in_err-merged-clause-reported : goal.returns-in_err-merged-clause-reported
 returns-in_err-merged-clause-reported g c =
     let fault = err_from_is_err_and c.from_residual.result c.from_residual.ensures.1 in
-    λ d. prefix_if_err (g.A.PathAlgebra.meaning c.args.batch.now.algebra) c.args.batch.now.run.now.settings.now c.args.batch.now.graph.now g.O.Watcher.may_become _ _ _ _ fault.0 fault.1
-    (prefix_kept (g.A.PathAlgebra.meaning c.args.batch.now.algebra) c.args.batch.now.run.now.settings.now c.args.batch.now.graph.now g.O.Watcher.may_become _ _ _ c.in_err-merged.ensures.unreported)
+    λ d. prefix_if_err _ _ _ _ _ _ _ _ fault.0 fault.1 (prefix_kept _ _ _ _ _ _ _ c.in_err-merged.ensures.unreported)

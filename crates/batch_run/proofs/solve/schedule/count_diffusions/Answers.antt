@@ -1,5 +1,4 @@
-use Rattle.std.proofs.Common.{rules, arith, ◌<◌, ◌+◌, ap, length}
-use Rattle.road_files.specs.Asked.{asked_of, FromSource}
+use Rattle.batch_run.proofs.Words.{rules, arith, ◌<◌, ◌+◌, ap, length, asked_of, FromSource}
 use Rattle.batch_run.proofs.Reporting.{none_counted}
 use Rattle.batch_run.proofs.SourcesToCome.{counted_more, counted_all, few_sources}
 use Rattle.batch_run.proofs.solve.schedule.count_diffusions.Goals as goal

@@ -1,6 +1,4 @@
-use Rattle.std.proofs.Common.{◌≡◌, ◌≤◌, ◌*◌, length, take}
-use Rattle.std.specs.List.{flat_map}
-use Rattle.road_files.specs.Asked.{asked_of, sources_of}
+use Rattle.batch_run.proofs.Words.{◌≡◌, ◌≤◌, ◌*◌, length, take, flat_map, asked_of, sources_of}
 use Rattle.batch_run.proofs.solve.schedule.count_diffusions.Given as goal
 
 abbrev pub invariant-loop-i : goal.invariant-loop-i

@@ -1,6 +1,5 @@
-use Rattle.std.proofs.Common.{rules, arith, ◌≡◌, ◌-◌, ◌<◌, ◌++◌, ◌∙◌, ap, drop, length, take}
+use Rattle.batch_run.proofs.Words.{rules, arith, ◌≡◌, ◌-◌, ◌<◌, ◌++◌, ◌∙◌, ap, drop, length, take, asked_of, FromSource}
 use Rattle.std.proofs.lemmas.List.{length-drop, take_all}
-use Rattle.road_files.specs.Asked.{asked_of, FromSource}
 use Rattle.batch_run.proofs.SourcesToCome.{first_collected, kept_few, more_collected}
 use Rattle.batch_run.proofs.solve.upcoming.upcoming.Goals as goal
 

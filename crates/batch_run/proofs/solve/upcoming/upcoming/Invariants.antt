@@ -1,5 +1,4 @@
-use Rattle.std.proofs.Common.{◌≤◌, length}
-use Rattle.road_files.specs.Asked.{asked_of}
+use Rattle.batch_run.proofs.Words.{◌≤◌, length, asked_of}
 use Rattle.batch_run.proofs.SourcesToCome.{AreCollected}
 use Rattle.batch_run.proofs.solve.upcoming.upcoming.Given as goal
 

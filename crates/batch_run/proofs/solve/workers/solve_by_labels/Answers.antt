@@ -1,45 +1,40 @@
-use Rattle.std.proofs.Common.{sym, subst, List, ℕ}
-use Rattle.std.specs.List.{All}
-use Rattle.road_graph.specs.GraphData.{HasVertex}
-use Rattle.road_files.specs.Asked.{FromSource}
+use Rattle.batch_run.proofs.Words.{sym, subst, List, ℕ, All, HasVertex, FromSource, AreBest, IsTree}
 use Rattle.road_files.proofs.QuestionLaws.{asked_within, pair_at}
-use Rattle.path_algebra.specs.Walks.{AreBest}
-use Rattle.route_tree.specs.Tree.{IsTree}
 use Rattle.question_solvers.proofs.QuestionKinds.{found_answers, no_pairs, pair_asked}
 use Rattle.batch_run.proofs.solve.workers.solve_by_labels.Goals as goal
 
 pub route_between-requires-clause-labels : goal.route_between-requires-clause-labels
 route_between-requires-clause-labels g c κs within =
-    subst (λ (vs : List ℕ). AreBest (g.A.PathAlgebra.meaning c.args.batch.now.algebra) c.args.batch.now.graph.now vs c.args.labelling.labels)
-    (pair_at c.args.batch.now.questions.now c.args.i c.in-Pairs.pairs c.index.result.now c.in-Pairs.is c.requires.place c.index.ensures (FromSource 0)) (c.requires.labels (FromSource 0)).labels
+    subst (λ (vs : List ℕ). AreBest (g.A.PathAlgebra.meaning c.args.over.now.batch.now.task.algebra) c.args.over.now.graph.now vs c.args.labelling.labels)
+    (pair_at c.args.over.now.batch.now.task.questions.now c.args.i c.in-Pairs.pairs c.index.result.now c.in-Pairs.is c.requires.place c.index.ensures (FromSource 0)) (c.requires.labels (FromSource 0)).labels
 
 pub tree_outgoing-requires-clause-sources : goal.tree_outgoing-requires-clause-sources
 tree_outgoing-requires-clause-sources g c κs within =
-    rw c.outgoing.ensures (subst (λ (vs : List ℕ). All (HasVertex c.args.batch.now.graph.now) vs) (sym (c.sources-sources.ensures (FromSource 0)))
-    (asked_within c.args.batch.now.graph.now.vertices c.args.batch.now.questions.now c.args.i c.args.batch.now.within c.requires.place (FromSource 0)).1)
+    rw c.outgoing.ensures (subst (λ (vs : List ℕ). All (HasVertex c.args.over.now.graph.now) vs) (sym (c.sources-sources.ensures (FromSource 0)))
+    (asked_within c.args.over.now.graph.now.vertices c.args.over.now.batch.now.task.questions.now c.args.i c.args.over.now.within c.requires.place (FromSource 0)).1)
 
 pub tree_outgoing-requires-clause-labels : goal.tree_outgoing-requires-clause-labels
 tree_outgoing-requires-clause-labels g c κs within =
-    rw c.outgoing.ensures (subst (λ (vs : List ℕ). AreBest (g.A.PathAlgebra.meaning c.args.batch.now.algebra) c.args.batch.now.graph.now vs c.args.labelling.labels)
+    rw c.outgoing.ensures (subst (λ (vs : List ℕ). AreBest (g.A.PathAlgebra.meaning c.args.over.now.batch.now.task.algebra) c.args.over.now.graph.now vs c.args.labelling.labels)
     (sym (c.sources-sources.ensures (FromSource 0))) (c.requires.labels (FromSource 0)).labels)
 
 pub returns-in_ok-found-in-Pairs : goal.returns-in_ok-found-in-Pairs
 returns-in_ok-found-in-Pairs g c =
-    let q = c.args.batch.now.questions.now in
+    let q = c.args.over.now.batch.now.task.questions.now in
     λ d. found_answers _ _ _ _ c.in_ok-found-in-Pairs.found _ (pair_asked q c.args.i c.in-Pairs.pairs c.index.result.now c.in-Pairs.is c.requires.place c.index.ensures d)
     c.in_ok-found-in-Pairs.ensures
 
 pub returns-in_ok-tree-in_default : goal.returns-in_ok-tree-in_default
 returns-in_ok-tree-in_default g c = λ d. record {
   labels = (c.requires.labels d).labels;
-  tree = subst (λ (vs : List ℕ). IsTree (g.A.PathAlgebra.meaning c.args.batch.now.algebra) c.args.batch.now.graph.now vs c.in_ok-tree-in_default.tree)
+  tree = subst (λ (vs : List ℕ). IsTree (g.A.PathAlgebra.meaning c.args.over.now.batch.now.task.algebra) c.args.over.now.graph.now vs c.in_ok-tree-in_default.tree)
       (c.sources-sources.ensures d) (rw c.outgoing.ensures at c.in_ok-tree-in_default.ensures);
-  unpaired = no_pairs c.args.batch.now.questions.now c.in_default.not-Pairs;
+  unpaired = no_pairs c.args.over.now.batch.now.task.questions.now c.in_default.not-Pairs;
 }
 
 pub returns-in-Some : goal.returns-in-Some
 returns-in-Some g c = λ d. record {
   labels = (c.requires.labels d).labels;
   tree = rw c.in-Some.is at ((c.requires.labels d).tree);
-  unpaired = no_pairs c.args.batch.now.questions.now c.in_default.not-Pairs;
+  unpaired = no_pairs c.args.over.now.batch.now.task.questions.now c.in_default.not-Pairs;
 }

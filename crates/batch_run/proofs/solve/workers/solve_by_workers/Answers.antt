@@ -5,7 +5,7 @@ use Rattle.batch_run.proofs.solve.workers.solve_by_workers.Goals as goal
 pub returns-in_err-labelling-clause-reported : goal.returns-in_err-labelling-clause-reported
 returns-in_err-labelling-clause-reported g c =
     let fault = err_from_is_err_and c.from_residual.result c.from_residual.ensures.1 in
-    λ d. prefix_if_err (g.A.PathAlgebra.meaning c.args.batch.now.algebra) c.args.batch.now.run.now.settings.now c.args.batch.now.graph.now g.O.Watcher.may_become _ _ _ _ fault.0 fault.1 (c.in_err-labelling.ensures.reported d)
+    λ d. prefix_if_err _ _ _ _ _ _ _ _ fault.0 fault.1 (c.in_err-labelling.ensures.reported d)
 
 pub returns-in-Err-clause-reported : goal.returns-in-Err-clause-reported
 returns-in-Err-clause-reported g c = λ d. prefix_all _ _ _ _ _ _ _ (c.in_ok-labelling.ensures.reported d)

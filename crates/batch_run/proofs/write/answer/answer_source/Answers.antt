@@ -1,8 +1,4 @@
-use Rattle.std.proofs.Common.{[], ◌∷◌, refl, sym}
-use Rattle.text_lines.proofs.WriteLaws.{wrote_then, fell_first, fell_out}
-use Rattle.answer_text.specs.AnswerData.{SourceAnswer}
-use Rattle.answer_text.specs.AnswerText.{answer_text}
-use Rattle.batch_run.specs.WrittenLines.{written_lines}
+use Rattle.batch_run.proofs.Words.{[], ◌∷◌, refl, sym, wrote_then, fell_first, fell_out, SourceAnswer, answer_text, written_lines}
 use Rattle.batch_run.proofs.WrittenLines.{lines_are_right}
 use Rattle.batch_run.proofs.write.answer.answer_source.Goals as goal
 

@@ -1,10 +1,8 @@
-use Rattle.std.proofs.Common.{◌+◌, ◌<◌, length, None, rules, subst, sym, ap, arith}
+use Rattle.batch_run.proofs.Words.{◌+◌, ◌<◌, length, None, rules, subst, sym, ap, arith, WrotePrefix, written_lines}
 use Rattle.text_lines.specs.Texts.{spelled}
-use Rattle.text_lines.specs.Written.{WrotePrefix}
 use Rattle.text_lines.proofs.WriteLaws.{left_start, left_end, fell_out}
 use Rattle.answer_text.specs.AnswerText.{vertex_words}
 use Rattle.answer_text.proofs.VertexLines.{vertices_start, vertices_end, vertex_left, vertex_fell}
-use Rattle.batch_run.specs.WrittenLines.{written_lines}
 use Rattle.batch_run.proofs.WrittenLines.{lines_count, line_is}
 use Rattle.batch_run.proofs.write.lines.write_lines.Goals as goal
 

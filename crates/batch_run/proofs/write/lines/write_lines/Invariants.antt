@@ -1,8 +1,7 @@
-use Rattle.text_lines.specs.Written.{WrotePrefix}
+use Rattle.batch_run.proofs.Words.{WrotePrefix, written_lines}
 use Rattle.text_lines.specs.Texts.{text_of}
 use Rattle.answer_text.specs.AnswerText.{vertex_lines}
 use Rattle.answer_text.proofs.VertexLines.{vertices_from}
-use Rattle.batch_run.specs.WrittenLines.{written_lines}
 use Rattle.batch_run.proofs.write.lines.write_lines.Given as goal
 
 abbrev pub invariant-loop-v : goal.invariant-loop-v

@@ -1,7 +1,5 @@
-use Rattle.std.proofs.Common.{◌≡◌, ◌++◌, ◌∷◌, [], Some, sym, subst, rules}
+use Rattle.engine_trials.proofs.Words.{◌≡◌, ◌++◌, ◌∷◌, [], Some, sym, subst, rules, All, BelongsTo}
 use Rattle.std.proofs.lemmas.List.Elements.{All-pop, All-from_all_within, AllWithin-push, AllWithin-from_all}
-use Rattle.std.specs.List.{All}
-use Rattle.station.specs.Station.{BelongsTo}
 use Rattle.engine_trials.proofs.stations.gathering.finished.Goals as goal
 
 pub loop-station-preserved : goal.loop-station-preserved

@@ -1,6 +1,5 @@
 use Rattle.std.proofs.Common.{vec_len}
-use Rattle.std.specs.List.{All}
-use Rattle.station.specs.Station.{BelongsTo}
+use Rattle.engine_trials.proofs.Words.{All, BelongsTo}
 use Rattle.engine_trials.proofs.stations.gathering.finished.Given as goal
 
 abbrev pub invariant-loop-station : goal.invariant-loop-station

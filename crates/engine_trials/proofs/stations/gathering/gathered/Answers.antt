@@ -1,6 +1,4 @@
-use Rattle.std.proofs.Common.{sym, subst}
-use Rattle.std.specs.List.{All}
-use Rattle.station.specs.Station.{BelongsTo}
+use Rattle.engine_trials.proofs.Words.{sym, subst, All, BelongsTo}
 use Rattle.engine_trials.proofs.stations.gathering.gathered.Goals as goal
 
 pub gathered_again-requires-after_bounds : goal.gathered_again-requires-after_bounds

@@ -1,7 +1,4 @@
-use Rattle.std.proofs.Common.{◌≡◌, ◌++◌, ◌∷◌, [], Some, sym, subst, rules}
-use Rattle.std.specs.List.{All}
-use Rattle.std.proofs.lemmas.List.Elements.{All-pop, All-push}
-use Rattle.station.specs.Station.{BelongsTo}
+use Rattle.engine_trials.proofs.Words.{◌≡◌, ◌++◌, ◌∷◌, [], Some, sym, subst, rules, All, All-pop, All-push, BelongsTo}
 use Rattle.engine_trials.proofs.stations.refusals.last_but_one.Goals as goal
 
 pub returns : goal.returns

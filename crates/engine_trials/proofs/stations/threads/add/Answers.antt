@@ -1,7 +1,4 @@
-use Rattle.std.proofs.Common.{◌≡◌, ◌++◌, ◌∷◌, [], sym, subst, rules}
-use Rattle.std.specs.List.{All}
-use Rattle.std.proofs.lemmas.List.Elements.{All-push}
-use Rattle.station.specs.Station.{BelongsTo}
+use Rattle.engine_trials.proofs.Words.{◌≡◌, ◌++◌, ◌∷◌, [], sym, subst, rules, All, All-push, BelongsTo}
 use Rattle.engine_trials.proofs.stations.threads.add.Goals as goal
 
 pub returns : goal.returns

@@ -1,6 +1,4 @@
-use Rattle.station.specs.Station.{BelongsTo}
-use Rattle.std.proofs.Common.{Some}
-use Rattle.std.proofs.lemmas.List.Elements.{All-pop}
+use Rattle.engine_trials.proofs.Words.{BelongsTo, Some, All-pop}
 use Rattle.engine_trials.proofs.stations.threads.last_of.Goals as goal
 
 pub returns-clause-rest : goal.returns-clause-rest

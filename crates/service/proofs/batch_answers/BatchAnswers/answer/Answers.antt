@@ -1,5 +1,5 @@
-use Rattle.std.proofs.Common.{Err}
-use Rattle.service.proofs.Words.{asked_of, graph_of, is_without_diffusions, says_of_cause}
+use Rattle.service.proofs.Words.{Err, asked_of, graph_of, is_without_diffusions}
+use Rattle.batch_run.proofs.Stopped.{says_of_cause}
 use Rattle.batch_run.proofs.Prefixes.{all_or_prefix}
 use Rattle.service.proofs.AnswerLaws.{never_stalls, answered, fell, stopped}
 use Rattle.service.proofs.batch_answers.BatchAnswers.answer.Goals as goal

@@ -1,8 +1,5 @@
-use Rattle.std.proofs.Common.{ap, take-append-drop, ◌≡◌, ℕ, ◌+◌, ◌-◌, ◌≤◌, List, ◌++◌, length, take, drop, subst, sym, ◌∙◌, arith, refl, Result, Ok, Err}
-use Rattle.service.proofs.Words.{Asked, IsLine, EndsLine, StaysInLine, RequestSoFar, Service}
-use Rattle.service.proofs.Words.{MayGive}
+use Rattle.service.proofs.Words.{ap, take-append-drop, ◌≡◌, ℕ, ◌+◌, ◌-◌, ◌≤◌, List, ◌++◌, length, take, drop, subst, sym, ◌∙◌, arith, refl, Result, Ok, Err, Asked, IsLine, EndsLine, StaysInLine, RequestSoFar, Service, MayGive, LineEnded, Fed}
 use Rattle.service.specs.Replies.{held_line}
-use Rattle.service.specs.Fed.{LineEnded, Fed}
 use Rattle.service.proofs.AnswerLaws.{stays}
 use Rattle.std.proofs.lemmas.List.{take_all, length-take-le}
 use Rattle.service.proofs.Pieces.{next_prefix, next_all, next_within, next_fits}

@@ -1,6 +1,4 @@
-use Rattle.std.proofs.Common.{◌≡◌, ◌-◌, ◌≤◌, [], take, length}
-use Rattle.service.proofs.Words.{IsSameSolver, MayGive}
-use Rattle.service.specs.Fed.{Fed}
+use Rattle.service.proofs.Words.{◌≡◌, ◌-◌, ◌≤◌, [], take, length, IsSameSolver, MayGive, Fed}
 use Rattle.service.proofs.service.Service.feed.Given as goal
 
 -- the bytes so far were taken, and just the requests that they make whole replied to

@@ -1,6 +1,5 @@
 use Rattle.service.proofs.ServiceLaws.{fresh}
-use Rattle.std.proofs.Common.{refl, ◌∙◌, ap}
-use Rattle.road_files.specs.RequestTakes.{parser_state}
+use Rattle.service.proofs.Words.{refl, ◌∙◌, ap, parser_state}
 use Rattle.service.proofs.service.Service.new.Goals as goal
 
 pub returns-clause-taken : goal.returns-clause-taken

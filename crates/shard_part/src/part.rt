@@ -15,10 +15,12 @@ ghost use Rattle.shard_part.specs.Part.{HandledNext, HandledMany, HandledWithin,
 mod readings;
 
 use crate::closed::ClosedPart;
+use crate::laws::plan_holds;
 use crate::state::PartState;
 use path_algebra::{PathAlgebra, laws_hold};
 use road_graph::{Graph, Memory, Vertex};
-use shard_store::{Batch, Plan, QueueOrder, Shard};
+use scholten_core::roads_hold;
+use shard_store::{Batch, Plan, QueueOrder, Shard, ShardLayout};
 use std::alloc::Global;
 use std::marker::Model;
 
@@ -62,7 +64,15 @@ impl<'g, A: PathAlgebra> Part<'g, A> {
         ensures share { IfOk result (λ p. HoldsShare A.meaning (state_after (A.meaning algebra)
             (network graph.now source) []) p) }
     {
-        let state = PartState::open(alloc, algebra, graph, plan, shard, source, order)?;
+        roads_hold(graph);
+        plan_holds(plan);
+        let layout = ShardLayout {
+            graph,
+            plan,
+            source,
+            shard,
+        };
+        let state = PartState::open(alloc, algebra, layout, order)?;
         Ok(Part { state })
     }
 

@@ -1,7 +1,6 @@
 //! A part as it is opened.
-ghost use Rattle.std.specs.Prelude.{◌≡◌, ℕ, ◌≤◌, ◌<◌, [], map, length, replicate, IsTrue, IfOk};
+ghost use Rattle.std.specs.Prelude.{◌≡◌, ◌≤◌, [], IsTrue, IfOk};
 ghost use Rattle.shard_store.specs.Queue.{line, room};
-ghost use Rattle.road_graph.specs.GraphData.{HasVertex};
 ghost use Rattle.scholten_core.specs.Network.{network};
 ghost use Rattle.scholten_core.specs.Diffusion.{state_after};
 ghost use Rattle.shard_part.specs.Represents.{HoldsShare};
@@ -10,14 +9,11 @@ ghost use Rattle.shard_store.specs.Outgoing.{local_vertices};
 ghost use Rattle.shard_store.specs.Setup.{setup_of};
 ghost use Rattle.shard_part.specs.Opening.{opened_part, first_items};
 
-use crate::laws::plan_holds;
 use crate::state::PartState;
 use path_algebra::PathAlgebra;
-use road_graph::{Graph, Memory, Vertex};
-use scholten_core::{ENTRY, Item, roads_hold};
-use shard_store::{
-    Plan, Queue, QueueOrder, Shard, ShardLayout, empty_batches, idle_tables, sum_of,
-};
+use road_graph::Memory;
+use scholten_core::{ENTRY, Item};
+use shard_store::{Queue, QueueOrder, ShardLayout, empty_batches, idle_tables, sum_of};
 use std::alloc::Global;
 
 impl<'g, A: PathAlgebra> PartState<'g, A> {
@@ -26,28 +22,15 @@ impl<'g, A: PathAlgebra> PartState<'g, A> {
     pub(crate) fn open(
         alloc: Global,
         algebra: A,
-        graph: &'g Graph,
-        plan: &'g Plan,
-        shard: Shard,
-        source: Vertex,
+        layout: ShardLayout<'g>,
         order: QueueOrder,
     ) -> Result<PartState<'g, A>, Memory>
-        requires source { HasVertex graph.now source }
-        requires plan { length plan.now.list ≡ graph.now.vertices }
-        requires shard { shard < plan.now.shards }
         ensures part { IfOk result (λ d. d ≡ opened_part (A.meaning algebra)
-            (setup_of algebra graph.now source plan.now order) shard) }
+            (setup_of algebra layout.entry.setup.diffusion.roads layout.entry.setup.diffusion.source
+            layout.entry.setup.plan order) layout.entry.shard) }
         ensures share { IfOk result (λ d. HoldsShare A.meaning (state_after (A.meaning algebra)
-            (network graph.now source) []) d) }
+            (network layout.entry.setup.diffusion.roads layout.entry.setup.diffusion.source) []) d) }
     {
-        roads_hold(graph);
-        plan_holds(plan);
-        let layout = ShardLayout {
-            graph,
-            plan,
-            source,
-            shard,
-        };
         let first = layout.is_first();
         let own = layout.own_vertices(alloc)?;
         // What a closed part keeps is allocated first, so that the memory freed by closing is in
@@ -55,13 +38,14 @@ impl<'g, A: PathAlgebra> PartState<'g, A> {
         let tables = idle_tables(alloc, &layout, own, algebra.origin())?;
         let mut capacities = layout.capacities(alloc, &tables.own)?;
         let queue = opening_queue(alloc, algebra, order, sum_of(&capacities), first)?;
+        let shard = layout.shard;
         capacities[shard.0 as usize] = 0;
         let outs = empty_batches(alloc, &capacities)?;
         Ok(PartState {
             algebra,
-            graph,
-            plan,
-            source,
+            graph: layout.graph,
+            plan: layout.plan,
+            source: layout.source,
             shard,
             order,
             tables,

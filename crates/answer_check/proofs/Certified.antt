@@ -1,12 +1,14 @@
 -- Lines that are certified are the right answer, and the right answer is certified.
-use Rattle.std.proofs.Common.{◌≡◌, ℕ, zero, suc, ◌+◌, ◌-◌, ◌<◌, ◌≤◌, ◌⊎◌, inl, inr, List, [], ◌∷◌, ◌++◌, length, map, refl, ap, sym, ◌∙◌, subst, arith, Option, Some, None, IsTrue, Contains, All}
+use Rattle.answer_check.proofs.Words.{◌≡◌, ℕ, zero, suc, ◌+◌, ◌-◌, ◌<◌, ◌≤◌, ◌⊎◌, inl, inr, List, [], ◌∷◌, ◌++◌, length, map, refl, ap, sym, ◌∙◌, subst, arith, Option, Some, None, IsTrue, Contains, All, GraphData, IsGraph, HasArc, HasVertex, arc_of, same_some, Algebra, IsLawful, same_no_worse, Reached}
+use Rattle.path_algebra.proofs.Walks.{labels_are_best}
+use Rattle.std.proofs.lemmas.List.{length-append, length-map}
+use Rattle.path_algebra.specs.Walks.{IsWalk}
 use Rattle.std.proofs.Math.ListN.{get_or-map}
-use Rattle.answer_check.proofs.Words.{length-append, length-map, GraphData, IsGraph, HasArc}
-use Rattle.answer_check.proofs.Words.{HasVertex, arc_of, same_some, Algebra, IsLawful, IsWalk}
-use Rattle.answer_check.proofs.Words.{IsWalkValue, IsBest, IsBestLabel, IsUnreached, AreBest}
-use Rattle.answer_check.proofs.Words.{IsTight, IsTightWalk, AreHops, IsParent, label_of}
-use Rattle.answer_check.proofs.Words.{IsWalk-snoc, IsWalkValue-extend, walk_value_is_value}
-use Rattle.answer_check.proofs.Words.{labels_are_best, same_no_worse, Reached}
+use Rattle.answer_check.proofs.Words.{IsUnreached}
+use Rattle.path_algebra.specs.Walks.{IsWalkValue, IsBest, IsBestLabel, AreBest}
+use Rattle.answer_check.proofs.Words.{AreHops, label_of}
+use Rattle.path_algebra.specs.Walks.{IsTight, IsTightWalk, IsParent}
+use Rattle.path_algebra.proofs.Walks.{IsWalk-snoc, IsWalkValue-extend, walk_value_is_value}
 use Rattle.std.proofs.lemmas.List.Elements.{All-nil, All-cons, All-head, All-tail, All-append}
 use Rattle.path_algebra.proofs.Tight.{never_better_along, best_is_one}
 use Rattle.answer_text.specs.IsAnswer.{IsReachedLine, IsVertexLine, AreVertexLines}

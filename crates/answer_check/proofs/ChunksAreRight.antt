@@ -1,8 +1,7 @@
 -- Answers are right up to a place if they are before the first chunk, and in each chunk up to there.
 use Rattle.std.proofs.lemmas.Bool.{cases_lt}
 use Rattle.std.proofs.Common.{◌≡◌, ℕ, ◌+◌, ◌<◌, ◌≤◌, inl, inr, Bool, true, false, nat_lt, arith, subst, zero, suc, ltb-false}
-use Rattle.answer_check.proofs.Words.{common_steps, GraphData, Asked, Algebra, AnswerList}
-use Rattle.answer_check.proofs.Words.{TellsSuspect, TellsSuspectIn, chunk_start}
+use Rattle.answer_check.proofs.Words.{common_steps, GraphData, Asked, Algebra, AnswerList, TellsSuspect, TellsSuspectIn, chunk_start}
 use Rattle.answer_check.specs.declared.chunks.Chunks.{Chunks}
 
 module _ (R : ℕ → Type 0) where

@@ -1,8 +1,6 @@
 -- The roads of the arcs into a vertex, reversed, lead to vertices.
-use Rattle.std.proofs.Common.{◌≡◌, ℕ, ◌≤◌, ◌<◌, List, length, get_or, ap, sym, subst, ◌∙◌, arith, All}
+use Rattle.answer_check.proofs.Words.{◌≡◌, ℕ, ◌≤◌, ◌<◌, List, length, get_or, ap, sym, subst, ◌∙◌, arith, All, GraphData, IsGraph, HasVertex, ListsRoadsInto, arc_of, road_of, reversed_arc, OutRoad}
 use Rattle.std.proofs.lemmas.List.{get_or-map, length-map, get_or_default}
-use Rattle.road_graph.specs.GraphData.{GraphData, IsGraph, HasVertex, ListsRoadsInto, arc_of, road_of, reversed_arc}
-use Rattle.road_graph.specs.declared.OutRoad.{OutRoad}
 
 pub ends_inside : (g : GraphData) → IsGraph g → (v n : ℕ) → n ≡ g.vertices → (roads : List OutRoad) → ListsRoadsInto g v roads → All (λ r. (1 ≤ r.head) × (r.head ≤ n)) roads
 ends_inside g ok v n e roads lists i r lt =

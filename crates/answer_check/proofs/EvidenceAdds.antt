@@ -1,8 +1,6 @@
 -- What is shown by one arc more.
-use Rattle.std.proofs.Common.{◌≡◌, ℕ, ◌+◌, ◌<◌, List, Bool, ◌||◌, length, get_or, take, ap, ◌∙◌, refl, sym, Option}
-use Rattle.answer_check.proofs.Words.{list_any, OutRoad, Algebra, Reached, Evidence}
+use Rattle.answer_check.proofs.Words.{◌≡◌, ℕ, ◌+◌, ◌<◌, List, Bool, ◌||◌, length, get_or, take, ap, ◌∙◌, refl, sym, Option, list_any, OutRoad, Algebra, Reached, Evidence, evidence_of, all_evidence, either}
 use Rattle.std.proofs.lemmas.List.Folds.{list_any_more}
-use Rattle.answer_check.specs.Evidence.{evidence_of, all_evidence, either}
 
 module _ {V : Type 0} (A : Algebra V) (no_worse : V → V → Bool) (lines : List (Option Reached)) (r : Reached) (y : V) where
   pub all_evidence_more : (roads : List OutRoad) (i : ℕ) (road : OutRoad) → i < length roads → road ≡ get_or roads i road →

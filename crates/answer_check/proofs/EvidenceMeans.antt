@@ -1,14 +1,9 @@
 -- What the evidence of all arcs into a vertex means: the line is right, or the evidence gives the
 -- first reason against it.
 use Rattle.std.proofs.Common.{◌≡◌, ℕ, ◌+◌, ◌<◌, ◌≤◌, ◌^◌, inl, inr, Bool, true, false, not, ◌&&◌, ◌||◌, nat_eq, nat_lt, List, [], ◌∷◌, map, refl, ap, sym, ◌∙◌, subst, arith, Option, Some, None, IsTrue, Contains, eqb-true, eq-eqb}
-use Rattle.answer_check.proofs.Words.{common_steps, list_any, GraphData, HasArc, ListsRoadsInto}
-use Rattle.answer_check.proofs.Words.{arc_of, road_of, reversed_arc, OutRoad, Algebra, IsLawful}
-use Rattle.answer_check.proofs.Words.{label_of, same_no_worse, Reached, Evidence, Reason}
+use Rattle.answer_check.proofs.Words.{common_steps, list_any, GraphData, HasArc, ListsRoadsInto, arc_of, road_of, reversed_arc, OutRoad, Algebra, IsLawful, label_of, same_no_worse, Reached, Evidence, Reason, NotBest, NoParent, OtherHops, LesserParent, HasWalk, IsCodeOf, Offers, Gives, IsRefuted, IsFirstReason, reason_number, IsSupported, IsRightLine}
 use Rattle.std.proofs.lemmas.Bool.{eqb-false, lt-ltb, ltb-true, ltb-false, and_parts, not-true, not-false, false_from_ne_true}
 use Rattle.std.proofs.lemmas.List.Folds.{list_any_at, Any-from_list_any}
-use Rattle.answer_check.specs.declared.verdict.Reason.TheVariants.{NotBest, NoParent, OtherHops, LesserParent, HasWalk}
-use Rattle.answer_check.specs.Reasons.{IsCodeOf, Offers, Gives, IsRefuted, IsFirstReason, reason_number}
-use Rattle.answer_check.specs.Certificates.{IsSupported, IsRightLine}
 use Rattle.answer_check.specs.Evidence.{decoded, candidate_from, candidate, is_same, passes, all_evidence, reason_by, is_there}
 use Rattle.answer_check.proofs.Certified.{code_of_one, arc_offers}
 

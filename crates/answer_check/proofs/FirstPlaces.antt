@@ -1,16 +1,10 @@
 -- The first place that a pass over marked lines finds is the first where the answer is wrong; where
 -- it finds none, the answer is right.
 use Rattle.std.proofs.Common.{◌≡◌, ℕ, ◌+◌, inl, inr, List, ap, ◌∙◌, subst, arith, Option, Some, None, zero, suc, ◌-◌, ◌<◌, ◌≤◌, ◌^◌, min, Bool, true, false, [], ◌∷◌, length, refl, sym, IsTrue, Contains, ◌↔◌, option_map}
-use Rattle.answer_check.proofs.Words.{common_steps, GraphData, IsGraph, HasVertex, same_some}
-use Rattle.answer_check.proofs.Words.{Algebra, IsLawful, label_of, is_marked, Reached, Reason}
-use Rattle.answer_check.proofs.Words.{range_with_len, AllZip, first_true, Place, IsMarkedRefused}
-use Rattle.answer_check.proofs.Words.{IsMarkedRight, TellsRefused, IsJudgedAt, IsFirstNumber}
-use Rattle.answer_check.specs.declared.verdict.Reason.TheVariants.{Mismatch, NotBest, NoParent, OtherHops, LesserParent, HasWalk}
-use Rattle.answer_check.specs.Reasons.{Offers, Gives, IsRefuted, IsLineRefused, reason_number}
-use Rattle.answer_check.specs.Certificates.{IsSupported, IsRightLine, IsCertifiedAt}
+use Rattle.answer_check.proofs.Words.{common_steps, GraphData, IsGraph, HasVertex, same_some, Algebra, IsLawful, label_of, is_marked, Reached, Reason, first_true, Place, IsMarkedRight, TellsRefused, IsJudgedAt, IsFirstNumber, Mismatch, NotBest, NoParent, OtherHops, LesserParent, HasWalk, Offers, Gives, IsRefuted, IsLineRefused, reason_number, IsSupported, IsRightLine, IsCertifiedAt, AreVertexLines, IsEarlier}
+use Rattle.std.specs.List.{range_with_len, AllZip}
+use Rattle.answer_check.specs.Marked.{IsMarkedRefused}
 use Rattle.answer_check.proofs.Certified.{code_of_one, lines_are_right}
-use Rattle.answer_text.specs.IsAnswer.{AreVertexLines}
-use Rattle.answer_check.specs.Verdicts.{IsEarlier}
 
 module _ {V : Type 0} (A : Algebra V) (lawful : IsLawful A) (g : GraphData) (lines : List (Option Reached)) where
   -- what gives the line's value offers the value that supports it

@@ -1,21 +1,21 @@
 -- The first place of the first answer that is wrong is the first place of the list; a list that is
 -- wrong nowhere is right.
 use Rattle.std.proofs.Common.{◌≡◌, ℕ, zero, suc, ◌+◌, ◌-◌, ◌<◌, ◌≤◌, ◌⊎◌, inl, inr, List, [], ◌∷◌, length, map, get_or, refl, ap, sym, ◌∙◌, subst, arith, Option, Some, None, ◌↔◌, All, slice_get, option_map}
-use Rattle.answer_check.proofs.Words.{common_steps, length-map, GraphData, IsGraph, HasVertex}
-use Rattle.answer_check.proofs.Words.{same_some, Algebra, IsLawful, all_inside, Question}
-use Rattle.answer_check.proofs.Words.{FromSource, BetweenPair, FromSources, Asked, AskWithin}
-use Rattle.answer_check.proofs.Words.{asked_of, of_source, of_pair, of_list, AnswerData}
-use Rattle.answer_check.proofs.Words.{SourceAnswer, PairAnswer, SourcesAnswer, AnswerList}
-use Rattle.answer_check.proofs.Words.{answers_count, Place, Reason, Valid, Invalid, Reached}
-use Rattle.answer_check.proofs.Words.{IsJudgedAt}
+use Rattle.answer_check.proofs.Words.{common_steps, length-map, GraphData, IsGraph, HasVertex, same_some, Algebra, IsLawful, all_inside, asked_of, of_source, of_pair, of_list, Place, Reason, Reached, IsJudgedAt, Mismatch, NotBest, NoParent, OtherHops, LesserParent, HasWalk, OtherRoute, reason_number, IsLineRefused}
+use Rattle.road_files.specs.Asked.{Question}
+use Rattle.answer_text.specs.AnswerData.{AnswerData}
+use Rattle.answer_text.proofs.OneAnswer.{answers_count}
+use Rattle.answer_check.specs.declared.verdict.Verdict.TheVariants.{Valid, Invalid}
+use Rattle.answer_check.proofs.Words.{FromSource, BetweenPair, FromSources, Asked}
+use Rattle.road_files.specs.Asked.{AskWithin}
+use Rattle.answer_check.proofs.Words.{AnswerList}
+use Rattle.answer_text.specs.AnswerData.{SourceAnswer, PairAnswer, SourcesAnswer}
 use Rattle.std.proofs.lemmas.List.Elements.{All-cons, All-nil, All-map, All-contains}
 use Rattle.std.proofs.lemmas.Option.{slice_get_within, slice_get-get_or, slice_get-map, slice_get_read, get_or_from_slice_get}
 use Rattle.road_files.specs.declared.questions.Questions.{Questions}
 use Rattle.road_files.specs.declared.questions.Questions.TheVariants as variants
 use Rattle.answer_text.specs.IsAnswer.{AreVertexLines, IsAnswer, AreAnswers, IsAnswerList}
-use Rattle.answer_check.specs.declared.verdict.Reason.TheVariants.{Mismatch, NotBest, NoParent, OtherHops, LesserParent, HasWalk, OtherRoute}
 use Rattle.answer_check.specs.declared.verdict.Verdict.{Verdict}
-use Rattle.answer_check.specs.Reasons.{reason_number, IsLineRefused}
 use Rattle.answer_check.specs.Verdicts.{HasHeader, Names, IsRefusedAt, IsWrongIn, IsWrong, IsEarlier, IsFirstWrong, IsVerdict}
 use Rattle.answer_check.proofs.Certified.{lines_are_certified}
 use Rattle.answer_check.proofs.FirstPlaces.{certified_not_refused}

@@ -1,6 +1,7 @@
 -- One source more is marked.
 use Rattle.std.proofs.Common.{◌≡◌, ℕ, ◌+◌, ◌-◌, ◌<◌, ◌≤◌, inl, inr, Bool, true, false, List, [], ◌∷◌, ◌++◌, length, get_or, set, take, ap, sym, ◌∙◌, subst, arith, get_or-set_same, get_or-set_other, IsTrue, Contains, ◌↔◌}
-use Rattle.answer_check.proofs.Words.{common_steps, take_more, is_marked}
+use Rattle.answer_check.proofs.Words.{common_steps, is_marked}
+use Rattle.std.proofs.lemmas.List.{take_more}
 use Rattle.std.proofs.lemmas.Bool.{cases_eq}
 use Rattle.std.proofs.lemmas.List.Elements.{Contains-push}
 

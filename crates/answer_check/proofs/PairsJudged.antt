@@ -1,9 +1,9 @@
 -- How what is told of a pair differs from the right answer is the first reason against it.
-use Rattle.std.proofs.Common.{◌≡◌, ℕ, ◌<◌, [], ◌∷◌, sym, subst, arith, Option, Some, None}
-use Rattle.answer_check.proofs.Words.{GraphData, Algebra, IsLawful, IsUnreached, AreHops, FoundData}
-use Rattle.answer_check.proofs.Words.{code_once, hops_once, route_once, Reason, IsOther}
+use Rattle.answer_check.proofs.Words.{◌≡◌, ℕ, ◌<◌, [], ◌∷◌, sym, subst, arith, Option, Some, None, GraphData, Algebra, IsLawful, IsUnreached, AreHops, Reason, NotBest, OtherHops, HasWalk, OtherRoute}
+use Rattle.answer_text.specs.AnswerData.{FoundData}
+use Rattle.answer_text.proofs.OneAnswer.{code_once, hops_once, route_once}
+use Rattle.answer_check.specs.Pairs.{IsOther}
 use Rattle.answer_text.specs.IsAnswer.{IsBestCode, IsRouteBetween, IsFoundBetween, IsPairAnswer}
-use Rattle.answer_check.specs.declared.verdict.Reason.TheVariants.{NotBest, OtherHops, HasWalk, OtherRoute}
 use Rattle.answer_check.specs.Reasons.{IsPairRefused, IsFirstReason, reason_number}
 
 module _ {V : Type 0} (A : Algebra V) (lawful : IsLawful A) (g : GraphData) (s t : ℕ) where

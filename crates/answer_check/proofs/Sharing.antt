@@ -1,8 +1,6 @@
 -- What is judged may be shared among threads.
-use denote.Ref.{NamedLft}
+use Rattle.answer_check.proofs.Words.{NamedLft, IsSync, sendable, crosses}
 use denote.RattleType.{RattleType}
-use denote.Param.Send.{IsSync, sendable}
-use Rattle.std.proofs.Crossing.{crosses}
 use Rattle.road_graph.specs.contracts.out_graph.OutGraph as OutGraph
 use Rattle.road_graph.specs.contracts.in_graph.InGraph as InGraph
 use Rattle.road_files.specs.contracts.questions.Questions as Questions

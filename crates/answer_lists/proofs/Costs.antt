@@ -1,9 +1,6 @@
 -- A number names algebras of one cost at most.
-use Rattle.std.proofs.Common.{◌≡◌, ℕ, Option, arith}
+use Rattle.answer_lists.proofs.Words.{◌≡◌, ℕ, Option, arith, AlgebraChoice, Shortest, Widest, Reach, Hops, Reliable, Within, Cost}
 use Rattle.path_algebra.specs.Choices.{IsNumbered, arc_cost_of, number_of}
-use Rattle.path_algebra.specs.declared.choice.AlgebraChoice.{AlgebraChoice}
-use Rattle.path_algebra.specs.declared.choice.AlgebraChoice.TheVariants.{Shortest, Widest, Reach, Hops, Reliable, Within}
-use Rattle.path_algebra.specs.declared.counted_sums.Cost.{Cost}
 use Rattle.answer_lists.specs.Factoring.{OfCost}
 
 module _ (P : Option Cost → Type 0) where

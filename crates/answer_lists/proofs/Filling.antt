@@ -3,11 +3,7 @@ use Rattle.std.proofs.Common.{◌≡◌, ◌≢◌, ℕ, ◌+◌, ◌-◌, ◌<�
 use Rattle.std.specs.Prelude.{replicate}
 use lib.ListN.{length-replicate}
 use Rattle.std.proofs.Math.Nat.{eq-or-lt_of_le}
-use Rattle.road_graph.specs.GraphData.{GraphData}
-use Rattle.path_algebra.specs.Algebra.{Algebra}
-use Rattle.path_algebra.specs.Walks.{label_of}
-use Rattle.answer_text.specs.IsAnswer.{IsVertexLine}
-use Rattle.answer_lists.specs.Answers.{HavePlaces}
+use Rattle.answer_lists.proofs.Words.{GraphData, Algebra, label_of, IsVertexLine, HavePlaces}
 use Rattle.answer_lists.specs.Tree.{line_of, lines_of, AreTreeLists, AreWantedLists, IsAllOrNone, HaveAllOrNone, IsListOrNone}
 use Rattle.answer_lists.proofs.Spelled.{lines_count, line_there}
 

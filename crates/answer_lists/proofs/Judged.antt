@@ -1,8 +1,5 @@
 -- A verdict on lists is one on the lines that they spell.
-use Rattle.std.proofs.Common.{ℕ, List, refl, Option, Some, None}
-use Rattle.std.specs.Prelude.{All}
-use Rattle.road_graph.specs.GraphData.{GraphData, IsGraph, HasVertex}
-use Rattle.path_algebra.specs.Algebra.{Algebra, IsLawful}
+use Rattle.answer_lists.proofs.Words.{ℕ, List, refl, Option, Some, None, All, GraphData, IsGraph, HasVertex, Algebra, IsLawful, HavePlaces}
 use Rattle.path_algebra.proofs.Walks.{all_inside}
 use Rattle.answer_text.specs.IsAnswer.{AreVertexLines}
 use Rattle.answer_check.specs.declared.place.Place.{Place}
@@ -12,7 +9,6 @@ use Rattle.answer_check.specs.Reasons.{IsLineRefused}
 use Rattle.answer_check.proofs.Certified.{lines_are_certified}
 use Rattle.answer_check.proofs.FirstPlaces.{certified_not_refused}
 use Rattle.answer_lists.specs.Tree.{lines_of, AreJudged, AreTreeLists}
-use Rattle.answer_lists.specs.Answers.{HavePlaces}
 
 module _ {V : Type 0} (A : Algebra V) (lawful : IsLawful A) (g : GraphData) (roads : IsGraph g) (sources : List ℕ) (inside : All (HasVertex g) sources)
     (codes hops parents : List ℕ) (places : HavePlaces g.vertices codes hops parents) where

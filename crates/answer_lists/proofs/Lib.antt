@@ -1,3 +1,4 @@
+mod Words
 mod Costs
 mod Filling
 mod Judged

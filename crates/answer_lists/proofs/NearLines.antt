@@ -1,19 +1,8 @@
 -- Labels and a tree give the lines of a list of vertices.
-use Rattle.std.proofs.Common.{◌≡◌, ℕ, List, [], ◌∷◌, refl}
-use Rattle.std.specs.List.{AllZip}
-use Rattle.std.specs.Prelude.{All, map}
+use Rattle.answer_lists.proofs.Words.{◌≡◌, ℕ, List, [], ◌∷◌, refl, AllZip, All, map, GraphData, IsGraph, HasVertex, Algebra, IsLawful, label_of, IsToldOf, hops_of, parent_of, TreeSearcherState, IsVertexLine, HasReached, code_at, hops_at, parent_at, HasLowCodes, line_of, lines_of}
 use Rattle.std.proofs.lemmas.List.{get_or_default, length-map}
 use Rattle.std.proofs.lemmas.List.Elements.{All-head, All-tail}
-use Rattle.road_graph.specs.GraphData.{GraphData, IsGraph, HasVertex}
-use Rattle.path_algebra.specs.Algebra.{Algebra, IsLawful}
-use Rattle.path_algebra.specs.Walks.{label_of}
-use Rattle.route_tree.specs.Told.{IsToldOf}
-use Rattle.route_tree.specs.Tree.{hops_of, parent_of}
 use Rattle.tree_search.specs.Nearest.{AreNearest}
-use Rattle.tree_search.specs.Searcher.{TreeSearcherState}
-use Rattle.answer_text.specs.IsAnswer.{IsVertexLine}
-use Rattle.answer_lists.specs.Near.{HasReached, code_at, hops_at, parent_at}
-use Rattle.answer_lists.specs.Tree.{HasLowCodes, line_of, lines_of}
 use Rattle.answer_lists.proofs.Telling.{told_at}
 
 module _ {V : Type 0} (A : Algebra V) (g : GraphData) (sources vertices : List ℕ) (nearest : AreNearest A g sources vertices) where

@@ -1,10 +1,6 @@
 -- What a kept searcher found, as the lists that are written.
 use Rattle.std.proofs.Common.{◌≡◌, ℕ, zero, inl, inr, List, length, sym, subst, ℤ, w32, to_z, of_z}
-use Rattle.std.specs.Prelude.{map, pos}
-use Rattle.road_graph.specs.GraphData.{GraphData}
-use Rattle.path_algebra.specs.Algebra.{Algebra}
-use Rattle.tree_search.specs.Searcher.{TreeSearcherState}
-use Rattle.answer_lists.specs.Answers.{IsFound}
+use Rattle.answer_lists.proofs.Words.{map, pos, GraphData, Algebra, TreeSearcherState, IsFound}
 use Rattle.answer_lists.specs.Near.{AreNearLists, BeginsOrNone, HasReached, code_at, hops_at, parent_at}
 
 pub found_listed : {V : Type 0} (A : Algebra V) (g : GraphData) (sources : List ℕ) (t : TreeSearcherState V) → HasReached A g sources t →

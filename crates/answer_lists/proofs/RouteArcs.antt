@@ -1,14 +1,8 @@
 -- What is told of a route that was found and written, and of one that was not found.
-use Rattle.std.proofs.Common.{rules, ◌≡◌, ℕ, ◌+◌, inl, inr, List, [], ◌∷◌, take, refl, sym, ◌∙◌, subst, of_z, to_z, w32}
+use Rattle.answer_lists.proofs.Words.{rules, ◌≡◌, ℕ, ◌+◌, inl, inr, List, [], ◌∷◌, take, refl, sym, ◌∙◌, subst, of_z, to_z, w32, GraphData, Algebra, Under, AlgebraChoice, Shortest, Widest, Reach, Hops, Reliable, Within, AreRouteArcs}
 use Rattle.std.specs.Prelude.{ℤ, pos}
-use Rattle.road_graph.specs.GraphData.{GraphData}
-use Rattle.path_algebra.specs.Algebra.{Algebra}
-use Rattle.path_algebra.specs.Choices.{Under}
 use Rattle.path_algebra.specs.Walks.{IsBestCode, IsUnreached}
-use Rattle.path_algebra.specs.declared.choice.AlgebraChoice.{AlgebraChoice}
-use Rattle.path_algebra.specs.declared.choice.AlgebraChoice.TheVariants.{Shortest, Widest, Reach, Hops, Reliable, Within}
 use Rattle.route_tree.specs.Found.{FoundData, IsFoundBetween, IsRouteBetween}
-use Rattle.arc_numbers.specs.RouteArcs.{AreRouteArcs}
 use Rattle.answer_lists.specs.Answers.{IsFound, IsOneOf, ReportsRoute}
 
 -- what follows of each algebra from two facts follows of the one that was chosen

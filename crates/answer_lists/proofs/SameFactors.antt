@@ -1,7 +1,5 @@
 -- A graph that is factored once more, or for each cost for which another one is.
-use Rattle.std.proofs.Common.{◌≡◌, Bool, true, false, refl, ap}
-use Rattle.road_graph.specs.GraphData.{GraphData}
-use Rattle.path_algebra.specs.declared.counted_sums.Cost.{Cost}
+use Rattle.answer_lists.proofs.Words.{◌≡◌, Bool, true, false, refl, ap, GraphData, Cost}
 use Rattle.path_algebra.specs.declared.counted_sums.Cost.TheVariants.{Weight, One}
 use Rattle.answer_lists.specs.Sharing.{Shared, factored_as, factored_for, is_factored, reweighed, unfactored}
 

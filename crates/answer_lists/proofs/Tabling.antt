@@ -2,11 +2,7 @@
 use Rattle.std.proofs.Common.{◌≡◌, ℕ, ◌+◌, ◌*◌, ◌<◌, List, [], ◌∷◌, ◌++◌, length, get_or, take, take-suc, add-one, append_assoc, append-nil, length-append, zero-mul, refl, ap, sym, ◌∙◌, subst, arith, Option, Some, None}
 use Rattle.std.specs.List.{AllZip, concat}
 use Rattle.std.proofs.lemmas.Slice.Zip.{all_zipped_more, AllZip-long}
-use Rattle.road_graph.specs.GraphData.{GraphData, IsGraph}
-use Rattle.path_algebra.specs.Algebra.{Algebra, IsLawful}
-use Rattle.path_algebra.specs.Walks.{IsBestLabel}
-use Rattle.answer_lists.specs.Table.{IsTableCode, AreRowCodes, AreTableCodes}
-use Rattle.answer_lists.specs.Tree.{code_for, HasLowCodes}
+use Rattle.answer_lists.proofs.Words.{GraphData, IsGraph, Algebra, IsLawful, IsBestLabel, IsTableCode, AreRowCodes, AreTableCodes, code_for, HasLowCodes}
 use Rattle.answer_lists.proofs.Telling.{code_kept}
 
 -- one place more in two lists

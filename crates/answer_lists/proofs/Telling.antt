@@ -1,12 +1,7 @@
 -- What a value, hops and a parent are written as shows them.
-use Rattle.std.proofs.Common.{◌≡◌, ℕ, inl, inr, List, refl, Option, Some, None}
-use Rattle.road_graph.specs.GraphData.{GraphData, IsGraph}
-use Rattle.path_algebra.specs.Algebra.{Algebra, IsLawful}
+use Rattle.answer_lists.proofs.Words.{◌≡◌, ℕ, inl, inr, List, refl, Option, Some, None, GraphData, IsGraph, Algebra, IsLawful, IsVertexLine, IsToldOf, code_for, number_for, line_of, HasLowCodes}
 use Rattle.path_algebra.specs.Walks.{IsBest}
 use Rattle.path_algebra.proofs.Walks.{walk_value_is_value}
-use Rattle.answer_text.specs.IsAnswer.{IsVertexLine}
-use Rattle.route_tree.specs.Told.{IsToldOf}
-use Rattle.answer_lists.specs.Tree.{code_for, number_for, line_of, HasLowCodes}
 use Rattle.answer_lists.proofs.Spelled.{line_is}
 
 module _ {V : Type 0} (A : Algebra V) (lawful : IsLawful A) (low : HasLowCodes A) (g : GraphData) (roads : IsGraph g) (sources : List ℕ) (v : ℕ) where

@@ -2,10 +2,8 @@
 use Rattle.std.proofs.Common.{◌+◌, ◌==◌, if◌then◌else◌, ℕ, ◌≤◌, List, ◌∷◌, [], length, drop, map, Bool, Option, Some, None, Result, Ok, Err, arith}
 use Rattle.std.specs.Prelude.{slice_index}
 use Rattle.text_lines.specs.Rules.{◌>>=◌, unless}
-use Rattle.text_lines.specs.Words.{Word, word_of, word_at}
+use Rattle.answer_text.proofs.Words.{Word, word_of, word_at, Kind, Sources, Pairs, Multi}
 use Rattle.text_lines.proofs.ParserLaws.{IsOwn, own_then, own_unless, own_if, own_up_to}
-use Rattle.road_files.specs.declared.questions.Kind.{Kind}
-use Rattle.road_files.specs.declared.questions.Kind.TheVariants.{Sources, Pairs, Multi}
 use Rattle.answer_text.specs.AnswerFiles.{Stage, Between, InLines, AfterPair, AfterFound, AnswersSoFar, answer_number, numbers_in, known, header_line, source_line, pair_line, list_line, sources_line, route_line, reached_line, unreached_line, vertex_line, value_line, none_line, found_line, heading_line, answer_line, told_after, line_given, end_read, answer_rules}
 
 -- no fault, or one of these

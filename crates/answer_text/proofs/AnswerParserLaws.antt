@@ -1,17 +1,10 @@
 -- What a parser of answer texts gives, by the rules.
-use Rattle.std.proofs.Common.{◌≡◌, ℕ, ◌+◌, List, ◌∷◌, Bool, None, Ok, Err, Result, map, sym, ap, ◌∙◌, subst}
-use Rattle.text_lines.specs.declared.faults.ReadFault.{ReadFault}
+use Rattle.answer_text.proofs.Words.{◌≡◌, ℕ, ◌+◌, List, ◌∷◌, Bool, None, Ok, Err, Result, map, sym, ap, ◌∙◌, subst, ReadFault, Slot, fields, word_in, Answers, answer_list, line_given, answer_rules}
 use Rattle.text_lines.specs.declared.faults.Rule.{Rule}
-use Rattle.text_lines.specs.declared.slots.Slot.{Slot}
-use Rattle.text_lines.specs.Lines.{fields}
 use Rattle.text_lines.specs.Rules.{value_of_lines, fault_at}
-use Rattle.text_lines.specs.Slots.{word_in}
 use Rattle.text_lines.specs.Takes.{ShowsLine, GivesBy}
 use Rattle.text_lines.proofs.ParserLaws.{gives_taken, gives_broken}
-use Rattle.answer_text.specs.declared.answers.Answers.{Answers}
 use Rattle.answer_text.specs.declared.answer_parser.AnswerParser.{AnswerParser}
-use Rattle.answer_text.specs.AnswerData.{answer_list}
-use Rattle.answer_text.specs.AnswerFiles.{line_given, answer_rules}
 use Rattle.answer_text.specs.AnswerTakes.{NumbersSoFar, answers_begun, numbers_given, GivesAnswers}
 use Rattle.answer_text.proofs.HeldAnswerLines.{line_rule}
 

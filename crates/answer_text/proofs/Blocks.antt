@@ -1,14 +1,7 @@
 -- Answers in a row, and the last line of one.
-use Rattle.std.proofs.Common.{◌≡◌, ℕ, ◌+◌, ◌<◌, List, [], ◌∷◌, ◌++◌, length, drop, get_or, map, Result, sym, ap, ◌∙◌, drop-cons, add-one, append-nil, subst}
-use Rattle.std.proofs.lemmas.List.{length-map}
-use Rattle.text_lines.specs.Texts.{spelled, text_of}
-use Rattle.text_lines.specs.Streams.{Output}
+use Rattle.answer_text.proofs.Words.{◌≡◌, ℕ, ◌+◌, ◌<◌, List, [], ◌∷◌, ◌++◌, length, drop, get_or, map, Result, sym, ap, ◌∙◌, drop-cons, add-one, append-nil, subst, length-map, spelled, text_of, Output, wrote_then, left_step, fell_step, fell_first, answer_text, answers_text, blocks_text, header_text, Answers, AnswerData, answer_data, answer_list}
 use Rattle.text_lines.specs.Written.{WrotePrefix, FailedAfterPrefix, WritesText}
-use Rattle.text_lines.proofs.WriteLaws.{wrote_then, left_step, fell_step, fell_first}
 use Rattle.answer_text.specs.declared.answers.Answer.{Answer}
-use Rattle.answer_text.specs.AnswerText.{answer_text, answers_text, blocks_text, header_text}
-use Rattle.answer_text.specs.declared.answers.Answers.{Answers}
-use Rattle.answer_text.specs.AnswerData.{AnswerData, answer_data, answer_list}
 
 pub blocks_next : (i : ℕ) (answers : List Answer) (d : Answer) → i < length answers
     → blocks_text (map answer_data (drop i answers)) ≡ answer_text (answer_data (get_or answers i d)) ++ blocks_text (map answer_data (drop (i + 1) answers))

@@ -5,9 +5,8 @@ use Rattle.std.proofs.lemmas.List.Elements.{All-nil, All-cons, All-append, All-h
 use Rattle.std.proofs.lemmas.Map.Keys.{IsDistinct-cons}
 use Rattle.std.proofs.lemmas.Map.Steps.{length-le_from_distinct_below}
 use Rattle.std.specs.List.{AllByRecursion, IsDistinct, list_any}
-use Rattle.std.specs.Prelude.{All}
+use Rattle.answer_text.proofs.Words.{All, Algebra}
 use Rattle.road_graph.specs.GraphData.{GraphData, IsGraph, HasVertex, arc_of}
-use Rattle.path_algebra.specs.Algebra.{Algebra}
 use Rattle.path_algebra.specs.Walks.{IsWalk, IsTight, IsTightWalk, AreHops}
 use Rattle.path_algebra.proofs.Walks.{IsWalk-snoc}
 

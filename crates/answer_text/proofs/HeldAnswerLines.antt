@@ -2,21 +2,11 @@
 use Rattle.std.proofs.Common.{◌≡◌, ℕ, ◌+◌, ◌<◌, min, List, [], ◌∷◌, length, take, drop, map, Option, Some, None, Result, Bool, true, false, ◌&&◌, nat_lt, ◌⊎◌, inl, inr, refl, sym, ap, ◌∙◌, arith, lit<, codes}
 use Rattle.std.proofs.lemmas.Bool.{cases_lt, lt-ltb, le-ltb, or_left, or_right}
 use Rattle.std.proofs.lemmas.Bool.Decides.{nat_tests}
-use Rattle.std.proofs.lemmas.List.{length-map}
+use Rattle.answer_text.proofs.Words.{length-map, name_of_text, Slot, fields, word_in, ShowsLine, Word, word_of, word_at, Kind, Sources, Pairs, Multi, PresentNumbers, NumbersSoFar, begins_numbers, begins_route, numbers_given}
 use Rattle.std.specs.Str.{bytes_eq}
-use Rattle.path_algebra.specs.Names.{name_of_text}
-use Rattle.text_lines.specs.declared.slots.Slot.{Slot}
-use Rattle.text_lines.specs.Lines.{fields}
-use Rattle.text_lines.specs.Slots.{word_in}
-use Rattle.text_lines.specs.Takes.{ShowsLine}
-use Rattle.text_lines.specs.Words.{Word, word_of, word_at}
 use Rattle.text_lines.proofs.WordLaws.{Keeps, keeps, short_word, first_byte, number_held}
-use Rattle.road_files.specs.declared.questions.Kind.{Kind}
-use Rattle.road_files.specs.declared.questions.Kind.TheVariants.{Sources, Pairs, Multi}
 use Rattle.road_files.proofs.HeldQuestionLines.{kind_held}
-use Rattle.answer_text.specs.declared.present_numbers.PresentNumbers.{PresentNumbers}
 use Rattle.answer_text.specs.AnswerFiles.{Stage, Between, InLines, AfterPair, AfterFound, AnswersSoFar, numbers_in, begins, header_line, source_line, pair_line, list_line, sources_line, route_line, reached_line, unreached_line, vertex_line, value_line, none_line, found_line, heading_line, answer_line, told_after, line_given, line_read}
-use Rattle.answer_text.specs.AnswerTakes.{NumbersSoFar, begins_numbers, begins_route, numbers_given}
 
 name_held : (w : List ℕ) → name_of_text (take 9 w) ≡ name_of_text w
 name_held w = rw (

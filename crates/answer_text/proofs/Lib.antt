@@ -1,3 +1,4 @@
+mod Words
 pub mod VertexLines
 mod Blocks
 pub mod OneAnswer

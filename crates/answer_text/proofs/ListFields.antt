@@ -1,12 +1,7 @@
 -- Lists of numbers, field by field.
-use Rattle.std.proofs.Common.{◌≡◌, ◌⊎◌, inl, inr, ℕ, ◌+◌, ◌<◌, min, List, [], ◌∷◌, ◌++◌, length, drop, map, Ok, true, refl, sym, ap, ◌∙◌, arith, length-append}
-use Rattle.text_lines.specs.Rules.{◌>>=◌}
+use Rattle.answer_text.proofs.Words.{◌≡◌, ◌⊎◌, inl, inr, ℕ, ◌+◌, ◌<◌, min, List, [], ◌∷◌, ◌++◌, length, drop, map, Ok, true, refl, sym, ap, ◌∙◌, arith, length-append, ◌>>=◌, number_held, PresentNumbers, answer_number, numbers_in, NumbersSoFar, begins_numbers, begins_route, numbers_given, one_number_more}
 use Rattle.text_lines.specs.Words.{Word, word_of, held_word}
 use Rattle.text_lines.proofs.ListLaws.{words_push, after_first}
-use Rattle.text_lines.proofs.WordLaws.{number_held}
-use Rattle.answer_text.specs.declared.present_numbers.PresentNumbers.{PresentNumbers}
-use Rattle.answer_text.specs.AnswerFiles.{answer_number, numbers_in}
-use Rattle.answer_text.specs.AnswerTakes.{NumbersSoFar, begins_numbers, begins_route, numbers_given, one_number_more}
 
 numbers_push : (ws : List Word) (w : Word) → numbers_in (ws ++ w ∷ []) ≡ one_number_more (numbers_in ws) w.number
 numbers_push = words_push (λ w. answer_number 4294967295 w.number) numbers_in refl (λ w ws. refl)

@@ -3,17 +3,10 @@ use Rattle.std.proofs.Common.{◌≡◌, ℕ, zero, suc, ◌+◌, ◌-◌, ◌<�
 use Rattle.std.proofs.lemmas.List.{append_cancel_right, reverse-append, reverse-reverse}
 use mathlib.Core.List.{reverse}
 use Rattle.std.specs.Prelude.{Contains}
-use Rattle.road_graph.specs.GraphData.{GraphData}
+use Rattle.answer_text.proofs.Words.{GraphData, Algebra, IsLawful, AlgebraName, Kind, Reached, FoundData, AnswerData, SourceAnswer, PairAnswer, SourcesAnswer, AnswerList, IsBestCode, IsParentOrZero, IsVertexLine, AreVertexLines, IsRouteBetween, IsPairAnswer, IsAnswer, AreAnswers, IsAnswerList, answer_text, blocks_text, header_text, answers_text}
 use Rattle.road_graph.proofs.Lists.{here}
-use Rattle.path_algebra.specs.Algebra.{Algebra, IsLawful}
 use Rattle.path_algebra.specs.Walks.{IsBest, AreHops, IsParent, IsParentChain}
 use Rattle.road_files.specs.Asked.{Question, FromSource, BetweenPair, FromSources, Asked}
-use Rattle.path_algebra.specs.declared.name.AlgebraName.{AlgebraName}
-use Rattle.road_files.specs.declared.questions.Kind.{Kind}
-use Rattle.answer_text.specs.declared.answers.Reached.{Reached}
-use Rattle.answer_text.specs.AnswerData.{FoundData, AnswerData, SourceAnswer, PairAnswer, SourcesAnswer, AnswerList}
-use Rattle.answer_text.specs.IsAnswer.{IsBestCode, IsParentOrZero, IsVertexLine, AreVertexLines, IsRouteBetween, IsPairAnswer, IsAnswer, AreAnswers, IsAnswerList}
-use Rattle.answer_text.specs.AnswerText.{answer_text, blocks_text, header_text, answers_text}
 
 -- the elements of a list in prefix of others, the last first
 turned : List ℕ → List ℕ → List ℕ

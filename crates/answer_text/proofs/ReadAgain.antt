@@ -1,26 +1,17 @@
 -- Answers that are written are read again.
-use Rattle.std.proofs.Common.{◌≡◌, ℕ, suc, ◌+◌, ◌<◌, ◌≤◌, ◌^◌, List, [], ◌∷◌, ◌++◌, length, map, Option, Some, None, Ok, Result, false, decimal, refl, sym, ap, ◌∙◌, subst, arith, codes, append_assoc, append-nil, length-append}
+use Rattle.answer_text.proofs.Words.{◌≡◌, ℕ, suc, ◌+◌, ◌<◌, ◌≤◌, ◌^◌, List, [], ◌∷◌, ◌++◌, length, map, Option, Some, None, Ok, Result, false, decimal, refl, sym, ap, ◌∙◌, subst, arith, codes, append_assoc, append-nil, length-append, length-map, AlgebraName, ReadFault, word_of, Kind, Sources, Pairs, Multi, Reached, AnswerData, SourceAnswer, PairAnswer, SourcesAnswer, AnswerList, AreSmall, IsLineWritable, AreLinesWritable, IsAnswerWritable, AreWritable}
 use Rattle.std.proofs.lemmas.Bool.{eq-eqb, ne_eqb, lt-ltb, le-ltb}
-use Rattle.std.proofs.lemmas.List.{length-map}
 use Rattle.std.specs.List.{AllByRecursion, join_with_byte}
-use Rattle.path_algebra.specs.declared.name.AlgebraName.{AlgebraName}
 use Rattle.path_algebra.specs.declared.name.AlgebraName.TheVariants as names
 use Rattle.path_algebra.specs.Names.{name_text, name_of_text}
-use Rattle.text_lines.specs.declared.faults.ReadFault.{ReadFault}
 use Rattle.text_lines.specs.Lines.{lines, number}
 use Rattle.text_lines.specs.Rules.{value_of_lines, text_value, text_read}
 use Rattle.text_lines.specs.Texts.{spelled, text_of, IsWord, list_words}
-use Rattle.text_lines.specs.Words.{word_of}
 use Rattle.text_lines.proofs.RoundTrip.{decimal_is_number, fields_join, lines_text, word_of_number, word_by_test}
 use Rattle.road_files.specs.QuestionFiles.{kind_named}
 use Rattle.road_files.specs.WrittenQuestions.{kind_word}
-use Rattle.road_files.specs.declared.questions.Kind.{Kind}
-use Rattle.road_files.specs.declared.questions.Kind.TheVariants.{Sources, Pairs, Multi}
-use Rattle.answer_text.specs.declared.answers.Reached.{Reached}
-use Rattle.answer_text.specs.AnswerData.{AnswerData, SourceAnswer, PairAnswer, SourcesAnswer, AnswerList}
 use Rattle.answer_text.specs.AnswerText.{header_words, source_words, pair_words, found_words, vertex_words, vertex_lines, answer_lines, answer_text, blocks_text, header_text, answers_text}
 use Rattle.answer_text.specs.AnswerFiles.{Named, OneSource, ManySources, Between, InLines, AfterPair, AfterFound, AnswersSoFar, numbers_in, header_line, source_line, pair_line, sources_line, route_line, reached_line, unreached_line, vertex_line, value_line, none_line, found_line, with_answer, with_stage, with_lines, told_lines, line_given, line_read, answer_rules}
-use Rattle.answer_text.specs.Writable.{AreSmall, IsLineWritable, AreLinesWritable, IsAnswerWritable, AreWritable}
 
 small_word : (n : ℕ) → n < 2 ^ 32 → IsWord (decimal n)
 small_word n h = word_of_number n (omega arith)

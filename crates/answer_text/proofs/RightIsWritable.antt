@@ -1,26 +1,13 @@
 -- Right answers have the sizes of the format: they are written, and read again.
-use Rattle.std.proofs.Common.{◌≡◌, ℕ, ◌+◌, ◌-◌, ◌<◌, ◌≤◌, ◌^◌, List, [], ◌∷◌, length, Option, Some, None, Ok, inl, inr, sym, ap, subst, arith}
+use Rattle.answer_text.proofs.Words.{◌≡◌, ℕ, ◌+◌, ◌-◌, ◌<◌, ◌≤◌, ◌^◌, List, [], ◌∷◌, length, Option, Some, None, Ok, inl, inr, sym, ap, subst, arith, AllByRecursion, GraphData, IsGraph, HasVertex, Algebra, IsLawful, AreHops, IsParent, IsParentChain, text_read, Kind, Sources, Pairs, Multi, Questions, Reached, answer_rules, answers_text, IsBestCode, IsParentOrZero, IsVertexLine, AreVertexLines, IsRouteBetween, IsPairAnswer, IsAnswer, AreAnswers, IsAnswerList, FoundData, AnswerData, SourceAnswer, PairAnswer, SourcesAnswer, AnswerList}
 use Rattle.std.proofs.lemmas.List.{get_or_default}
 use Rattle.std.proofs.lemmas.List.Elements.{recursion_from_All}
-use Rattle.std.specs.List.{AllByRecursion}
 use Rattle.std.specs.Prelude.{All, get_or}
-use Rattle.road_graph.specs.GraphData.{GraphData, IsGraph, HasVertex}
 use Rattle.road_graph.proofs.Lists.{only_element}
-use Rattle.path_algebra.specs.Algebra.{Algebra, IsLawful}
-use Rattle.path_algebra.specs.Walks.{AreHops, IsParent, IsParentChain}
 use Rattle.path_algebra.proofs.Walks.{walk_value_is_value}
-use Rattle.text_lines.specs.Rules.{text_read}
-use Rattle.road_files.specs.declared.questions.Kind.{Kind}
-use Rattle.road_files.specs.declared.questions.Kind.TheVariants.{Sources, Pairs, Multi}
-use Rattle.road_files.specs.declared.questions.Questions.{Questions}
 use Rattle.graph_text.specs.Vertices.{IsVertexOf}
 use Rattle.road_files.specs.Asked.{Question, FromSource, BetweenPair, FromSources, asked_of, AreQuestionsOf}
 use Rattle.road_files.proofs.QuestionLaws.{IsQuestionOf, questions_of}
-use Rattle.answer_text.specs.declared.answers.Reached.{Reached}
-use Rattle.answer_text.specs.AnswerFiles.{answer_rules}
-use Rattle.answer_text.specs.AnswerText.{answers_text}
-use Rattle.answer_text.specs.IsAnswer.{IsBestCode, IsParentOrZero, IsVertexLine, AreVertexLines, IsRouteBetween, IsPairAnswer, IsAnswer, AreAnswers, IsAnswerList}
-use Rattle.answer_text.specs.AnswerData.{FoundData, AnswerData, SourceAnswer, PairAnswer, SourcesAnswer, AnswerList}
 use Rattle.answer_text.specs.Writable.{AreSmall, IsLineWritable, AreLinesWritable, IsFoundWritable, IsAnswerWritable, AreWritable}
 use Rattle.answer_text.proofs.FewHops.{few_hops}
 use Rattle.answer_text.proofs.OneAnswer.{answers_count}

@@ -1,11 +1,5 @@
 -- The lines of vertices, one by one.
-use Rattle.std.proofs.Common.{◌≡◌, ℕ, ◌+◌, ◌<◌, ◌≤◌, List, [], ◌++◌, length, drop, get_or, Option, refl, sym, ap, ◌∙◌, drop-cons, drop_of_length-le, add-one}
-use Rattle.text_lines.specs.Texts.{spelled, text_of}
-use Rattle.text_lines.specs.Streams.{Output}
-use Rattle.text_lines.specs.Written.{WrotePrefix, FailedAfterPrefix}
-use Rattle.text_lines.proofs.WriteLaws.{left_step, fell_step}
-use Rattle.answer_text.specs.declared.answers.Reached.{Reached}
-use Rattle.answer_text.specs.AnswerText.{vertex_words, vertex_lines}
+use Rattle.answer_text.proofs.Words.{◌≡◌, ℕ, ◌+◌, ◌<◌, ◌≤◌, List, [], ◌++◌, length, drop, get_or, Option, refl, sym, ap, ◌∙◌, drop-cons, drop_of_length-le, add-one, spelled, text_of, Output, WrotePrefix, FailedAfterPrefix, left_step, fell_step, Reached, vertex_words, vertex_lines}
 
 -- the lines of the vertices after the first i
 pub vertices_from : ℕ → List (Option Reached) → List ℕ

@@ -1,14 +1,7 @@
 -- The first of the best roads out of a vertex is the best step, since its arcs rise.
 use Rattle.std.proofs.Common.{◌≡◌, ◌≢◌, ℕ, ◌<◌, ◌≤◌, ◌∙◌, inl, inr, List, length, get_or, ap, sym, subst, arith, Some, None}
-use Rattle.std.specs.Prelude.{IsTrue}
-use Rattle.std.proofs.Math.Nat.{eq-or-lt_of_le}
-use Rattle.road_graph.specs.declared.OutRoad.{OutRoad}
-use Rattle.road_graph.specs.GraphData.{GraphData, HasVertex, ListsArcsFrom, ListsRoadsFrom, roads_of}
+use Rattle.arc_numbers.proofs.Words.{IsTrue, eq-or-lt_of_le, OutRoad, GraphData, HasVertex, ListsArcsFrom, ListsRoadsFrom, roads_of, Algebra, IsBestRoad, IsBestRoadOrNone, IsReordered, IsBestStep, IsStep}
 use Rattle.road_graph.proofs.Lists.{rises}
-use Rattle.path_algebra.specs.Algebra.{Algebra}
-use Rattle.arc_numbers.specs.BestRoad.{IsBestRoad, IsBestRoadOrNone}
-use Rattle.arc_numbers.specs.Numbering.{IsReordered}
-use Rattle.arc_numbers.specs.RouteArcs.{IsBestStep, IsStep}
 use Rattle.arc_numbers.proofs.Reordered.{count, index_of, one_list, one_row, step_at}
 
 module _ {V : Type 0} (A : Algebra V) (g h : GraphData) (x : V) (u v : ℕ) (reordered : IsReordered g h) (has : HasVertex g u) (roads : List OutRoad) (row : List ℕ)

@@ -1,10 +1,8 @@
 -- One more road: the best of those so far, or this one if it is better.
 use Rattle.std.proofs.Common.{◌≡◌, ℕ, ◌+◌, ◌<◌, Bool, true, false, cond, List, refl, arith, Option, Some, None, below_more, subst, ◌≤◌}
-use Rattle.std.specs.Prelude.{IsTrue, MatchOption}
-use Rattle.road_graph.specs.declared.OutRoad.{OutRoad}
+use Rattle.arc_numbers.proofs.Words.{IsTrue, MatchOption, OutRoad, IsBestRoad, IsBestRoadOrNone, LeadsTo, better_road, road_at}
 use Rattle.path_algebra.specs.Algebra.{Algebra, IsOrder}
 use Rattle.path_algebra.proofs.Least.{other_no_worse, same_no_worse}
-use Rattle.arc_numbers.specs.BestRoad.{IsBestRoad, IsBestRoadOrNone, LeadsTo, better_road, road_at}
 
 module _ {V : Type 0} (A : Algebra V) (ordered : IsOrder A.no_worse) (x : V) (v : ℕ) (roads : List OutRoad) (i : ℕ) where
   -- of two values that a road takes x to, there is one

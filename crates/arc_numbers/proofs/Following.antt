@@ -4,13 +4,12 @@ use Rattle.std.proofs.Common.{◌≡◌, ℕ, ◌+◌, ◌-◌, ◌<◌, ◌≤�
 use Rattle.std.proofs.lemmas.List.{take_all, take_more, take_more_set}
 use Rattle.std.proofs.Math.ListN.{drop_of_length-le}
 use Rattle.road_graph.proofs.Lists.{here}
-use Rattle.std.specs.Prelude.{IsTrue}
+use Rattle.arc_numbers.proofs.Words.{IsTrue, HasSameRoads, IsReordered}
 use Rattle.road_graph.specs.GraphData.{GraphData, HasVertex, IsGraph, arc_of}
 use Rattle.path_algebra.specs.Algebra.{Algebra, IsLawful}
 use Rattle.path_algebra.specs.Walks.{IsBest, IsBestCode, IsParent, IsParentChain, IsWalkValue}
 use Rattle.path_algebra.proofs.Walks.{IsWalkValue-extend}
 use Rattle.path_algebra.proofs.Tight.{best_is_one, never_better_along}
-use Rattle.arc_numbers.specs.Numbering.{HasSameRoads, IsReordered}
 use Rattle.arc_numbers.specs.RouteArcs.{AreRouteArcs, AreStepsAlong, IsBestStep, IsStep}
 use Rattle.arc_numbers.proofs.Reordered.{like}
 

@@ -1,3 +1,4 @@
+mod Words
 mod Reordered
 mod Following
 mod Choosing

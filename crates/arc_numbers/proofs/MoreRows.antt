@@ -1,11 +1,9 @@
 -- One more row at the end of the rows.
-use Rattle.std.proofs.Common.{◌≡◌, ℕ, ◌+◌, ◌-◌, ◌<◌, ◌≤◌, ◌∙◌, inl, inr, List, [], ◌∷◌, ◌++◌, length, drop, get_or, ap, sym, subst, arith, refl}
+use Rattle.arc_numbers.proofs.Words.{◌≡◌, ℕ, ◌+◌, ◌-◌, ◌<◌, ◌≤◌, ◌∙◌, inl, inr, List, [], ◌∷◌, ◌++◌, length, drop, get_or, ap, sym, subst, arith, refl, eq-or-lt_of_le, GraphData, ListsArcsFrom}
 use Rattle.std.specs.Prelude.{slice_range}
 use Rattle.std.proofs.lemmas.List.{get_or_append_left, length-append, take-append-le}
 use Rattle.std.proofs.lemmas.Slice.{between_is, between_to_end}
-use Rattle.std.proofs.Math.Nat.{eq-or-lt_of_le}
 use Rattle.std.proofs.Math.Seq.{drop-append_seam, get_or-append_seam}
-use Rattle.road_graph.specs.GraphData.{GraphData, ListsArcsFrom}
 use Rattle.road_graph.specs.Making.{HasRow}
 use Rattle.arc_numbers.specs.Rows.{AreRowsFrom, IsRowFrom}
 

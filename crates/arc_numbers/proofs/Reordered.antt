@@ -1,15 +1,10 @@
 -- In a graph whose arcs are in another order each step has a like one.
-use Rattle.std.proofs.Common.{◌≡◌, ℕ, ◌<◌, ◌∙◌, List, length, get_or, refl, ap, sym, subst, arith}
+use Rattle.arc_numbers.proofs.Words.{◌≡◌, ℕ, ◌<◌, ◌∙◌, List, length, get_or, refl, ap, sym, subst, arith, OutRoad, Algebra, LeadsTo, road_at, HasSameRoads, IsStep}
 use Rattle.std.specs.Prelude.{map, Contains}
 use Rattle.std.proofs.lemmas.List.{get_or-map, length-map}
 use Rattle.std.proofs.lemmas.List.Elements.{Contains-get_or}
-use Rattle.road_graph.specs.declared.OutRoad.{OutRoad}
 use Rattle.road_graph.specs.GraphData.{GraphData, HasArc, ListsArcsFrom, ListsRoadsFrom, arc_of, road_of, roads_of}
 use Rattle.road_graph.proofs.Lists.{element_place, same_rising}
-use Rattle.path_algebra.specs.Algebra.{Algebra}
-use Rattle.arc_numbers.specs.BestRoad.{LeadsTo, road_at}
-use Rattle.arc_numbers.specs.Numbering.{HasSameRoads}
-use Rattle.arc_numbers.specs.RouteArcs.{IsStep}
 
 -- the roads out of a vertex are one list
 pub one_list : (g : GraphData) (v : ℕ) (xs ys : List OutRoad) → ListsRoadsFrom g v xs → ListsRoadsFrom g v ys → xs ≡ ys

@@ -1,3 +1,4 @@
+mod Words
 mod Globals
 mod Numbers
 mod Parsing

@@ -1,9 +1,8 @@
 -- What is read of matches, as their rows say it.
 use Rattle.std.proofs.Common.{◌≡◌, ℕ, List, Option, Some, None, Result, refl, ap, sym, ◌∙◌, unwrap_or}
-use Rattle.std.specs.Option.{option_map}
+use Rattle.command_args.proofs.Words.{option_map, Reads}
 use Rattle.std.specs.Str.Parse.{ParsesUnsigned}
 use Rattle.clap.specs.Matches.{ReadsOne}
-use Rattle.command_args.specs.Asked.{Reads}
 
 -- what `get_one` gives is what the text spells
 pub reads : {E : Type 0} (P Q : List ℕ → Result ℕ E → Type 0) (bits : ℕ) (text : Option (List ℕ)) (n : Option ℕ) → (text ≡ None → n ≡ None)

@@ -9,7 +9,7 @@ pub record Moment (P W E : Type 0) : Type 0 where
   pub errors : Output E
 
 -- of a host, as its two writers show themselves
-abbrev pub moment : {P W E : Type 0} → (W → Output W) → (E → Output E) → Host P W E → Moment P W E
+abbrev pub moment : {S P W E F I N : Type 0} → (W → Output W) → (E → Output E) → Host S P W E F I N → Moment P W E
 moment seen shown host = record {
   files = host.files;
   out = seen host.out;

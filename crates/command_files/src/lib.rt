@@ -11,7 +11,7 @@ mod times;
 
 pub use creating::{ERRORS_NAME, OUTPUT_NAME, create_accounts};
 pub use files::{FileSystem, HostFiles};
-pub use host::Host;
+pub use host::{Host, Streams};
 pub use opened_input::OpenedInput;
 pub use opening::{STDIN_NAME, choose, open_pair, open_to_bundle, open_to_check, open_to_order};
 pub use refusal::{Refusal, refuse};

@@ -1,13 +1,8 @@
 -- The roads out of a vertex, with the vertex as their tail, are its arcs.
-use Rattle.std.proofs.Common.{◌≡◌, ℕ, List, [], ◌∷◌, get_or, refl, ap, ◌∙◌, subst}
-use Rattle.std.specs.Prelude.{map}
-use Rattle.std.specs.List.{All}
+use Rattle.diffuse_c.proofs.Words.{◌≡◌, ℕ, List, [], ◌∷◌, get_or, refl, ap, ◌∙◌, subst, map, All, RoadArc, AreArcsFrom, arc_out_of, arc_from}
 use Rattle.std.proofs.lemmas.List.Elements.{All-head, All-tail, All-contains_itself}
 use Rattle.road_graph.specs.declared.OutRoad.{OutRoad}
-use Rattle.road_graph.specs.declared.RoadArc.{RoadArc}
 use Rattle.road_graph.specs.GraphData.{GraphData, ListsRoadsFrom, arc_of, road_of, roads_of}
-use Rattle.diffuse_c.specs.Leaving.{AreArcsFrom, arc_out_of}
-use Rattle.diffuse_c.specs.Lent.{arc_from}
 
 one : (v : ℕ) (a : RoadArc) → a.tail ≡ v → arc_from (arc_out_of v (road_of a)) ≡ a
 one v a e = subst (λ (t : ℕ). arc_from (arc_out_of t (road_of a)) ≡ a) e refl

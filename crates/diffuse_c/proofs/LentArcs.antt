@@ -1,11 +1,8 @@
 -- Lent arcs are those of a graph if each joins two of its vertices.
 use Rattle.std.proofs.Common.{◌≡◌, ℕ, ◌+◌, ◌-◌, ◌<◌, ◌≤◌, ◌^◌, List, length, get_or, sym, subst, arith}
-use Rattle.std.specs.List.{All}
+use Rattle.diffuse_c.proofs.Words.{All, RoadArc, DiffuseArc, arc_from, lent}
 use Rattle.std.proofs.lemmas.List.{get_or-map, length-map}
 use Rattle.road_graph.specs.GraphData.{IsGraph, HasArc, JoinsVertices, arc_of}
-use Rattle.road_graph.specs.declared.RoadArc.{RoadArc}
-use Rattle.diffuse_c.specs.declared.arcs.DiffuseArc.{DiffuseArc}
-use Rattle.diffuse_c.specs.Lent.{arc_from, lent}
 
 -- both ends of the arc are among the vertices 1 to n, and its weight is below 2^32
 abbrev pub FitsIn : ℕ → DiffuseArc → Type 0

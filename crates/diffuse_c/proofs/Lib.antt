@@ -1,3 +1,4 @@
+mod Words
 mod ArcsOut
 mod FaultNumbers
 mod LentArcs

@@ -1,9 +1,6 @@
 -- What a status means of the graph of a handle, as it is passed on.
 use Rattle.std.proofs.Common.{◌≡◌, ℕ, inl, inr, List, [], ◌∷◌, Option, Some, sym, subst, of_z, to_z, w32}
-use Rattle.std.specs.Prelude.{ℤ, pos}
-use Rattle.road_graph.specs.GraphData.{GraphData}
-use Rattle.answer_lists.specs.Answers.{IsOneOf}
-use Rattle.answer_lists.specs.Sharing.{Shared}
+use Rattle.diffuse_c.proofs.Words.{ℤ, pos, GraphData, IsOneOf, Shared}
 use Rattle.diffuse_c.specs.Holding.{OfGraph}
 
 -- these statuses are read as they were written

@@ -1,14 +1,8 @@
 -- Why no handle is opened over the factors of another one: the graph of the arcs is not factored
 -- over the links.
-use Rattle.std.proofs.Common.{◌≡◌, ℕ, inl, inr, List, [], ◌∷◌, Option, Some, arith, subst, sym}
-use Rattle.std.specs.Prelude.{ℤ, pos}
-use Rattle.answer_lists.specs.Answers.{IsOneOf}
+use Rattle.diffuse_c.proofs.Words.{◌≡◌, ℕ, inl, inr, List, [], ◌∷◌, Option, Some, arith, subst, sym, ℤ, pos, IsOneOf, Shared, DiffuseArc, Fits, lent, IsReweighFault}
 use Rattle.answer_lists.specs.Reweighing.{IsHeavy, IsRefusal}
-use Rattle.answer_lists.specs.Sharing.{Shared}
-use Rattle.diffuse_c.specs.declared.arcs.DiffuseArc.{DiffuseArc}
 use Rattle.diffuse_c.specs.Holding.{OfShared}
-use Rattle.diffuse_c.specs.Lent.{Fits, lent}
-use Rattle.diffuse_c.specs.Reweighing.{IsReweighFault}
 
 same_number : (n : ℤ) (i j : ℕ) → n ≡ pos i → n ≡ pos j → i ≡ j
 same_number n i j a b = cc

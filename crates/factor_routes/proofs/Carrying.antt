@@ -1,16 +1,11 @@
 -- What best numbers say of the algebra whose values they carry.
-use Rattle.std.proofs.Common.{◌≡◌, ℕ, ◌%◌, ◌<◌, ◌^◌, List, [], ◌∷◌, refl, ap, sym, ◌∙◌, subst, arith, Option, Some, None}
+use Rattle.factor_routes.proofs.Words.{◌≡◌, ℕ, ◌%◌, ◌<◌, ◌^◌, List, [], ◌∷◌, refl, ap, sym, ◌∙◌, subst, arith, Option, Some, None, GraphData, IsGraph, HasVertex, arc_of, Algebra, Branches, hops_of, parent_of, IsParentAt, IsTree, AreBestNumbers, IsCountedChain, IsCountedRoute, IsLeastTail}
 use Rattle.std.specs.Prelude.{Contains, IfSome, IsSome, option_map}
-use Rattle.road_graph.specs.GraphData.{GraphData, IsGraph, HasVertex, arc_of}
 use Rattle.road_graph.proofs.Lists.{same_some}
-use Rattle.path_algebra.specs.Algebra.{Algebra}
 use Rattle.path_algebra.specs.Walks.{IsWalkValue, IsBest, IsBestLabel, AreHops, IsNearer, IsParent, IsParentChain, IsUnreached}
 use Rattle.path_algebra.specs.Counted.{counted, AreBestInto, IsCountedParent, IsCountedStepOf}
 use Rattle.path_algebra.specs.Carried.{carried_value, CarryValues}
-use Rattle.route_tree.specs.Tree.{Branches, hops_of, parent_of, IsParentAt, IsTree}
 use Rattle.route_tree.specs.Told.{IsParentRoute, IsToldOf}
-use Rattle.factor_routes.specs.Numbers.{AreBestNumbers}
-use Rattle.factor_routes.specs.Tails.{IsCountedChain, IsCountedRoute, IsLeastTail}
 
 pub told_as : {V : Type 0} (A : Algebra V) (g : GraphData) (sources : List ℕ) (v : ℕ) (l : Option V) (m n p q : Option ℕ) → m ≡ n → p ≡ q →
     IsToldOf A g sources v l n q → IsToldOf A g sources v l m p

@@ -1,10 +1,7 @@
 -- A route that is filled from its target back.
 use Rattle.std.proofs.Common.{◌≡◌, ℕ, List, [], ◌∷◌, ◌++◌, reverse, ap, ◌∙◌, Option, Some, None}
 use Rattle.std.proofs.lemmas.List.{reverse-append}
-use Rattle.road_graph.specs.GraphData.{GraphData, IsGraph, arc_of}
-use Rattle.path_algebra.specs.Counted.{counted, AreBestInto}
-use Rattle.factor_routes.specs.Numbers.{AreBestNumbers}
-use Rattle.factor_routes.specs.Tails.{IsCountedChain, IsCountedRoute, IsLeastTail}
+use Rattle.factor_routes.proofs.Words.{GraphData, IsGraph, arc_of, counted, AreBestInto, AreBestNumbers, IsCountedChain, IsCountedRoute, IsLeastTail}
 
 pub best_into : (g : GraphData) → IsGraph g → (cost : ℕ → ℕ) (k : ℕ) (sources : List ℕ) (number : ℕ → Option ℕ) →
     AreBestNumbers (counted cost k) g sources number → (v : ℕ) → AreBestInto (counted cost k) g sources number v

@@ -4,15 +4,10 @@ use Rattle.std.proofs.Common.{◌≡◌, ℕ, zero, suc, ◌+◌, ◌-◌, ◌*�
 use Rattle.std.proofs.Math.Nat.{mul-le-mul_right, mul-le-mul_left, le_of_mul-le-mul_right, pow-succ'}
 use Rattle.std.proofs.Math.Pow.{pow_mono, pow_pos}
 use Rattle.std.proofs.lemmas.Nat.{pow-add}
-use Rattle.std.proofs.lemmas.Bool.Decides.{nat_tests}
-use Rattle.std.proofs.lemmas.List.{get_or_default}
+use Rattle.factor_routes.proofs.Words.{nat_tests, get_or_default, OutRoad, GraphData, HasArc, ListsRoadsInto, arc_of, reversed_arc, road_of, CountsFit, sum_to, greatest_into}
 use Rattle.std.proofs.lemmas.List.Elements.{All-nil, All-cons, All-head, All-tail, All-weaker, All-contains}
 use Rattle.std.specs.Prelude.{All, Contains, map, ◌==◌, if◌then◌else◌, slice_index_or}
 use Rattle.road_graph.specs.declared.RoadArc.{RoadArc}
-use Rattle.road_graph.specs.declared.OutRoad.{OutRoad}
-use Rattle.road_graph.specs.GraphData.{GraphData, HasArc, ListsRoadsInto, arc_of, reversed_arc, road_of}
-use Rattle.path_algebra.specs.Counted.{CountsFit, sum_to}
-use Rattle.factor_routes.specs.Greatest.{greatest_into}
 
 -- the greatest of m and of what the roads of a row cost
 abbrev pub greatest_of : (ℕ → ℕ) → ℕ → List OutRoad → ℕ

@@ -1,3 +1,4 @@
+mod Words
 mod Greatest
 pub mod Tails
 mod Carrying

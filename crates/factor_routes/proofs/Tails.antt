@@ -1,25 +1,13 @@
 -- The least tail from which an arc adds up, found along a row.
 use Rattle.std.proofs.Common.{◌≡◌, ℕ, suc, ◌+◌, ◌-◌, ◌<◌, ◌≤◌, ◌^◌, ◌⊎◌, inl, inr, Bool, true, false, List, [], ◌∷◌, length, get_or, drop, refl, ap, sym, ◌∙◌, subst, arith, eqb-true, leb-true, Option, Some, None}
-use Rattle.std.proofs.Math.Nat.{mul-le-mul_right, mul-le-mul_left}
-use Rattle.std.proofs.Math.Pow.{pow_mono}
-use Rattle.std.proofs.lemmas.Bool.Decides.{nat_tests}
-use Rattle.std.proofs.lemmas.List.Elements.{All-nil, All-cons, All-contains}
+use Rattle.factor_routes.proofs.Words.{mul-le-mul_right, mul-le-mul_left, pow_mono, nat_tests, All-nil, All-cons, All-contains, OutRoad, GraphData, IsGraph, HasArc, HasVertex, ListsRoadsInto, arc_of, reversed_arc, road_of, IsBest, IsBestLabel, cost_of, counted, counted_cost, AreBestInto, IsCountedStepOf, Cost, counted_laws, best_is_one, Branches, hops_of, parent_of, AreHopsAt, IsParentAt, IsTree, adding_up, lesser, IsLeastTail}
 use Rattle.std.specs.Prelude.{All, Contains, IfSome, MatchOption, map, nat_le, ◌==◌, if◌then◌else◌}
 use Rattle.std.proofs.Math.ListN.{get_or-map}
 use Rattle.std.proofs.lemmas.List.{at_drop_all, at_drop_more, get_or_default, length-map}
-use Rattle.road_graph.specs.declared.OutRoad.{OutRoad}
-use Rattle.road_graph.specs.GraphData.{GraphData, IsGraph, HasArc, HasVertex, ListsRoadsInto, arc_of, reversed_arc, road_of}
 use Rattle.path_algebra.specs.Algebra.{Algebra, IsLawful}
-use Rattle.path_algebra.specs.Walks.{IsBest, IsBestLabel}
-use Rattle.path_algebra.specs.Counted.{cost_of, counted, counted_cost, AreBestInto, IsCountedStepOf}
-use Rattle.path_algebra.specs.declared.counted_sums.Cost.{Cost}
 use Rattle.path_algebra.specs.declared.counted_sums.Cost.TheVariants.{Weight, One}
-use Rattle.path_algebra.specs.CountedWalks.{counted_laws}
 use Rattle.path_algebra.specs.Laws.{coded_below}
 use Rattle.path_algebra.proofs.Walks.{walk_value_is_value}
-use Rattle.path_algebra.proofs.Tight.{best_is_one}
-use Rattle.route_tree.specs.Tree.{Branches, hops_of, parent_of, AreHopsAt, IsParentAt, IsTree}
-use Rattle.factor_routes.specs.Tails.{adding_up, lesser, IsLeastTail}
 
 -- a vertex has one best label
 pub one_label : {V : Type 0} (A : Algebra V) → IsLawful A → (g : GraphData) → IsGraph g → (sources : List ℕ) (v : ℕ) (l m : Option V) →

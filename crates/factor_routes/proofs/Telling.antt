@@ -1,13 +1,9 @@
 -- Findings of vertices, one after the other, are labels and a tree.
-use Rattle.std.proofs.Common.{◌≡◌, ℕ, ◌+◌, ◌-◌, ◌≤◌, ◌⊎◌, inl, inr, List, [], ◌∷◌, ◌++◌, length, get_or, refl, ap, sym, ◌∙◌, subst, arith, Option, Some, None}
+use Rattle.factor_routes.proofs.Words.{◌≡◌, ℕ, ◌+◌, ◌-◌, ◌≤◌, ◌⊎◌, inl, inr, List, [], ◌∷◌, ◌++◌, length, get_or, refl, ap, sym, ◌∙◌, subst, arith, Option, Some, None, All-nil, GraphData, IsGraph, HasVertex, Algebra, IsToldOf}
 use Rattle.std.proofs.Math.Seq.{get_or-append_seam}
 use Rattle.std.proofs.lemmas.List.{get_or_append_left, length-append}
-use Rattle.std.proofs.lemmas.List.Elements.{All-nil}
-use Rattle.road_graph.specs.GraphData.{GraphData, IsGraph, HasVertex}
-use Rattle.path_algebra.specs.Algebra.{Algebra}
 use Rattle.path_algebra.specs.Walks.{IsWalkValue, IsBestLabel, IsTight, AreBest, AreHops, label_of}
 use Rattle.route_tree.specs.Tree.{Branches, hops_of, parent_of, AreHopsAt, IsParentAt, IsTree, IsLinkedAt, IsLinked}
-use Rattle.route_tree.specs.Told.{IsToldOf}
 use Rattle.route_tree.proofs.Told.{one_hops}
 
 -- what was found of the vertices 1 to n

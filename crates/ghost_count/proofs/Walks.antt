@@ -1,11 +1,8 @@
 -- A step that the proofs of both methods share.
-use Rattle.std.proofs.Common.{List, [], ◌∷◌, refl}
-use seplogic.Ra.Ura.{Ura}
+use Rattle.ghost_count.proofs.Words.{List, [], ◌∷◌, refl, Ura, Logic, nothing}
 use mir.Val.{Val, vstruct, vnil}
-use types.Logic.{Logic}
 use types.Kit.{Goal, Step, step, Item, ‵, ◌$◌, fjoin, fpack, feq_i}
 use denote.RattleType.{RattleType, Valss}
-use denote.Steps.{nothing}
 use denote.Struct.Struct.{Struct, within}
 
 abbrev pub none : Val

@@ -3,13 +3,10 @@ use Rattle.std.proofs.Common.{◌≡◌, ◌≢◌, ℕ, suc, ◌+◌, ◌<◌, 
 use Rattle.std.specs.Prelude.{bytes_eq, slice_index, is_none}
 use Rattle.std.proofs.lemmas.Bool.{ltb-true, ltb-false, ne_eqb}
 use Rattle.std.proofs.lemmas.Slice.Eq.{bytes_eq-Decides}
-use Rattle.road_graph.specs.declared.RoadArc.{RoadArc}
-use Rattle.road_graph.specs.GraphData.{GraphData}
+use Rattle.graph_text.proofs.Words.{RoadArc, GraphData, Word, word_of, word_at, up_to, vertex_in}
 use Rattle.text_lines.specs.Lines.{lines, fields, number}
 use Rattle.text_lines.specs.Rules.{◌>>=◌, unless, at_line, value_of_lines, text_value, text_read}
-use Rattle.text_lines.specs.Words.{Word, word_of, word_at}
 use Rattle.graph_text.specs.GraphFiles.{RoadsSoFar, gr_problem, one_arc, gr_arc, gr_line, gr_whole, graph_read, gr_end, gr_rules}
-use Rattle.graph_text.specs.Numbers.{up_to, vertex_in}
 use Rattle.graph_text.specs.GraphLines.{first_field, arc_lines, problem_lines, SaysArc, SayArcs, SayGraph}
 
 -- what goes well has gone well in each of its parts

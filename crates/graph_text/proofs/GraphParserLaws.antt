@@ -1,18 +1,11 @@
 -- A graph's line, as its parser takes it.
-use Rattle.std.proofs.Common.{◌≡◌, ℕ, List, [], ◌∷◌, ◌++◌, length, take, map, Bool, refl, sym, ap, ◌∙◌, Option, Some, None, option_map, Ok, Err, arith, subst}
-use Rattle.road_graph.specs.GraphData.{GraphData}
+use Rattle.graph_text.proofs.Words.{◌≡◌, ℕ, List, [], ◌∷◌, ◌++◌, length, take, map, Bool, refl, sym, ap, ◌∙◌, Option, Some, None, option_map, Ok, Err, arith, subst, GraphData, fields, value_of_lines, Word, word_of, held_word, ne_eqb, lt-ltb, le-ltb, GraphBuilder, RoadsSoFar, gr_arc, gr_line, gr_rules, one_arc}
 use Rattle.text_lines.specs.declared.faults.ReadFault.{ReadFault}
 use Rattle.text_lines.specs.declared.slots.Slot.{Slot}
-use Rattle.text_lines.specs.Lines.{fields}
-use Rattle.text_lines.specs.Rules.{value_of_lines}
 use Rattle.text_lines.specs.Slots.{word_in}
 use Rattle.text_lines.specs.Takes.{ShowsLine}
 use Rattle.text_lines.specs.ShortLines.{HasShortFields}
-use Rattle.text_lines.specs.Words.{Word, word_of, held_word}
-use Rattle.std.proofs.lemmas.Bool.{ne_eqb, lt-ltb, le-ltb}
-use Rattle.graph_text.specs.declared.graph_builder.GraphBuilder.{GraphBuilder}
 use Rattle.graph_text.specs.declared.graph_parser.GraphParser.{GraphParser}
-use Rattle.graph_text.specs.GraphFiles.{RoadsSoFar, gr_arc, gr_line, gr_rules, one_arc}
 use Rattle.graph_text.specs.GraphTakes.{roads_so_far, taken_of, GivesRoads, FitsArc}
 use Rattle.graph_text.proofs.RuleLaws.{gr_line_kept, few}
 

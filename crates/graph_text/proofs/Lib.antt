@@ -1,3 +1,4 @@
+mod Words
 pub mod RuleLaws
 mod GraphParserLaws
 pub mod WrittenGraphs

@@ -1,16 +1,11 @@
 -- The rules of numbers, vertices and graph lines: what is kept of a line is enough for them, and
 -- their faults have the numbers 10 to 19.
 use Rattle.std.proofs.Common.{◌≡◌, ℕ, ◌<◌, min, Option, Some, None, option_map, refl, arith, List, take, map, sym, lit<, codes, if◌then◌else◌, ◌≤◌, Bool, Result, Ok, Err}
-use Rattle.std.proofs.lemmas.Grind.{common_steps}
+use Rattle.graph_text.proofs.Words.{common_steps, Word, word_of, word_at, held_word, ◌>>=◌, unless, vertex_in, up_to, GraphBuilder, roads_so_far}
 use Rattle.std.specs.Option.{IfSome}
-use Rattle.text_lines.specs.Words.{Word, word_of, word_at, held_word}
 use Rattle.text_lines.proofs.WordLaws.{Keeps, keeps, short_word, first_byte, number_held}
-use Rattle.text_lines.specs.Rules.{◌>>=◌, unless}
 use Rattle.text_lines.proofs.ParserLaws.{IsOwn, own_then, own_unless, own_if, own_up_to}
-use Rattle.graph_text.specs.Numbers.{vertex_in, up_to}
 use Rattle.graph_text.specs.GraphFiles.{RoadsSoFar, one_arc, gr_arc, gr_problem, gr_line, roads_before, gr_whole, gr_rules}
-use Rattle.graph_text.specs.declared.graph_builder.GraphBuilder.{GraphBuilder}
-use Rattle.graph_text.specs.GraphTakes.{roads_so_far}
 
 -- what is kept of a number is enough for a vertex
 pub vertex_held : (n : ℕ) (o : Option ℕ) → n < 18446744073709551616 → vertex_in n (option_map (λ v. min v 18446744073709551616) o) ≡ vertex_in n o

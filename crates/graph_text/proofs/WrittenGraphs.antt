@@ -2,20 +2,16 @@
 use Rattle.std.proofs.Common.{◌≡◌, ℕ, ◌+◌, ◌<◌, ◌≤◌, List, [], ◌++◌, length, get_or, map, Result, ap, ◌∙◌, arith, subst, ◌-◌, ◌∷◌, Ok, refl, ◌*◌, ◌^◌, Some, None, lit<, codes, decimal, append_assoc, append-nil, length-append}
 use Rattle.std.proofs.lemmas.List.{get_or_default}
 use Rattle.std.specs.List.{AllByRecursion}
-use Rattle.std.proofs.lemmas.Bool.{le-ltb, ne_eqb, lt-ltb}
+use Rattle.graph_text.proofs.Words.{le-ltb, ne_eqb, lt-ltb, RoadArc, text_read, word_of, gr_problem, one_arc, gr_line, gr_rules, gr_end}
 use Rattle.std.proofs.lemmas.Fmt.{length-decimal-le}
 use Rattle.std.proofs.lemmas.List.Elements.{recursion_from_All}
 use Rattle.road_graph.specs.GraphData.{GraphData, arc_of, IsGraph, JoinsVertices}
-use Rattle.road_graph.specs.declared.RoadArc.{RoadArc}
 use Rattle.text_lines.specs.Texts.{text_of, spelled, AreLines}
 use Rattle.text_lines.specs.Streams.{Output}
 use Rattle.text_lines.specs.Written.{WrotePrefix, FailedAfterPrefix, WritesText}
 use Rattle.text_lines.proofs.WriteLaws.{wrote_then, fell_first}
-use Rattle.text_lines.specs.Rules.{text_read}
 use Rattle.text_lines.proofs.RoundTrip.{after, value_again, read_again, decimal_is_number, word_of_number, word_by_test}
-use Rattle.text_lines.specs.Words.{word_of}
 use Rattle.graph_text.specs.WrittenGraphs.{graph_words, arc_words, gr_text, graph_lines}
-use Rattle.graph_text.specs.GraphFiles.{gr_problem, one_arc, gr_line, gr_rules, gr_end}
 
 -- arc number i + 1 is entry i of the arcs
 pub arc_at : (g : GraphData) (i : ℕ) → arc_of g (i + 1) ≡ get_or g.arcs i (record { tail = 0; head = 0; weight = 0 })

@@ -1,12 +1,7 @@
 -- Numbers carry the values of Shortest, Hops and Within.
-use Rattle.std.proofs.Common.{◌≡◌, ℕ, ◌/◌, ◌≤◌, ◌^◌, Bool, true, false, refl, sym, subst, arith, Option, Some, None, le-leb, leb-true}
+use Rattle.path_algebra.proofs.Words.{◌≡◌, ℕ, ◌/◌, ◌≤◌, ◌^◌, Bool, true, false, refl, sym, subst, arith, Option, Some, None, le-leb, leb-true, AlgebraName, within, held_sums, IsBestLabel, counted, CarryHops, CarryHopsWithin}
 use Rattle.std.proofs.lemmas.Bool.Decides.{nat_tests}
 use Rattle.std.specs.Prelude.{IsSome, nat_le, if◌then◌else◌}
-use Rattle.path_algebra.specs.Names.{AlgebraName}
-use Rattle.path_algebra.specs.Given.{within}
-use Rattle.path_algebra.specs.Laws.{held_sums}
-use Rattle.path_algebra.specs.Walks.{IsBestLabel}
-use Rattle.path_algebra.specs.Counted.{counted, CarryHops, CarryHopsWithin}
 use Rattle.path_algebra.specs.Carried.{carried_value, IsCarried}
 use Rattle.path_algebra.proofs.CountedLaws.{number_fits, source_is_zero, sums_carry_hops, within_carries_hops}
 

@@ -1,8 +1,6 @@
 -- A number names one algebra at most, and what holds of each algebra holds of the one that was
 -- chosen.
-use Rattle.std.proofs.Common.{◌≡◌, ◌↔◌, ℕ, ◌≤◌, ◌^◌, refl, subst, arith}
-use Rattle.path_algebra.specs.Algebra.{Algebra}
-use Rattle.path_algebra.specs.Given.{within}
+use Rattle.path_algebra.proofs.Words.{◌≡◌, ◌↔◌, ℕ, ◌≤◌, ◌^◌, refl, subst, arith, Algebra, within}
 use Rattle.path_algebra.specs.Choices.{Under, HasLimit, IsAlgebra, IsNumbered, OfAlgebra, number_of}
 use Rattle.path_algebra.specs.declared.choice.AlgebraChoice.{AlgebraChoice}
 use Rattle.path_algebra.specs.declared.choice.AlgebraChoice.TheVariants.{Shortest, Widest, Reach, Hops, Reliable, Within}

@@ -1,13 +1,8 @@
 -- A least number is a least sum and, among those, fewest arcs; its walk is one of tight arcs.
-use Rattle.std.proofs.Common.{◌≡◌, ℕ, ◌+◌, ◌*◌, ◌/◌, ◌%◌, ◌<◌, ◌≤◌, ◌⊎◌, inl, inr, List, [], ◌∷◌, ◌++◌, length, refl, ap, sym, ◌∙◌, subst, arith, Some}
-use Rattle.std.proofs.Math.Nat.{mul-le-mul_right, add-mul}
+use Rattle.path_algebra.proofs.Words.{◌≡◌, ℕ, ◌+◌, ◌*◌, ◌/◌, ◌%◌, ◌<◌, ◌≤◌, ◌⊎◌, inl, inr, List, [], ◌∷◌, ◌++◌, length, refl, ap, sym, ◌∙◌, subst, arith, Some, mul-le-mul_right, add-mul, Contains, All, GraphData, IsGraph, HasArc, HasVertex, arc_of, Algebra, sum_of_costs, IsLeastCost}
 use Rattle.std.proofs.lemmas.Nat.{div-mul-add, mod-mul-add}
 use Rattle.std.proofs.lemmas.List.Elements.{All-nil, All-cons, All-head, All-tail}
-use Rattle.std.specs.Prelude.{Contains, All}
-use Rattle.road_graph.specs.GraphData.{GraphData, IsGraph, HasArc, HasVertex, arc_of}
-use Rattle.path_algebra.specs.Algebra.{Algebra}
 use Rattle.path_algebra.specs.Walks.{IsWalk, IsWalkFrom, IsBest, IsTight, IsTightWalk, AreHops, IsNearer}
-use Rattle.path_algebra.specs.Counted.{sum_of_costs, IsLeastCost}
 use Rattle.path_algebra.proofs.Walks.{IsWalk-snoc}
 use Rattle.path_algebra.proofs.ShortWalks.{short_walk}
 

@@ -1,11 +1,9 @@
 -- Carrying the arcs in the numbers is right: best numbers are best sums with hops, and arcs that
 -- add up are those of parents.
-use Rattle.std.proofs.Common.{◌≡◌, ℕ, ◌+◌, ◌-◌, ◌*◌, ◌/◌, ◌%◌, ◌<◌, ◌≤◌, ◌^◌, ◌⊎◌, inl, inr, true, min, List, [], ◌∷◌, refl, ap, sym, ◌∙◌, subst, arith, Option, Some, None, le-leb, leb-true}
+use Rattle.path_algebra.proofs.Words.{◌≡◌, ℕ, ◌+◌, ◌-◌, ◌*◌, ◌/◌, ◌%◌, ◌<◌, ◌≤◌, ◌^◌, ◌⊎◌, inl, inr, true, min, List, [], ◌∷◌, refl, ap, sym, ◌∙◌, subst, arith, Option, Some, None, le-leb, leb-true, GraphData, IsGraph, HasVertex, arc_of, Algebra}
 use Rattle.std.proofs.Math.Nat.{mul-le-mul_right, mul-le-mul_left, add-mul}
 use Rattle.std.proofs.lemmas.Nat.{div-add-mod'}
 use Rattle.std.specs.Prelude.{Contains, All, ◌↔◌, nat_le}
-use Rattle.road_graph.specs.GraphData.{GraphData, IsGraph, HasVertex, arc_of}
-use Rattle.path_algebra.specs.Algebra.{Algebra}
 use Rattle.path_algebra.specs.Names.{AlgebraName, Own, Shortest, Within}
 use Rattle.path_algebra.specs.Given.{shortest, within}
 use Rattle.path_algebra.specs.Laws.{held_sums, limited_sums, coded_below}

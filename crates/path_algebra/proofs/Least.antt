@@ -1,11 +1,8 @@
 -- The best label among the places that are open, and among those of two lists of sources.
 use Rattle.std.proofs.Common.{◌≡◌, ℕ, zero, suc, ◌+◌, ◌<◌, inl, inr, Bool, true, false, cond, List, get_or, refl, sym, ◌∙◌, subst, arith, Option, Some, None, below_more, add-one, ◌⊎◌, ◌++◌, length}
-use Rattle.std.specs.Prelude.{IsTrue}
+use Rattle.path_algebra.proofs.Words.{IsTrue, Contains-append_left, Contains-append_right, Contains-append_cases, GraphData, IsWalkValue, IsBest, IsBestLabel, AreBest, label_of, better_label}
 use Rattle.path_algebra.specs.Algebra.{IsOrder, Algebra, IsLawful}
 use Rattle.path_algebra.specs.Open.{AnswersBestOpen, better_of}
-use Rattle.std.proofs.lemmas.List.Elements.{Contains-append_left, Contains-append_right, Contains-append_cases}
-use Rattle.road_graph.specs.GraphData.{GraphData}
-use Rattle.path_algebra.specs.Walks.{IsWalkValue, IsBest, IsBestLabel, AreBest, label_of, better_label}
 
 module _ {V : Type 0} (no_worse : V → V → Bool) (ordered : IsOrder no_worse) where
   pub same_no_worse : (a : V) → IsTrue (no_worse a a)

@@ -1,14 +1,5 @@
 -- For each walk there is one that costs no more and repeats no vertex, whatever arcs cost.
-use Rattle.std.proofs.Common.{◌≡◌, ℕ, zero, suc, ◌+◌, ◌*◌, ◌<◌, ◌≤◌, ◌^◌, ◌⊎◌, inl, inr, cond, eqb, min, List, [], ◌∷◌, length, refl, ap, sym, ◌∙◌, subst, arith, eq-eqb, ne_eqb, le-leb, leb-true}
-use Rattle.std.proofs.Math.Nat.{add-mul}
-use Rattle.std.proofs.lemmas.Bool.{cases_eq}
-use Rattle.std.specs.Prelude.{Contains}
-use Rattle.road_graph.specs.GraphData.{GraphData, IsGraph, HasArc, HasVertex, arc_of}
-use Rattle.road_graph.proofs.Lists.{not_in_empty, here, later, head_or_tail}
-use Rattle.path_algebra.specs.Laws.{held_sums}
-use Rattle.path_algebra.specs.Names.{AlgebraName}
-use Rattle.path_algebra.specs.Walks.{IsWalk, IsWalkFrom, Extends, IsBest, IsUnreached}
-use Rattle.path_algebra.specs.Counted.{sum_of_costs, sum_to, IsLeastCost}
+use Rattle.path_algebra.proofs.Words.{◌≡◌, ℕ, zero, suc, ◌+◌, ◌*◌, ◌<◌, ◌≤◌, ◌^◌, ◌⊎◌, inl, inr, cond, eqb, min, List, [], ◌∷◌, length, refl, ap, sym, ◌∙◌, subst, arith, eq-eqb, ne_eqb, le-leb, leb-true, add-mul, cases_eq, Contains, GraphData, IsGraph, HasArc, HasVertex, arc_of, not_in_empty, here, later, head_or_tail, held_sums, AlgebraName, IsWalk, IsWalkFrom, Extends, IsBest, IsUnreached, sum_of_costs, sum_to, IsLeastCost}
 
 -- the list without the first u
 remove : ℕ → List ℕ → List ℕ

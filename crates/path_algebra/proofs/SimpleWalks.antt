@@ -1,10 +1,8 @@
 -- The walks that pass no vertex twice, as a list: exactly these, each once.
 use Rattle.std.proofs.Common.{◌≡◌, ◌≢◌, ℕ, zero, suc, ◌+◌, ◌≤◌, ◌<◌, true, false, cond, eqb, List, [], ◌∷◌, ◌++◌, length, map, ◌⊎◌, refl, sym, ap, ◌∙◌, subst, inl, inr, arith, Contains, eqb-true, eq-eqb, ne_eqb}
 use Rattle.std.proofs.lemmas.Bool.{cases_eq, cases_Bool, cond-true, cond-false, or_cases, or_parts, eqb-false}
-use Rattle.std.proofs.lemmas.List.Elements.{Contains-append_left, Contains-append_right, Contains-append_cases}
-use Rattle.road_graph.specs.GraphData.{GraphData, IsGraph, HasVertex, arc_of}
+use Rattle.path_algebra.proofs.Words.{Contains-append_left, Contains-append_right, Contains-append_cases, GraphData, IsGraph, HasVertex, arc_of, IsWalk}
 use Rattle.road_graph.proofs.Lists.{not_in_empty, here, here_as, later, head_or_tail, only_element}
-use Rattle.path_algebra.specs.Walks.{IsWalk}
 use Rattle.path_algebra.specs.SimpleWalks.{vertices_of, AreDistinct, IsSimpleWalk, HasSimpleWalks, is_among, onward, walks_beyond, simple_walks, ListsSimpleWalks}
 
 -- lists

@@ -1,10 +1,7 @@
 -- Tight arcs reach every vertex that is reached at all.
-use Rattle.std.proofs.Common.{◌≡◌, ℕ, ◌+◌, ◌-◌, ◌<◌, ◌^◌, Bool, true, false, List, [], ◌∷◌, get_or, refl, ap, sym, ◌∙◌, subst, arith, Option, Some, None}
+use Rattle.path_algebra.proofs.Words.{◌≡◌, ℕ, ◌+◌, ◌-◌, ◌<◌, ◌^◌, Bool, true, false, List, [], ◌∷◌, get_or, refl, ap, sym, ◌∙◌, subst, arith, Option, Some, None, GraphData, IsGraph, HasArc, HasVertex, arc_of, Algebra, IsLawful, AnswersBestOpen}
 use Rattle.std.specs.Prelude.{IsTrue, Contains, ◌↔◌}
-use Rattle.road_graph.specs.GraphData.{GraphData, IsGraph, HasArc, HasVertex, arc_of}
-use Rattle.path_algebra.specs.Algebra.{Algebra, IsLawful}
 use Rattle.path_algebra.specs.Walks.{IsWalk, Extends, IsWalkValue, IsBest, IsBestLabel, AreBest, IsTight, label_of, is_tight, is_tight_between, is_reached_by}
-use Rattle.path_algebra.specs.Open.{AnswersBestOpen}
 use Rattle.path_algebra.proofs.Walks.{walk_value_is_value, IsWalkValue-extend}
 use Rattle.path_algebra.proofs.Least.{same_no_worse, best_open}
 

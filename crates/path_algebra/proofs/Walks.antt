@@ -1,8 +1,5 @@
 -- Laws of walks and of best labels.
-use Rattle.std.proofs.Common.{◌≡◌, ℕ, ◌<◌, ◌^◌, List, [], ◌∷◌, ◌++◌, length, refl, ap, sym, ◌∙◌, subst, Option, Some, None}
-use Rattle.std.specs.Prelude.{IsTrue, All, Contains}
-use Rattle.road_graph.specs.GraphData.{GraphData, IsGraph, HasArc, HasVertex, arc_of}
-use Rattle.path_algebra.specs.Algebra.{Algebra, IsLawful}
+use Rattle.path_algebra.proofs.Words.{◌≡◌, ℕ, ◌<◌, ◌^◌, List, [], ◌∷◌, ◌++◌, length, refl, ap, sym, ◌∙◌, subst, Option, Some, None, IsTrue, All, Contains, GraphData, IsGraph, HasArc, HasVertex, arc_of, Algebra, IsLawful}
 use Rattle.path_algebra.specs.Walks.{IsWalk, Extends, IsWalkValue, IsBestLabel, AreBest, AreWalkValues, IsNotImproving, label_of}
 
 -- sources that are all vertices, one by one

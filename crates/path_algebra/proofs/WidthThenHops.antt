@@ -1,7 +1,5 @@
 -- Widths whose ties are decided by the number of arcs break the order's law.
-use Rattle.std.proofs.Common.{◌≡◌, ℕ, ◌+◌, ◌<◌, ◌^◌, inl, inr, subst, arith, min}
-use Rattle.std.specs.Prelude.{IsTrue}
-use Rattle.path_algebra.specs.Algebra.{Algebra, IsLawful}
+use Rattle.path_algebra.proofs.Words.{◌≡◌, ℕ, ◌+◌, ◌<◌, ◌^◌, inl, inr, subst, arith, min, IsTrue, Algebra, IsLawful}
 use Rattle.path_algebra.specs.WidthThenHops.{IsWidthThenHops}
 
 module _ (A : Algebra (ℕ × ℕ)) (is : IsWidthThenHops A) (laws : IsLawful A) where

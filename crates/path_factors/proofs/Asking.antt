@@ -1,18 +1,6 @@
 -- What holds of an asker as it begins and finds labels.
-use Rattle.std.proofs.Common.{replicate, ◌≡◌, ℕ, zero, suc, ◌<◌, ◌⊎◌, inl, inr, Bool, true, false, List, [], ◌∷◌, ◌++◌, length, refl, sym, ◌∙◌, subst, arith, Option, None}
-use Rattle.std.specs.Prelude.{All, Contains}
-use Rattle.std.proofs.lemmas.Bool.{cases_lt, cases_Bool}
-use Rattle.std.proofs.lemmas.List.{length-replicate, get_or_past}
+use Rattle.path_factors.proofs.Words.{replicate, ◌≡◌, ℕ, zero, suc, ◌<◌, ◌⊎◌, inl, inr, Bool, true, false, List, [], ◌∷◌, ◌++◌, length, refl, sym, ◌∙◌, subst, arith, Option, None, All, Contains, cases_lt, cases_Bool, length-replicate, get_or_past, GraphData, IsGraph, HasVertex, here, Algebra, IsLawful, Composition, IsComposition, IsBestLabel, FactorData, IsFactor, place_of, at, IsForward, AreHeads, AreAtHeads}
 use Rattle.std.proofs.lemmas.List.Elements.{All-append, Contains-append_left, Contains-append_right}
-use Rattle.road_graph.specs.GraphData.{GraphData, IsGraph, HasVertex}
-use Rattle.road_graph.proofs.Lists.{here}
-use Rattle.path_algebra.specs.Algebra.{Algebra, IsLawful}
-use Rattle.path_algebra.specs.Composition.{Composition, IsComposition}
-use Rattle.path_algebra.specs.Walks.{IsBestLabel}
-use Rattle.path_factors.specs.Factors.{FactorData, IsFactor, place_of}
-use Rattle.path_factors.specs.Substituting.{at, IsForward}
-use Rattle.path_factors.specs.Heads.{AreHeads}
-use Rattle.path_factors.specs.Tree.{AreAtHeads}
 use Rattle.path_factors.specs.Asking.{is_on, IsBackRun, Agree, IsAsking, IsAboveSource, AreOnlyUp, AreAllUnknownUp, AreFound, IsExtended}
 use Rattle.path_factors.proofs.Places.{at_none, origins_none}
 use Rattle.path_factors.proofs.Sweeps.{forward_starts, forward_ends}

@@ -1,17 +1,5 @@
 -- Labels found one after the other are those of the whole back substitution, which are best.
-use Rattle.std.proofs.Common.{◌≡◌, ℕ, zero, suc, ◌+◌, ◌<◌, ◌≤◌, inl, inr, List, [], ◌∷◌, length, map, set, refl, ap, sym, ◌∙◌, subst, arith, Option, None, get_or-set_same, get_or-set_other, length-set}
-use Rattle.std.specs.Prelude.{All, Contains}
-use Rattle.std.proofs.lemmas.Bool.{cases_eq}
-use Rattle.std.proofs.lemmas.List.{length-map}
-use Rattle.road_graph.specs.GraphData.{GraphData, IsGraph, HasVertex}
-use Rattle.road_graph.proofs.Lists.{here, later}
-use Rattle.path_algebra.specs.Algebra.{Algebra, IsLawful}
-use Rattle.path_algebra.specs.Composition.{Composition, IsComposition, applied}
-use Rattle.path_algebra.specs.Walks.{IsBestLabel, better_label, label_of}
-use Rattle.path_factors.specs.declared.link.Link.{Link}
-use Rattle.path_factors.specs.Factors.{FactorData, IsFactor, AreLinks, row_of, place_of}
-use Rattle.path_factors.specs.Substituting.{at, best_along, IsForward, IsBestDown, IsBackward}
-use Rattle.path_factors.specs.Asking.{IsBackRun}
+use Rattle.path_factors.proofs.Words.{◌≡◌, ℕ, zero, suc, ◌+◌, ◌<◌, ◌≤◌, inl, inr, List, [], ◌∷◌, length, map, set, refl, ap, sym, ◌∙◌, subst, arith, Option, None, get_or-set_same, get_or-set_other, length-set, All, Contains, cases_eq, length-map, GraphData, IsGraph, HasVertex, here, later, Algebra, IsLawful, Composition, IsComposition, applied, IsBestLabel, better_label, label_of, Link, FactorData, IsFactor, AreLinks, row_of, place_of, at, best_along, IsForward, IsBestDown, IsBackward, IsBackRun}
 use Rattle.path_factors.proofs.Places.{read_by_vertex}
 use Rattle.path_factors.proofs.Sweeps.{best_along_is}
 use Rattle.path_factors.proofs.Substitution.{substitution_is_best}

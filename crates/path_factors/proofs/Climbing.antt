@@ -1,17 +1,5 @@
 -- Forward substitution from one place: the labels that there are, are those of its ancestors.
-use Rattle.std.proofs.Common.{◌≡◌, ℕ, zero, suc, ◌+◌, ◌<◌, ◌≤◌, ◌⊎◌, inl, inr, Bool, true, false, List, length, set, get_or, refl, ap, sym, ◌∙◌, subst, arith, Option, Some, None, get_or-set_same, get_or-set_other, length-set}
-use Rattle.std.specs.Prelude.{Contains}
-use Rattle.std.proofs.lemmas.Bool.{cases_eq, cases_lt, cases_Bool}
-use Rattle.std.proofs.lemmas.List.{get_or_past, get_or_default}
-use Rattle.road_graph.specs.GraphData.{GraphData, IsGraph}
-use Rattle.path_algebra.specs.Algebra.{Algebra, IsLawful}
-use Rattle.path_algebra.specs.Composition.{Composition, IsComposition}
-use Rattle.path_factors.specs.declared.link.Link.{Link}
-use Rattle.path_factors.specs.Factors.{FactorData, IsFactor, row_of}
-use Rattle.path_factors.specs.Substituting.{at, IsForwardTo, offered_from}
-use Rattle.path_factors.specs.Heads.{AreHeads, IsHead}
-use Rattle.path_factors.specs.Tree.{AreAtHeads, IsTreeParent, IsUp, IsAncestor}
-use Rattle.path_factors.specs.Asking.{is_on, AreOnlyUp}
+use Rattle.path_factors.proofs.Words.{◌≡◌, ℕ, zero, suc, ◌+◌, ◌<◌, ◌≤◌, ◌⊎◌, inl, inr, Bool, true, false, List, length, set, get_or, refl, ap, sym, ◌∙◌, subst, arith, Option, Some, None, get_or-set_same, get_or-set_other, length-set, Contains, cases_eq, cases_lt, cases_Bool, get_or_past, get_or_default, GraphData, IsGraph, Algebra, IsLawful, Composition, IsComposition, Link, FactorData, IsFactor, row_of, at, IsForwardTo, offered_from, AreHeads, IsHead, AreAtHeads, IsTreeParent, IsUp, IsAncestor, is_on, AreOnlyUp}
 use Rattle.path_factors.proofs.Offers.{offered_other, offered_is_one}
 use Rattle.path_factors.proofs.Sweeps.{forward_goes_on}
 use Rattle.path_factors.proofs.Trees.{parent_inside, ancestor_more, ancestor_less}

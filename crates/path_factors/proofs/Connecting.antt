@@ -1,16 +1,6 @@
 -- A link is put between two places: it is worth a walk, no other got worse, and lesser rows are the
 -- same.
-use Rattle.std.proofs.Common.{◌≡◌, ℕ, ◌<◌, ◌≤◌, ◌⊎◌, inl, inr, List, [], ◌∷◌, ◌++◌, refl, ap, sym, ◌∙◌, subst, arith, Some, None}
-use Rattle.std.specs.Prelude.{IsTrue, Contains}
-use Rattle.std.proofs.lemmas.Bool.{cases_eq}
-use Rattle.road_graph.specs.GraphData.{GraphData, IsGraph, HasArc, arc_of}
-use Rattle.path_algebra.specs.Algebra.{Algebra, IsOrder}
-use Rattle.path_algebra.specs.Composition.{Composition, IsComposition}
-use Rattle.path_algebra.proofs.Least.{same_no_worse}
-use Rattle.path_factors.specs.declared.link.Link.{Link}
-use Rattle.path_factors.specs.Factors.{FactorData, LeadsNoWorse, IsWorthOfWalk, IsClosedAt, row_of, vertex_at}
-use Rattle.path_factors.specs.Eliminating.{AreImproved, IsBegun, Improves}
-use Rattle.path_factors.specs.Edges.{LinkRows, AreEdgesImproved}
+use Rattle.path_factors.proofs.Words.{◌≡◌, ℕ, ◌<◌, ◌≤◌, ◌⊎◌, inl, inr, List, [], ◌∷◌, ◌++◌, refl, ap, sym, ◌∙◌, subst, arith, Some, None, IsTrue, Contains, cases_eq, GraphData, IsGraph, HasArc, arc_of, Algebra, IsOrder, Composition, IsComposition, same_no_worse, Link, FactorData, LeadsNoWorse, IsWorthOfWalk, IsClosedAt, row_of, vertex_at, AreImproved, IsBegun, Improves, LinkRows, AreEdgesImproved}
 use Rattle.path_factors.proofs.Offers.{applied_is}
 use Rattle.path_factors.proofs.Substitution.{IsWalk-append, Extends-append}
 

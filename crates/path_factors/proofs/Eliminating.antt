@@ -1,15 +1,5 @@
 -- The elimination of a place, edge by edge.
-use Rattle.std.proofs.Common.{◌≡◌, ℕ, ◌+◌, ◌<◌, ◌≤◌, inl, inr, List, length, get_or, ap, sym, ◌∙◌, subst, arith}
-use Rattle.std.specs.Prelude.{Contains}
-use Rattle.std.proofs.lemmas.Bool.{cases_eq, cases_lt}
-use Rattle.std.proofs.lemmas.List.{get_or_default, get_or-map, length-map}
-use Rattle.path_algebra.specs.Algebra.{IsOrder}
-use Rattle.path_algebra.specs.Composition.{Composition}
-use Rattle.path_factors.specs.declared.link.Link.{Link}
-use Rattle.path_factors.specs.declared.edge.Edge.{Edge}
-use Rattle.path_factors.specs.Factors.{FactorData, Rises, Falls, LeadsNoWorse, IsClosedAt, row_of}
-use Rattle.path_factors.specs.Eliminating.{Improves, AreClosedTo}
-use Rattle.path_factors.specs.Edges.{rising, falling, AreAligned, IsEdgeAt, AreJoined}
+use Rattle.path_factors.proofs.Words.{◌≡◌, ℕ, ◌+◌, ◌<◌, ◌≤◌, inl, inr, List, length, get_or, ap, sym, ◌∙◌, subst, arith, Contains, cases_eq, cases_lt, get_or_default, get_or-map, length-map, IsOrder, Composition, Link, Edge, FactorData, Rises, Falls, LeadsNoWorse, IsClosedAt, row_of, Improves, AreClosedTo, rising, falling, AreAligned, IsEdgeAt, AreJoined}
 use Rattle.path_factors.proofs.Connecting.{still_leads, improves_none, improves_more, improves_lower, stays_closed}
 
 -- the edge at index i was joined with those after it, up to index j

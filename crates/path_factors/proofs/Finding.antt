@@ -1,17 +1,5 @@
 -- Back substitution at the ancestors of a place, from those that are known down.
-use Rattle.std.proofs.Common.{◌≡◌, ℕ, zero, suc, ◌+◌, ◌<◌, ◌≤◌, ◌⊎◌, inl, inr, List, [], ◌∷◌, ◌++◌, length, set, get_or, Bool, true, false, Option, None, refl, ap, sym, ◌∙◌, subst, arith, get_or-set_same, get_or-set_other, length-set}
-use Rattle.std.specs.Prelude.{All, Contains}
-use Rattle.std.proofs.lemmas.Bool.{cases_eq, cases_lt}
-use Rattle.std.proofs.lemmas.List.{get_or_default, get_or_past, get_or_append_left, get_or_push, length-append}
-use Rattle.road_graph.specs.GraphData.{GraphData}
-use Rattle.path_algebra.specs.Algebra.{Algebra}
-use Rattle.path_algebra.specs.Composition.{Composition}
-use Rattle.path_factors.specs.declared.link.Link.{Link}
-use Rattle.path_factors.specs.Factors.{FactorData, IsFactor, AreLinks, row_of}
-use Rattle.path_factors.specs.Substituting.{at, best_along}
-use Rattle.path_factors.specs.Heads.{AreHeads, IsHead}
-use Rattle.path_factors.specs.Tree.{AreAtHeads, IsTreeParent}
-use Rattle.path_factors.specs.Asking.{is_on, IsBackRun, Agree, IsKnownUpward, AreUnknownUp, AreAllUnknownUp, AreFound}
+use Rattle.path_factors.proofs.Words.{◌≡◌, ℕ, zero, suc, ◌+◌, ◌<◌, ◌≤◌, ◌⊎◌, inl, inr, List, [], ◌∷◌, ◌++◌, length, set, get_or, Bool, true, false, Option, None, refl, ap, sym, ◌∙◌, subst, arith, get_or-set_same, get_or-set_other, length-set, All, Contains, cases_eq, cases_lt, get_or_default, get_or_past, get_or_append_left, get_or_push, length-append, GraphData, Algebra, Composition, Link, FactorData, IsFactor, AreLinks, row_of, at, best_along, AreHeads, IsHead, AreAtHeads, IsTreeParent, is_on, IsBackRun, Agree, IsKnownUpward, AreUnknownUp, AreAllUnknownUp, AreFound}
 use Rattle.path_factors.proofs.Backward.{best_along_same}
 use Rattle.path_factors.proofs.Trees.{parent_inside}
 

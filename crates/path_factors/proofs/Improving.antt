@@ -1,14 +1,7 @@
 -- A row in which a link was made better.
 use Rattle.std.proofs.Common.{◌≡◌, ℕ, ◌<◌, inl, inr, Bool, true, false, cond, List, length, set, get_or, ap, sym, ◌∙◌, subst, arith, get_or-set_same, get_or-set_other, length-set}
-use Rattle.std.specs.Prelude.{IsTrue, Contains}
-use Rattle.std.proofs.lemmas.Bool.{cases_eq, cases_Bool}
+use Rattle.path_factors.proofs.Words.{IsTrue, Contains, cases_eq, cases_Bool, IsOrder, Composition, same_no_worse, other_no_worse, Link, IsImproved, better_walk}
 use Rattle.std.proofs.lemmas.List.{get_or_default, set-get_or}
-use Rattle.path_algebra.specs.Algebra.{IsOrder}
-use Rattle.path_algebra.specs.Composition.{Composition}
-use Rattle.path_algebra.proofs.Least.{same_no_worse, other_no_worse}
-use Rattle.path_factors.specs.declared.link.Link.{Link}
-use Rattle.path_factors.specs.Eliminating.{IsImproved}
-use Rattle.path_factors.specs.Edges.{better_walk}
 
 module _ {V W : Type 0} (C : Composition V W) (ordered : IsOrder C.no_worse) where
   same : (a : W) → IsTrue (C.no_worse a a)

@@ -1,10 +1,5 @@
 -- What is true of each road from each vertex is true of each arc.
-use Rattle.std.proofs.Common.{◌≡◌, ℕ, ◌+◌, ◌-◌, ◌<◌, ◌≤◌, inl, inr, List, length, get_or, ap, sym, ◌∙◌, subst, arith}
-use Rattle.std.proofs.lemmas.Bool.{cases_lt}
-use Rattle.std.proofs.lemmas.List.{get_or_default}
-use Rattle.road_graph.specs.GraphData.{GraphData, HasArc, arc_of, road_of, ListsRoadsFrom}
-use Rattle.road_graph.specs.declared.OutRoad.{OutRoad}
-use Rattle.path_factors.specs.Heads.{IsJoined}
+use Rattle.path_factors.proofs.Words.{◌≡◌, ℕ, ◌+◌, ◌-◌, ◌<◌, ◌≤◌, inl, inr, List, length, get_or, ap, sym, ◌∙◌, subst, arith, cases_lt, get_or_default, GraphData, HasArc, arc_of, road_of, ListsRoadsFrom, OutRoad, IsJoined}
 use Rattle.path_factors.proofs.Loading.{arc_listed, road_at}
 
 -- the place of a vertex

@@ -1,3 +1,4 @@
+mod Words
 pub mod Substitution
 pub mod Pruning
 pub mod Offers

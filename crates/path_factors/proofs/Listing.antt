@@ -1,10 +1,7 @@
 -- Lists that grow at their front: one more number, and reading.
 use Rattle.std.proofs.Common.{◌≡◌, ℕ, zero, suc, ◌+◌, ◌-◌, ◌<◌, ◌≤◌, ◌⊎◌, inl, inr, Result, Ok, Err, List, [], ◌∷◌, ◌++◌, length, get_or, set, refl, ap, sym, ◌∙◌, subst, arith, get_or-set_same, get_or-set_other, length-set}
 use Rattle.std.specs.Prelude.{OnOk}
-use Rattle.std.proofs.lemmas.Bool.{cases_eq}
-use Rattle.std.proofs.lemmas.List.{get_or_append_left, get_or_push}
-use Rattle.std.proofs.lemmas.List.Elements.{All-push}
-use Rattle.path_factors.specs.declared.chains.Item.{Item}
+use Rattle.path_factors.proofs.Words.{cases_eq, get_or_append_left, get_or_push, All-push, Item}
 use Rattle.path_factors.specs.Chains.{ChainData, item_of, IsAfter, HasFrom, HasValue, AreChains, IsMore}
 
 -- what is read from an item on is its value, or read from the next

@@ -1,14 +1,5 @@
 -- A link for each arc.
-use Rattle.std.proofs.Common.{◌≡◌, ℕ, ◌+◌, ◌-◌, ◌<◌, ◌≤◌, inl, inr, List, length, get_or, ap, sym, ◌∙◌, subst, arith}
-use Rattle.std.specs.Prelude.{Contains}
-use Rattle.std.proofs.lemmas.Bool.{cases_lt}
-use Rattle.std.proofs.lemmas.List.{get_or-map, length-map, get_or_default}
-use Rattle.road_graph.specs.GraphData.{GraphData, IsGraph, HasArc, HasVertex, arc_of, road_of, ListsRoadsFrom}
-use Rattle.road_graph.specs.declared.OutRoad.{OutRoad}
-use Rattle.path_algebra.specs.Algebra.{Algebra, IsOrder}
-use Rattle.path_algebra.specs.Composition.{Composition, IsComposition}
-use Rattle.path_factors.specs.Factors.{FactorData, LeadsNoWorse, IsWorthOfWalk, CoversArcs, place_of}
-use Rattle.path_factors.specs.Eliminating.{Improves}
+use Rattle.path_factors.proofs.Words.{◌≡◌, ℕ, ◌+◌, ◌-◌, ◌<◌, ◌≤◌, inl, inr, List, length, get_or, ap, sym, ◌∙◌, subst, arith, Contains, cases_lt, get_or-map, length-map, get_or_default, GraphData, IsGraph, HasArc, HasVertex, arc_of, road_of, ListsRoadsFrom, OutRoad, Algebra, IsOrder, Composition, IsComposition, FactorData, LeadsNoWorse, IsWorthOfWalk, CoversArcs, place_of, Improves}
 use Rattle.path_factors.proofs.Connecting.{still_leads, improves_more, worth_of_arc}
 
 -- the arc of a road

@@ -1,13 +1,6 @@
 -- What offers along a row leave.
-use Rattle.std.proofs.Common.{◌≡◌, ℕ, ◌<◌, ◌⊎◌, inl, inr, List, [], ◌∷◌, length, refl, ap, sym, ◌∙◌, subst, arith, Option, Some, None, get_or-set_same, get_or-set_other, length-set}
-use Rattle.std.specs.Prelude.{IsTrue, Contains}
-use Rattle.std.proofs.lemmas.Bool.{cases_eq, cases_Bool}
-use Rattle.road_graph.proofs.Lists.{not_in_empty, here, later, head_or_tail}
-use Rattle.path_algebra.specs.Algebra.{Algebra, IsLawful}
-use Rattle.path_algebra.specs.Composition.{Composition, applied}
+use Rattle.path_factors.proofs.Words.{◌≡◌, ℕ, ◌<◌, ◌⊎◌, inl, inr, List, [], ◌∷◌, length, refl, ap, sym, ◌∙◌, subst, arith, Option, Some, None, get_or-set_same, get_or-set_other, length-set, IsTrue, Contains, cases_eq, cases_Bool, not_in_empty, here, later, head_or_tail, Algebra, IsLawful, Composition, applied, same_no_worse, other_no_worse, Link}
 use Rattle.path_algebra.specs.Walks.{improved, better_label}
-use Rattle.path_algebra.proofs.Least.{same_no_worse, other_no_worse}
-use Rattle.path_factors.specs.declared.link.Link.{Link}
 use Rattle.path_factors.specs.Substituting.{at, HasNoWorse, offered_link, offered_along, offered_from, best_along}
 
 -- what a walk makes of a label, it makes of a value

@@ -1,9 +1,6 @@
 -- Where a graph joins no other vertices than one that is factored, each of its arcs has an edge.
-use Rattle.std.proofs.Common.{◌≡◌, ℕ, List, inl, inr, ap, sym, subst, arith}
-use Rattle.road_graph.specs.GraphData.{GraphData, arc_of}
+use Rattle.path_factors.proofs.Words.{◌≡◌, ℕ, List, inl, inr, ap, sym, subst, arith, GraphData, arc_of, FactorData, place_of, IsHead, IsJoined, IsOutline}
 use Rattle.road_graph.specs.declared.RoadArc.{RoadArc}
-use Rattle.path_factors.specs.Factors.{FactorData, place_of}
-use Rattle.path_factors.specs.Heads.{IsHead, IsJoined, IsOutline}
 use Rattle.path_factors.specs.Reweighing.{HasEdges, HasEndsOf, JoinsNoOthers}
 
 module _ {W : Type 0} (h : GraphData) (F : FactorData W) (heads : List (List ℕ)) (outline : IsOutline h F.places heads) where

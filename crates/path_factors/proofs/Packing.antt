@@ -1,15 +1,9 @@
 -- Rows that are packed one after the other.
-use Rattle.std.proofs.Common.{◌≡◌, ℕ, zero, suc, ◌+◌, ◌-◌, ◌<◌, ◌≤◌, inl, inr, List, [], ◌∷◌, ◌++◌, length, take, drop, get_or, refl, ap, sym, ◌∙◌, subst, arith}
+use Rattle.path_factors.proofs.Words.{◌≡◌, ℕ, zero, suc, ◌+◌, ◌-◌, ◌<◌, ◌≤◌, inl, inr, List, [], ◌∷◌, ◌++◌, length, take, drop, get_or, refl, ap, sym, ◌∙◌, subst, arith, cases_lt, not_in_empty, Link, row_of, LinkRows, links_of, rows_between, ArePacked, ArePackedBothWays, packed_rows}
 use Rattle.std.specs.Prelude.{All, Contains, slice_range}
-use Rattle.std.proofs.lemmas.Bool.{cases_lt}
 use Rattle.std.proofs.lemmas.List.{get_or_default, length-drop, length-take-le, get_or-take, get_or-drop, take-append-le, drop-append-le, take_all, get_or_past, get_or_append_left, get_or_push, length-append}
 use Rattle.std.proofs.lemmas.List.Elements.{All-nil, All-take, All-drop}
 use Rattle.std.proofs.Math.ListN.{drop_of_length-le}
-use Rattle.road_graph.proofs.Lists.{not_in_empty}
-use Rattle.path_factors.specs.declared.link.Link.{Link}
-use Rattle.path_factors.specs.Factors.{row_of}
-use Rattle.path_factors.specs.Edges.{LinkRows}
-use Rattle.path_factors.specs.Packing.{links_of, rows_between, ArePacked, ArePackedBothWays, packed_rows}
 
 module _ {W : Type 0} where
   pub links_count : (places : List ℕ) (walks : List W) → length walks ≡ length places → length (links_of places walks) ≡ length places

@@ -1,17 +1,7 @@
 -- Links lead to places, vertices stand at places, and the sources' places have the origin.
-use Rattle.std.proofs.Common.{◌≡◌, ℕ, zero, suc, replicate, ◌-◌, ◌+◌, ◌<◌, inl, inr, List, [], ◌∷◌, ◌++◌, length, set, get_or, map, refl, ap, sym, ◌∙◌, subst, arith, Option, Some, None, get_or-set_same, get_or-set_other, length-set}
-use Rattle.std.specs.Prelude.{Contains}
-use Rattle.std.proofs.lemmas.Bool.{cases_eq}
-use Rattle.std.proofs.lemmas.List.{get_or-map}
+use Rattle.path_factors.proofs.Words.{◌≡◌, ℕ, zero, suc, replicate, ◌-◌, ◌+◌, ◌<◌, inl, inr, List, [], ◌∷◌, ◌++◌, length, set, get_or, map, refl, ap, sym, ◌∙◌, subst, arith, Option, Some, None, get_or-set_same, get_or-set_other, length-set, Contains, cases_eq, get_or-map, GraphData, HasVertex, not_in_empty, Algebra, Composition, label_of, Link, at, AreOrigins}
 use Rattle.std.proofs.lemmas.List.Elements.{Contains-push, Contains-push_cases, Contains-append_left}
-use Rattle.road_graph.specs.GraphData.{GraphData, HasVertex}
-use Rattle.road_graph.proofs.Lists.{not_in_empty}
-use Rattle.path_algebra.specs.Algebra.{Algebra}
-use Rattle.path_algebra.specs.Composition.{Composition}
-use Rattle.path_algebra.specs.Walks.{label_of}
-use Rattle.path_factors.specs.declared.link.Link.{Link}
 use Rattle.path_factors.specs.Factors.{FactorData, AreLinks, IsOrdering, row_of, place_of}
-use Rattle.path_factors.specs.Substituting.{at, AreOrigins}
 
 module _ {V W : Type 0} (A : Algebra V) (C : Composition V W) (g : GraphData) (F : FactorData W) (links : AreLinks A C g F) where
   pub leaving_inside : (i : ℕ) (row : List (Link W)) → row ≡ row_of F.leaving i → (j : ℕ) (k : Link W) → j < length row →

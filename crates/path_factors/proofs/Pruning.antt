@@ -1,21 +1,8 @@
 -- Edges that others do for were left out: what is left is a factor.
-use Rattle.std.proofs.Common.{◌≡◌, ℕ, zero, suc, ◌+◌, ◌<◌, ◌≤◌, inl, inr, List, [], ◌∷◌, ◌++◌, Bool, true, false, take, length, get_or, set, refl, ap, sym, ◌∙◌, subst, arith, Option, Some}
-use Rattle.std.specs.Prelude.{IsTrue, Contains}
-use Rattle.std.proofs.lemmas.Bool.{cases_eq, cases_lt}
+use Rattle.path_factors.proofs.Words.{◌≡◌, ℕ, zero, suc, ◌+◌, ◌<◌, ◌≤◌, inl, inr, List, [], ◌∷◌, ◌++◌, Bool, true, false, take, length, get_or, set, refl, ap, sym, ◌∙◌, subst, arith, Option, Some, IsTrue, Contains, cases_eq, cases_lt, not_in_empty, head_or_tail, here, later, GraphData, IsGraph, arc_of, Algebra, IsLawful, Composition, IsComposition, Link, Edge, is_on, AreClosedTo, IsBegun, IsOutline, heads_in, LinkRows, IsEdgeAt, AreAligned, rising, IsFactored}
 use Rattle.std.proofs.lemmas.List.{get_or_append_left, get_or_push, length-append, get_or-set_other}
-use Rattle.road_graph.proofs.Lists.{not_in_empty, head_or_tail, here, later}
-use Rattle.road_graph.specs.GraphData.{GraphData, IsGraph, arc_of}
-use Rattle.path_algebra.specs.Algebra.{Algebra, IsLawful}
-use Rattle.path_algebra.specs.Composition.{Composition, IsComposition}
-use Rattle.path_factors.specs.declared.link.Link.{Link}
-use Rattle.path_factors.specs.declared.edge.Edge.{Edge}
 use Rattle.path_factors.specs.Factors.{FactorData, IsCovered, Passes, CoversArcs, AreStable, Rises, Falls, Leads, LeadsNoWorse, at, row_of, place_of}
-use Rattle.path_factors.specs.Asking.{is_on}
-use Rattle.path_factors.specs.Eliminating.{AreClosedTo, IsBegun}
-use Rattle.path_factors.specs.Heads.{IsOutline, heads_in}
 use Rattle.path_factors.specs.Pruning.{marked, PassesAlong, DoForAll, IsBypassed, AreThinTo}
-use Rattle.path_factors.specs.Edges.{LinkRows, IsEdgeAt, AreAligned, rising}
-use Rattle.path_factors.specs.Tree.{IsFactored}
 use Rattle.path_factors.proofs.Eliminating.{edge_unique, edge_rises, edge_falls, edge_of_riser, edge_of_faller}
 use Rattle.path_factors.proofs.HeadRows.{head_of_link, head_at, heads_row}
 use Rattle.path_factors.proofs.Offers.{applied_is}

@@ -1,20 +1,8 @@
 -- A link of packed rows is replaced, and rows without walks.
-use Rattle.std.proofs.Common.{◌≡◌, ℕ, zero, suc, ◌+◌, ◌-◌, ◌<◌, ◌≤◌, inl, inr, List, [], ◌∷◌, length, take, drop, get_or, set, refl, ap, sym, ◌∙◌, subst, arith}
-use Rattle.std.specs.Prelude.{All}
-use Rattle.std.proofs.lemmas.Bool.{cases_lt}
+use Rattle.path_factors.proofs.Words.{◌≡◌, ℕ, zero, suc, ◌+◌, ◌-◌, ◌<◌, ◌≤◌, inl, inr, List, [], ◌∷◌, length, take, drop, get_or, set, refl, ap, sym, ◌∙◌, subst, arith, All, cases_lt, Algebra, IsOrder, Composition, IsComposition, GraphData, Link, Edge, ArePlaces, IsWorthOfWalk, row_of, IsImproved, AreImproved, IsBegun, LinkRows, AreBlank, AreEdgesImproved, better_walk, rising, falling, links_of, rows_between, ArePacked, ArePackedBothWays, packed_rows, AreHeads, IsHead, heads_in}
 use Rattle.std.proofs.lemmas.List.{get_or_default, drop-set-lt, drop-set-add, take-set-le}
 use Rattle.std.proofs.lemmas.List.Elements.{All-nil, All-cons, All-head, All-tail, All-contains}
 use Rattle.std.proofs.Math.Seq.{take-set-lt}
-use Rattle.path_algebra.specs.Algebra.{Algebra, IsOrder}
-use Rattle.path_algebra.specs.Composition.{Composition, IsComposition}
-use Rattle.road_graph.specs.GraphData.{GraphData}
-use Rattle.path_factors.specs.declared.link.Link.{Link}
-use Rattle.path_factors.specs.declared.edge.Edge.{Edge}
-use Rattle.path_factors.specs.Factors.{ArePlaces, IsWorthOfWalk, row_of}
-use Rattle.path_factors.specs.Eliminating.{IsImproved, AreImproved, IsBegun}
-use Rattle.path_factors.specs.Edges.{LinkRows, AreBlank, AreEdgesImproved, better_walk, rising, falling}
-use Rattle.path_factors.specs.Packing.{links_of, rows_between, ArePacked, ArePackedBothWays, packed_rows}
-use Rattle.path_factors.specs.Heads.{AreHeads, IsHead, heads_in}
 use Rattle.path_factors.proofs.Improving.{improved_better}
 use Rattle.path_factors.proofs.Connecting.{worth_of_none}
 use Rattle.path_factors.proofs.HeadRows.{head_at, heads_count, head_of_link}

@@ -1,14 +1,7 @@
 -- Substitution in a factor gives best values.
-use Rattle.std.proofs.Common.{◌≡◌, ℕ, zero, suc, ◌+◌, ◌<◌, ◌≤◌, inl, inr, List, [], ◌∷◌, ◌++◌, length, ap, sym, ◌∙◌, subst, arith, Option, Some, None}
-use Rattle.std.specs.Prelude.{IsTrue, All, Contains}
-use Rattle.std.proofs.lemmas.Bool.{cases_eq, cases_lt}
-use Rattle.std.proofs.lemmas.List.{get_or_past}
-use Rattle.road_graph.specs.GraphData.{GraphData, IsGraph, HasArc, HasVertex, arc_of}
-use Rattle.path_algebra.specs.Algebra.{Algebra, IsLawful}
-use Rattle.path_algebra.specs.Composition.{Composition, IsComposition, applied}
+use Rattle.path_factors.proofs.Words.{◌≡◌, ℕ, zero, suc, ◌+◌, ◌<◌, ◌≤◌, inl, inr, List, [], ◌∷◌, ◌++◌, length, ap, sym, ◌∙◌, subst, arith, Option, Some, None, IsTrue, All, Contains, cases_eq, cases_lt, get_or_past, GraphData, IsGraph, HasArc, HasVertex, arc_of, Algebra, IsLawful, Composition, IsComposition, applied, FactorData, IsFactor, AreStable, Rises, Falls, IsWorthOfWalk, vertex_at, place_of}
 use Rattle.path_algebra.specs.Walks.{IsWalk, Extends, IsWalkValue, AreBest, IsNotImproving, label_of}
 use Rattle.path_algebra.proofs.Walks.{labels_are_best, walk_value_is_value, all_inside}
-use Rattle.path_factors.specs.Factors.{FactorData, IsFactor, AreStable, Rises, Falls, IsWorthOfWalk, vertex_at, place_of}
 use Rattle.path_factors.specs.Substituting.{at, Passes, IsForward, IsBackward}
 
 -- a walk, and after it another

@@ -1,17 +1,6 @@
 -- The two sweeps of substitution, one place after the other.
-use Rattle.std.proofs.Common.{◌≡◌, ℕ, ◌+◌, ◌<◌, ◌≤◌, inl, inr, List, [], length, set, refl, ap, sym, ◌∙◌, subst, arith, Option, Some, None, get_or-set_same, get_or-set_other, length-set}
-use Rattle.std.specs.Prelude.{All, Contains}
-use Rattle.std.proofs.lemmas.Bool.{cases_eq, cases_lt}
-use Rattle.road_graph.specs.GraphData.{GraphData, IsGraph, HasVertex}
+use Rattle.path_factors.proofs.Words.{◌≡◌, ℕ, ◌+◌, ◌<◌, ◌≤◌, inl, inr, List, [], length, set, refl, ap, sym, ◌∙◌, subst, arith, Option, Some, None, get_or-set_same, get_or-set_other, length-set, All, Contains, cases_eq, cases_lt, GraphData, IsGraph, HasVertex, Algebra, IsLawful, Composition, IsComposition, IsWalkValue, all_inside, same_no_worse, Link, FactorData, IsFactor, Rises, row_of, vertex_at, place_of, at, HasNoWorse, IsForward, IsBestDown, AreOrigins, IsForwardTo, IsBackwardFrom, offered_along, offered_from, best_along}
 use Rattle.road_graph.proofs.Lists.{same_some}
-use Rattle.path_algebra.specs.Algebra.{Algebra, IsLawful}
-use Rattle.path_algebra.specs.Composition.{Composition, IsComposition}
-use Rattle.path_algebra.specs.Walks.{IsWalkValue}
-use Rattle.path_algebra.proofs.Walks.{all_inside}
-use Rattle.path_algebra.proofs.Least.{same_no_worse}
-use Rattle.path_factors.specs.declared.link.Link.{Link}
-use Rattle.path_factors.specs.Factors.{FactorData, IsFactor, Rises, row_of, vertex_at, place_of}
-use Rattle.path_factors.specs.Substituting.{at, HasNoWorse, IsForward, IsBestDown, AreOrigins, IsForwardTo, IsBackwardFrom, offered_along, offered_from, best_along}
 use Rattle.path_factors.proofs.Offers.{best_keeps, best_passes, best_is_one, offered_count, offered_other, offered_keeps, offered_passes, offered_is_one, no_worse_on}
 use Rattle.path_factors.proofs.Substitution.{value_along}
 

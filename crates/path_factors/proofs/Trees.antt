@@ -1,12 +1,5 @@
 -- The tree of an elimination: the parent of a place is its first head.
-use Rattle.std.proofs.Common.{◌≡◌, ℕ, zero, suc, ◌+◌, ◌<◌, ◌≤◌, ◌⊎◌, inl, inr, List, [], ◌∷◌, ◌++◌, length, get_or, refl, ap, sym, ◌∙◌, subst, arith}
-use Rattle.std.specs.List.Sorted.{IsStrictlyIncreasing}
-use Rattle.std.proofs.lemmas.Bool.{cases_lt}
-use Rattle.std.proofs.lemmas.List.{get_or_append_left, get_or_default, get_or_push, length-append}
-use Rattle.path_factors.specs.Factors.{row_of}
-use Rattle.path_factors.specs.Heads.{AreHeads}
-use Rattle.path_factors.specs.Tree.{AreParentsTo, IsTreeParent, IsUp, IsAncestor}
-use Rattle.path_factors.proofs.HeadRows.{first_is_least}
+use Rattle.path_factors.proofs.Words.{◌≡◌, ℕ, zero, suc, ◌+◌, ◌<◌, ◌≤◌, ◌⊎◌, inl, inr, List, [], ◌∷◌, ◌++◌, length, get_or, refl, ap, sym, ◌∙◌, subst, arith, IsStrictlyIncreasing, cases_lt, get_or_append_left, get_or_default, get_or_push, length-append, row_of, AreHeads, AreParentsTo, IsTreeParent, IsUp, IsAncestor, first_is_least}
 
 module _ (n : ℕ) (heads : List (List ℕ)) (are : AreHeads n heads) where
   pub parent_inside : (v p : ℕ) → v < n → IsTreeParent heads n v p → (v < p) × (p ≤ n)

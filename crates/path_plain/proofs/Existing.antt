@@ -1,16 +1,9 @@
 -- Best values exist: the search runs to its end with the lists of arcs that every graph has.
-use Rattle.std.proofs.Common.{◌≡◌, ℕ, zero, suc, ◌+◌, ◌<◌, Bool, true, false, cond, List, [], ◌∷◌, length, set, replicate, refl, arith, Option, Some, None}
-use Rattle.std.proofs.lemmas.List.Sums.{sum_by-set}
-use Rattle.std.specs.Prelude.{All}
-use Rattle.road_graph.specs.GraphData.{GraphData, IsGraph, HasVertex}
+use Rattle.path_plain.proofs.Words.{◌≡◌, ℕ, zero, suc, ◌+◌, ◌<◌, Bool, true, false, cond, List, [], ◌∷◌, length, set, replicate, refl, arith, Option, Some, None, sum_by-set, All, GraphData, IsGraph, HasVertex, Algebra, IsLawful, AreBest, offered, relaxed, IsBestOpen, AnswersBestOpen, AreOpening}
 use Rattle.road_graph.specs.Making.{numbers_at}
 use Rattle.road_graph.specs.declared.Side.TheVariants.{Tail}
 use Rattle.road_graph.proofs.Numbers.{lists_from}
-use Rattle.path_algebra.specs.Algebra.{Algebra, IsLawful}
-use Rattle.path_algebra.specs.Walks.{AreBest, offered, relaxed}
-use Rattle.path_algebra.specs.Open.{IsBestOpen, AnswersBestOpen}
 use Rattle.path_algebra.proofs.Least.{best_open}
-use Rattle.path_plain.specs.Opening.{AreOpening}
 use Rattle.path_plain.proofs.Known.{opening_none, opening_front}
 use Rattle.path_plain.proofs.Rounds.{Between, unsettled, starting, round, ending}
 

@@ -1,17 +1,8 @@
 -- The search by best vertices first: the labels at its start, what holds between its steps, and the
 -- choice of a vertex.
 use Rattle.std.proofs.Common.{◌≡◌, ℕ, ◌+◌, ◌-◌, ◌<◌, ◌≤◌, ◌⊎◌, inl, inr, Bool, List, [], ◌∷◌, ◌++◌, length, get_or, replicate, take, refl, ap, sym, ◌∙◌, subst, arith, Option, Some, None, get_or-set_same, get_or-set_other, length-set, true, false, set}
-use Rattle.std.proofs.lemmas.Bool.{cases_eq, cases_Bool}
+use Rattle.path_plain.proofs.Words.{cases_eq, cases_Bool, Contains-append_left, Contains-push, Contains-push_cases, Contains, IsTrue, not_in_empty, head_or_tail, here, later, label_of, improved, offered, AreOpening, GraphData, IsGraph, HasVertex, arc_of, ListsArcsFrom, Algebra, IsLawful, same_no_worse, IsBestOpen}
 use Rattle.std.proofs.lemmas.List.{get_or-replicate, length-replicate, take_more}
-use Rattle.std.proofs.lemmas.List.Elements.{Contains-append_left, Contains-push, Contains-push_cases}
-use Rattle.std.specs.Prelude.{Contains, IsTrue}
-use Rattle.road_graph.proofs.Lists.{not_in_empty, head_or_tail, here, later}
-use Rattle.path_algebra.specs.Walks.{label_of, improved, offered}
-use Rattle.path_plain.specs.Opening.{AreOpening}
-use Rattle.road_graph.specs.GraphData.{GraphData, IsGraph, HasVertex, arc_of, ListsArcsFrom}
-use Rattle.path_algebra.specs.Algebra.{Algebra, IsLawful}
-use Rattle.path_algebra.proofs.Least.{same_no_worse}
-use Rattle.path_algebra.specs.Open.{IsBestOpen}
 pub use Rattle.path_plain.specs.Rounds.{IsSettled, Search}
 
 module _ {V : Type 0} (no_worse : V → V → Bool) (origin : V) (n : ℕ) where

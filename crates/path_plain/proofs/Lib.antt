@@ -1,3 +1,4 @@
+mod Words
 pub mod Known
 pub mod Rounds
 pub mod Waiting

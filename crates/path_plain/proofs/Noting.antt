@@ -1,11 +1,7 @@
 -- The note of the labelled vertices holds from step to step, and by it a search is put back.
-use Rattle.std.proofs.Common.{◌≡◌, ℕ, ◌+◌, ◌-◌, ◌<◌, ◌≤◌, inl, inr, Bool, true, false, List, [], ◌∷◌, length, get_or, set, drop, replicate, refl, ap, sym, ◌∙◌, subst, arith, not, Option, Some, None, get_or-set_same, get_or-set_other}
-use Rattle.std.proofs.lemmas.Bool.{cases_eq}
+use Rattle.path_plain.proofs.Words.{◌≡◌, ℕ, ◌+◌, ◌-◌, ◌<◌, ◌≤◌, inl, inr, Bool, true, false, List, [], ◌∷◌, length, get_or, set, drop, replicate, refl, ap, sym, ◌∙◌, subst, arith, not, Option, Some, None, get_or-set_same, get_or-set_other, cases_eq, Contains-append_left, Contains-push, Contains-push_cases, not_in_empty, head_or_tail, here, later, label_of}
 use Rattle.std.proofs.lemmas.List.{get_or-replicate, length-replicate, ext_get_or, drop_more}
-use Rattle.std.proofs.lemmas.List.Elements.{Contains-append_left, Contains-push, Contains-push_cases}
 use Rattle.std.specs.Prelude.{Contains, ⊤, is_some}
-use Rattle.road_graph.proofs.Lists.{not_in_empty, head_or_tail, here, later}
-use Rattle.path_algebra.specs.Walks.{label_of}
 use Rattle.path_plain.specs.Noting.{IsUntouched, AreNoted, IsNoted, noted_if, noted_list}
 
 -- v is on the list, if there is one

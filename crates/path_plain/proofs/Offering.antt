@@ -1,16 +1,11 @@
 -- One arc of the vertex that is being settled, and then all of them.
-use Rattle.std.proofs.Common.{◌≡◌, ℕ, ◌<◌, ◌≤◌, List, [], ◌∷◌, length, get_or, refl, ap, sym, subst, ◌∙◌, arith, Option, suc, ◌-◌, ◌⊎◌, inl, inr, Bool, Some, None, get_or-set_same, get_or-set_other, length-set}
+use Rattle.path_plain.proofs.Words.{◌≡◌, ℕ, ◌<◌, ◌≤◌, List, [], ◌∷◌, length, get_or, refl, ap, sym, subst, ◌∙◌, arith, Option, suc, ◌-◌, ◌⊎◌, inl, inr, Bool, Some, None, get_or-set_same, get_or-set_other, length-set, Algebra, IsOrder, IsLawful, cases_eq, cases_Bool, IsTrue, All, head_or_tail, same_no_worse, other_no_worse}
 use Rattle.std.proofs.lemmas.List.{get_or-map, length-map, get_or_default}
 use Rattle.road_graph.specs.GraphData.{GraphData, IsGraph, HasVertex, ListsRoadsFrom, arc_of, road_of, roads_of, HasArc}
-use Rattle.path_algebra.specs.Algebra.{Algebra, IsOrder, IsLawful}
 use Rattle.path_algebra.specs.Walks.{offered_if, relaxed, IsWalkValue, IsNotImproving, label_of, improved, offered}
 use Rattle.road_graph.specs.declared.OutRoad.{OutRoad}
 use Rattle.path_plain.proofs.Waiting.{out_short}
-use Rattle.std.proofs.lemmas.Bool.{cases_eq, cases_Bool}
-use Rattle.std.specs.Prelude.{IsTrue, All}
-use Rattle.road_graph.proofs.Lists.{head_or_tail}
 use Rattle.path_algebra.proofs.Walks.{IsWalkValue-extend, walk_value_is_value, all_inside}
-use Rattle.path_algebra.proofs.Least.{same_no_worse, other_no_worse}
 use Rattle.path_plain.proofs.Known.{IsSettled, Search}
 
 -- the labels after x was extended along each road of a list

@@ -1,17 +1,9 @@
 -- The search between two vertices, and its end.
-use Rattle.std.proofs.Common.{◌≡◌, ℕ, ◌+◌, ◌-◌, ◌<◌, inl, inr, Bool, true, false, cond, List, [], length, get_or, set, replicate, sym, ◌∙◌, arith, Option, Some, None}
+use Rattle.path_plain.proofs.Words.{◌≡◌, ℕ, ◌+◌, ◌-◌, ◌<◌, inl, inr, Bool, true, false, cond, List, [], length, get_or, set, replicate, sym, ◌∙◌, arith, Option, Some, None, cases_Bool, GraphData, IsGraph, HasVertex, arc_of, not_in_empty, Algebra, IsLawful, AreBest, IsBestOpen, AnswersBestOpen, AreOpening, Relaxes}
 use Rattle.std.specs.Prelude.{All, sum_by}
-use Rattle.std.proofs.lemmas.Bool.{cases_Bool}
-use Rattle.road_graph.specs.GraphData.{GraphData, IsGraph, HasVertex, arc_of}
-use Rattle.road_graph.proofs.Lists.{not_in_empty}
-use Rattle.path_algebra.specs.Algebra.{Algebra, IsLawful}
-use Rattle.path_algebra.specs.Walks.{AreBest}
 use Rattle.path_algebra.proofs.Walks.{labels_are_best, all_inside}
-use Rattle.path_algebra.specs.Open.{IsBestOpen, AnswersBestOpen}
 use Rattle.path_plain.proofs.Known.{Search, search_start, search_pick}
 use Rattle.path_plain.proofs.Offering.{search_relaxed}
-use Rattle.path_plain.specs.Opening.{AreOpening}
-use Rattle.path_plain.specs.Searching.{Relaxes}
 pub use Rattle.path_plain.specs.Rounds.{Between}
 
 module _ {V : Type 0} (A : Algebra V) (lawful : IsLawful A) (g : GraphData) (roads : IsGraph g) (sources : List ℕ) (inside : All (HasVertex g) sources) (settled : List Bool) (x : V) where

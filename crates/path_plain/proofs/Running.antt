@@ -1,12 +1,8 @@
 -- A search that runs: it stays between two rounds, until it is past its target or no vertex waits.
-use Rattle.std.proofs.Common.{◌≡◌, ℕ, ◌+◌, ◌*◌, ◌<◌, ◌∙◌, Bool, true, false, List, [], ◌∷◌, length, zero, suc, refl, subst, arith, Option, Some, None}
+use Rattle.path_plain.proofs.Words.{◌≡◌, ℕ, ◌+◌, ◌*◌, ◌<◌, ◌∙◌, Bool, true, false, List, [], ◌∷◌, length, zero, suc, refl, subst, arith, Option, Some, None, GraphData, IsGraph, HasVertex, Algebra, IsLawful, AreBest, SearchState, IsOfSame, IsSameSearch, Advances}
 use Rattle.std.specs.Prelude.{All, IfSome, MatchOption}
-use Rattle.road_graph.specs.GraphData.{GraphData, IsGraph, HasVertex}
-use Rattle.path_algebra.specs.Algebra.{Algebra, IsLawful}
-use Rattle.path_algebra.specs.Walks.{AreBest}
 use Rattle.path_plain.specs.Rounds.{Between, IsSearchedAsFar, Runs, StaysBetween, Steps, RunsSome}
 use Rattle.path_plain.specs.Searcher.{IsSearcher}
-use Rattle.path_plain.specs.Searching.{SearchState, IsOfSame, IsSameSearch, Advances}
 use Rattle.path_plain.specs.UpTo.{AreBestAsFar, IsPast}
 use Rattle.path_plain.proofs.Rounds.{unsettled}
 use Rattle.path_plain.proofs.Steps.{next_round, last_round, last_is_best, comes_nearer}

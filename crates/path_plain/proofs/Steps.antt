@@ -1,19 +1,7 @@
 -- The steps of a search: each keeps its queue, leads from one round to the next, and comes nearer
 -- to the end.
-use Rattle.std.proofs.Common.{◌≡◌, ℕ, ◌+◌, ◌*◌, ◌<◌, ◌≤◌, inl, inr, Bool, true, false, cond, List, [], ◌∷◌, length, get_or, replicate, ◌-◌, ◌∙◌, set, refl, sym, arith, Option, Some, None, length-set}
-use Rattle.std.proofs.lemmas.List.{get_or-replicate, length-replicate}
-use Rattle.std.proofs.lemmas.List.Sums.{sum_by-set}
-use Rattle.road_graph.proofs.Lists.{not_in_empty}
-use Rattle.std.proofs.lemmas.List.Sorted.{Contains-permutation, IsPermutation-sym}
-use Rattle.std.specs.Prelude.{IsTrue, All, is_some}
-use Rattle.std.specs.List.Sorted.{IsPermutation}
-use Rattle.std.specs.BinaryHeap.{IsUpperBound}
-use Rattle.road_graph.specs.GraphData.{GraphData, IsGraph, HasVertex}
-use Rattle.path_algebra.specs.Algebra.{Algebra, IsOrder, IsLawful}
-use Rattle.path_algebra.specs.Walks.{AreBest, label_of}
+use Rattle.path_plain.proofs.Words.{◌≡◌, ℕ, ◌+◌, ◌*◌, ◌<◌, ◌≤◌, inl, inr, Bool, true, false, cond, List, [], ◌∷◌, length, get_or, replicate, ◌-◌, ◌∙◌, set, refl, sym, arith, Option, Some, None, length-set, get_or-replicate, length-replicate, sum_by-set, not_in_empty, Contains-permutation, IsPermutation-sym, IsTrue, All, is_some, IsPermutation, IsUpperBound, GraphData, IsGraph, HasVertex, Algebra, IsOrder, IsLawful, AreBest, label_of, ranked_cmp, IsNoted, noted_if, noted_list}
 use Rattle.path_plain.proofs.Rounds.{Between, unsettled, round, ending}
-use Rattle.ranked_queue.specs.Order.{ranked_cmp}
-use Rattle.path_plain.specs.Noting.{IsNoted, noted_if, noted_list}
 use Rattle.path_plain.specs.Searching.{SearchState, IsSearch, IsSameSearch, Relaxes, Advances}
 use Rattle.path_plain.proofs.Noting.{IsOn, noted_blank, noted_more, noted_label, noted_mark, on_labelled}
 use Rattle.path_plain.proofs.Waiting.{queue_offer, queue_skip, queue_settle, queue_best, queue_first}

@@ -1,20 +1,9 @@
 -- A search that stops once each open vertex is worse than the target: labels are best up to there.
 use Rattle.std.proofs.Common.{◌≡◌, ℕ, ◌-◌, ◌<◌, ◌^◌, inl, inr, Bool, true, false, List, [], ◌∷◌, length, get_or, refl, ap, sym, ◌∙◌, subst, arith, Option, Some, None, not}
-use Rattle.std.specs.Prelude.{IsTrue, All}
-use Rattle.std.specs.BinaryHeap.{IsUpperBound}
-use Rattle.std.proofs.lemmas.Bool.{cases_Bool}
-use Rattle.road_graph.specs.GraphData.{GraphData, IsGraph, HasVertex, arc_of}
-use Rattle.road_graph.proofs.Lists.{not_in_empty}
-use Rattle.path_algebra.specs.Algebra.{Algebra, IsOrder, IsLawful}
+use Rattle.path_plain.proofs.Words.{IsTrue, All, IsUpperBound, cases_Bool, GraphData, IsGraph, HasVertex, arc_of, not_in_empty, Algebra, IsOrder, IsLawful, walk_value_is_value, all_inside, other_no_worse, ranked_cmp, IsQueue, AreBestUpTo, IsPast, bound_is_ahead}
 use Rattle.path_algebra.specs.Walks.{IsWalk, Extends, IsWalkValue, IsBest, IsBestLabel, IsNotImproving, AreBest, label_of}
-use Rattle.path_algebra.proofs.Walks.{walk_value_is_value, all_inside}
 use Rattle.path_algebra.proofs.Tight.{never_better_along, best_is_one, best_at, best_is_label, labelled}
-use Rattle.path_algebra.proofs.Least.{other_no_worse}
-use Rattle.ranked_queue.specs.Order.{ranked_cmp}
-use Rattle.path_plain.specs.Queue.{IsQueue}
-use Rattle.path_plain.specs.UpTo.{AreBestUpTo, IsPast}
 use Rattle.path_plain.proofs.Known.{Search, IsSettled}
-use Rattle.ranked_queue.proofs.Bounds.{bound_is_ahead}
 
 -- labels that are best are best up to any target
 pub best_up_to : {V : Type 0} (A : Algebra V) → IsLawful A → (g : GraphData) → IsGraph g → (sources : List ℕ) (target : ℕ) → HasVertex g target → (labels : List (Option V)) →

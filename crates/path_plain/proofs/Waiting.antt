@@ -1,17 +1,6 @@
 -- The queue of open vertices.
-use Rattle.std.proofs.Common.{◌≡◌, ℕ, ◌+◌, ◌<◌, ◌≤◌, inl, inr, Bool, true, false, List, [], ◌∷◌, length, get_or, set, ap, sym, ◌∙◌, subst, arith, Option, Some, None, get_or-set_same, get_or-set_other, length-set, not}
-use Rattle.std.proofs.lemmas.Bool.{cases_eq}
-use Rattle.std.proofs.lemmas.List.Sorted.{Contains-permutation, IsPermutation-sym}
-use Rattle.std.specs.Prelude.{IsTrue, Contains}
-use Rattle.std.specs.List.Sorted.{IsPermutation}
-use Rattle.std.specs.BinaryHeap.{IsUpperBound}
+use Rattle.path_plain.proofs.Words.{◌≡◌, ℕ, ◌+◌, ◌<◌, ◌≤◌, inl, inr, Bool, true, false, List, [], ◌∷◌, length, get_or, set, ap, sym, ◌∙◌, subst, arith, Option, Some, None, get_or-set_same, get_or-set_other, length-set, not, cases_eq, Contains-permutation, IsPermutation-sym, IsTrue, Contains, IsPermutation, IsUpperBound, head_or_tail, here, later, IsOrder, IsBestOpen, ranked_cmp, bound_is_ahead, IsQueue}
 use Rattle.road_graph.specs.GraphData.{GraphData, IsAscendingFrom, ListsArcsFrom}
-use Rattle.road_graph.proofs.Lists.{head_or_tail, here, later}
-use Rattle.path_algebra.specs.Algebra.{IsOrder}
-use Rattle.path_algebra.specs.Open.{IsBestOpen}
-use Rattle.ranked_queue.specs.Order.{ranked_cmp}
-use Rattle.ranked_queue.proofs.Bounds.{bound_is_ahead}
-use Rattle.path_plain.specs.Queue.{IsQueue}
 use Rattle.path_plain.specs.Ties.{IsFirstOfEquals}
 
 module _ {K V : Type 0} (value : K → V) (place : K → ℕ) (no_worse : V → V → Bool) (ordered : IsOrder no_worse) (labels : List (Option V)) (settled : List Bool) (items : List K)

@@ -1,26 +1,13 @@
 -- What the calls know of their seat between two plain reads and writes of a slot, and what they ask
 -- of a step.
-use Rattle.std.proofs.Common.{◌≡◌, ℕ, List, [], ◌∷◌, sym, ap, ◌∙◌, subst, get_or}
+use Rattle.post_floor.proofs.Words.{◌≡◌, ℕ, List, [], ◌∷◌, sym, ap, ◌∙◌, subst, get_or, Me, rest, Buffer, buffer, Algebra, Item, WellFormed, well_formed, IsPlanned, SetupData, network_of, place_in, All, MadeAt, View, dest, IsBetween, Slot, mailbox_capacity, empty_slot, HasEmpty, ViewLags, published_to}
 use Rattle.std.proofs.lemmas.Option.{same_Some}
 use Rattle.std.specs.Prelude as std
 use Rattle.atomic_table.specs.declared.shared.Seat.{Seat}
 use Rattle.atomic_table.specs.declared.shared.Shared.{Shared}
-use Rattle.atomic_table.specs.Table.{Me, rest}
-use Rattle.circular_buffer.specs.Buffer.{Buffer, buffer}
-use Rattle.path_algebra.specs.Algebra.{Algebra}
-use Rattle.scholten_core.specs.declared.item.Item.{Item}
-use Rattle.scholten_core.specs.Network.{WellFormed}
-use Rattle.scholten_core.proofs.Networks.{well_formed}
 use Rattle.shard_part.specs.PartState.{PartData, vertex_of, maker_of, IsArc}
-use Rattle.shard_store.specs.Setup.{IsPlanned, SetupData, network_of, place_in}
 use Rattle.shard_part.specs.LocalInvariant.{LocalInvariant}
-use Rattle.shard_part.specs.Weights.{All}
 use Rattle.scholten_core.specs.Items.{item_arc}
-use Rattle.shard_part.specs.Arriving.{MadeAt}
-use Rattle.post_floor.specs.declared.view.View.{View}
-use Rattle.post_floor.specs.Boxes.{dest, IsBetween}
-use Rattle.post_floor.specs.Floor.{Slot, mailbox_capacity, empty_slot}
-use Rattle.post_floor.specs.Plays.{HasEmpty, ViewLags, published_to}
 use Rattle.post_floor.specs.Data.{AtTable, Publishing}
 
 first_or : {S : Type 0} → S → List (ℕ × S) → S

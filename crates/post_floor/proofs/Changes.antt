@@ -1,31 +1,9 @@
 -- Each of the steps on a mailbox keeps the rule of the floor.
-use Rattle.std.proofs.Common.{◌≡◌, ◌≢◌, ℕ, ◌+◌, ◌<◌, List, [], ◌∷◌, ◌++◌, length, map, set, get_or, refl, sym, ap, ◌∙◌, subst, inl, inr, arith, length-set, get_or-set_other, get_or-set_same}
-use Rattle.std.proofs.lemmas.Bool.{cases_eq}
-use mathlib.Core.Option.{Option, some}
-use lib.ListN.{get_elem?}
-use Rattle.atomic_table.specs.Table.{State, Me}
+use Rattle.post_floor.proofs.Words.{◌≡◌, ◌≢◌, ℕ, ◌+◌, ◌<◌, List, [], ◌∷◌, ◌++◌, length, map, set, get_or, refl, sym, ap, ◌∙◌, subst, inl, inr, arith, length-set, get_or-set_other, get_or-set_same, cases_eq, Option, some, get_elem?, State, Me, Algebra, Event, Item, WellFormed, ended, PartData, event_of, SetupData, network_of, place_in, total, is, part_weight, HandledAll, HoldsShareIn, core_of, sum_at, AllLawful, run_append, View, filling, reading, box_count, dest, Slot, Place, fill_claims, read_claims, box, in_transit, MailboxInvariant, AreAllInOrder, FloorInvariant, done_by}
 use Rattle.atomic_table.proofs.Lists.{at_set, set_here, set_else}
-use Rattle.path_algebra.specs.Algebra.{Algebra}
-use Rattle.scholten_core.specs.declared.event.Event.{Event}
-use Rattle.scholten_core.specs.declared.item.Item.{Item}
-use Rattle.scholten_core.specs.Network.{WellFormed}
 use Rattle.scholten_core.specs.Diffusion.{CoreState, opening, run_from, step as next_state, delivered, accepted, HasEnded, IsQuiet}
 use Rattle.scholten_core.specs.declared.event.Event.TheVariants.{Deliver, Accept}
-use Rattle.scholten_core.proofs.Ended.{ended}
-use Rattle.shard_part.specs.PartState.{PartData, event_of}
-use Rattle.shard_store.specs.Setup.{SetupData, network_of, place_in}
-use Rattle.shard_store.specs.Totals.{total, is}
-use Rattle.shard_part.specs.Weights.{part_weight}
-use Rattle.shard_part.specs.Handling.{HandledAll}
-use Rattle.shard_part.specs.Represents.{HoldsShareIn, core_of}
-use Rattle.shard_store.proofs.Totals.{sum_at}
-use Rattle.shard_part.proofs.Showing.{AllLawful}
-use Rattle.shard_part.proofs.TakenCounts.{run_append}
-use Rattle.post_floor.specs.declared.view.View.{View}
-use Rattle.post_floor.specs.Boxes.{filling, reading, box_count, dest}
-use Rattle.post_floor.specs.Floor.{Slot, Place, fill_claims, read_claims, box, in_transit, MailboxInvariant, AreAllInOrder, FloorInvariant}
 use Rattle.post_floor.proofs.Totals.{total_set}
-use Rattle.shard_part.specs.Exact.{done_by}
 use Rattle.post_floor.proofs.Keeps.{gone, Relisted, goes_on, idle_after}
 
 module _ {V : Type 0} (A : Algebra V) (N : Rattle.scholten_core.specs.Network.Network) where

@@ -1,20 +1,8 @@
 -- A seat's claims: one more, one less, and how many there may be.
-use Rattle.std.proofs.Common.{◌≡◌, ◌≢◌, ℕ, ◌+◌, ◌*◌, ◌/◌, ◌%◌, ◌<◌, ◌≤◌, Bool, cond, eqb, List, [], ◌∷◌, length, map, drop, refl, sym, ap, ◌∙◌, subst, inl, inr, arith, eq-eqb, ne_eqb}
-use Rattle.std.proofs.lemmas.Bool.{cases_eq}
+use Rattle.post_floor.proofs.Words.{◌≡◌, ◌≢◌, ℕ, ◌+◌, ◌*◌, ◌/◌, ◌%◌, ◌<◌, ◌≤◌, Bool, cond, eqb, List, [], ◌∷◌, length, map, drop, refl, sym, ap, ◌∙◌, subst, inl, inr, arith, eq-eqb, ne_eqb, cases_eq, rest, total, is, All, SetupData, sum_at, sum_zero, is_self, View, dest, origin, Slot, empty_slot, fill_claims, read_claims, Unclaimed, AreOpen, HasEnd}
 use Rattle.std.proofs.Math.Nat.{div-add-mod, mod-lt}
-use Rattle.atomic_table.specs.Table.{rest}
 use Rattle.scholten_core.specs.Sums.{sum_below}
 use Rattle.scholten_core.proofs.Basics.{sum_most, sum_ones}
-use Rattle.shard_store.specs.Totals.{total, is}
-use Rattle.shard_part.specs.Weights.{All}
-use Rattle.shard_store.specs.Setup.{SetupData}
-use Rattle.shard_store.proofs.Totals.{sum_at, sum_zero}
-use Rattle.shard_part.proofs.Showing.{is_self}
-use Rattle.post_floor.specs.declared.view.View.{View}
-use Rattle.post_floor.specs.Boxes.{dest, origin}
-use Rattle.post_floor.specs.Floor.{Slot, empty_slot, fill_claims, read_claims}
-use Rattle.post_floor.specs.Plays.{Unclaimed}
-use Rattle.post_floor.specs.Data.{AreOpen, HasEnd}
 use Rattle.post_floor.proofs.Totals.{is_else}
 use Rattle.post_floor.proofs.Opened.{pair_below}
 

@@ -1,32 +1,14 @@
 -- The steps on the done word keep the rule of the floor.
 use Rattle.std.proofs.Common.{◌≡◌, ℕ, ◌<◌, Bool, true, false, not, ◌&&◌, eqb, eq-eqb, List, ◌++◌, map, set, get_or, refl, sym, ap, ◌∙◌, subst, inl, inr, arith, length-set, get_or-set_other, get_or-set_same}
 use Rattle.std.proofs.lemmas.Bool.{cases_eq, and_parts}
-use mathlib.Core.Option.{Option, some}
-use lib.ListN.{get_elem?}
+use Rattle.post_floor.proofs.Words.{Option, some, get_elem?, at_set, Algebra, Event, Item, WellFormed, ended, SetupData, network_of, place_in, total, HandledAll, HoldsTables, HoldsShareIn, core_of, has_ended, sum_below_same, AllLawful, View, done_now, box_count, dest, Slot, fill_claims, read_claims, box, in_transit, MailboxInvariant, FloorInvariant, done_by}
 use Rattle.atomic_table.specs.Table.{keeps, Allows}
-use Rattle.atomic_table.proofs.Lists.{at_set}
-use Rattle.path_algebra.specs.Algebra.{Algebra}
-use Rattle.scholten_core.specs.declared.event.Event.{Event}
-use Rattle.scholten_core.specs.declared.item.Item.{Item}
-use Rattle.scholten_core.specs.Network.{WellFormed}
 use Rattle.scholten_core.specs.Diffusion.{CoreState, HasEnded, IsQuiet, is_idle}
-use Rattle.scholten_core.proofs.Ended.{ended}
 use Rattle.scholten_core.proofs.Basics.{idle-true}
 use Rattle.shard_part.specs.PartState.{PartData, token_if, event_of}
-use Rattle.shard_store.specs.Setup.{SetupData, network_of, place_in}
-use Rattle.shard_store.specs.Totals.{total}
-use Rattle.shard_part.specs.Handling.{HandledAll}
-use Rattle.shard_part.specs.Represents.{HoldsTables, HoldsShareIn, core_of}
-use Rattle.shard_part.specs.Readings.{has_ended}
-use Rattle.shard_store.proofs.Totals.{sum_below_same}
-use Rattle.shard_part.proofs.Showing.{AllLawful}
-use Rattle.post_floor.specs.declared.view.View.{View}
 use Rattle.post_floor.specs.declared.view.WordStep.{WordStep}
-use Rattle.post_floor.specs.Boxes.{done_now, box_count, dest}
-use Rattle.post_floor.specs.Floor.{Slot, fill_claims, read_claims, box, in_transit, MailboxInvariant, FloorInvariant}
 use Rattle.post_floor.specs.Plays.{IsViewOf, StepsTo, at_word, see, ViewLags, HoldsReachedShare, HoldsEndedShare, LookStep, AnnounceStep}
 use Rattle.post_floor.proofs.Totals.{total_set}
-use Rattle.shard_part.specs.Exact.{done_by}
 use Rattle.post_floor.proofs.Keeps.{gone, went, goes_on, idle_after}
 use Rattle.post_floor.proofs.Changes.{Tab, Seat, ended_more}
 use Rattle.post_floor.proofs.Exchanges.{unchanged, known_at, still_ordered}

@@ -1,36 +1,15 @@
 -- The kinds of steps, each as the table asks for it.
-use Rattle.std.proofs.Common.{◌≡◌, ◌≢◌, ℕ, ◌+◌, ◌<◌, ◌≤◌, eqb, List, [], ◌∷◌, ◌++◌, length, map, set, get_or, refl, sym, ap, ◌∙◌, subst, inl, inr, arith, length-set, get_or-set_other, get_or-set_same}
+use Rattle.post_floor.proofs.Words.{◌≡◌, ◌≢◌, ℕ, ◌+◌, ◌<◌, ◌≤◌, eqb, List, [], ◌∷◌, ◌++◌, length, map, set, get_or, refl, sym, ap, ◌∙◌, subst, inl, inr, arith, length-set, get_or-set_other, get_or-set_same, get_elem?, buffer, Algebra, Item, Event, WellFormed, CoreState, CoreInvariant, PartData, event_of, SetupData, network_of, place_in, total, is, All, part_weight, HandledAll, HoldsShareIn, core_of, total_append, AllLawful, all_parts, is_self, View, empty, filling, full, reading, next_slot, box_count, dest, origin, AreInOrder, Slot, Place, fill_claims, read_claims, box, mailbox_capacity, empty_slot, MailboxInvariant, AreAllInOrder, FloorInvariant, done_by, handled_same}
 use Rattle.std.proofs.lemmas.List.{set-get_or}
 use Rattle.std.specs.Prelude as std
 use mathlib.Core.Option.{Option, none, some}
-use lib.ListN.{get_elem?}
 use prog.Atomic.{either}
 use Rattle.atomic_table.specs.Table.{Act, keeps, takes, gives, Valid, stepped, rest, carried_after, put_back}
 use Rattle.atomic_table.proofs.Lists.{set_here, exchanged}
-use Rattle.circular_buffer.specs.Buffer.{buffer}
-use Rattle.path_algebra.specs.Algebra.{Algebra}
-use Rattle.scholten_core.specs.declared.item.Item.{Item}
-use Rattle.scholten_core.specs.declared.event.Event.{Event}
-use Rattle.scholten_core.specs.Network.{WellFormed}
-use Rattle.scholten_core.specs.Diffusion.{CoreState}
-use Rattle.scholten_core.proofs.CoreInvariant.{CoreInvariant}
-use Rattle.shard_part.specs.PartState.{PartData, event_of}
-use Rattle.shard_store.specs.Setup.{SetupData, network_of, place_in}
-use Rattle.shard_store.specs.Totals.{total, is}
-use Rattle.shard_part.specs.Weights.{All, part_weight}
-use Rattle.shard_part.specs.Handling.{HandledAll}
-use Rattle.shard_part.specs.Represents.{HoldsShareIn, core_of}
-use Rattle.shard_store.proofs.Totals.{total_append}
 use Rattle.shard_part.proofs.Routed.{outs_none}
-use Rattle.shard_part.proofs.Showing.{AllLawful, all_parts, is_self}
 use Rattle.shard_part.specs.Arriving.{MadeAt, joined, MayReceive}
-use Rattle.post_floor.specs.declared.view.View.{View}
-use Rattle.post_floor.specs.Boxes.{empty, filling, full, reading, next_slot, box_count, dest, origin, AreInOrder}
-use Rattle.post_floor.specs.Floor.{Slot, Place, fill_claims, read_claims, box, mailbox_capacity, empty_slot, MailboxInvariant, AreAllInOrder, FloorInvariant}
 use Rattle.post_floor.specs.Plays.{IsViewOf, StepsTo, at_word, Unclaimed, begin_fill, end_fill, begin_read, end_read, published_to, IsNextFill, IsNextRead, HasEmpty, HoldsReachedShare, FillStep, PublishStep, ReadStep, ClearStep}
 use Rattle.post_floor.proofs.Totals.{total_at, is_else, is_one, without_same, without_else}
-use Rattle.shard_part.specs.Exact.{done_by}
-use Rattle.shard_part.proofs.TakenCounts.{handled_same}
 use Rattle.shard_part.proofs.UnderWay.{arrives}
 use Rattle.post_floor.proofs.Keeps.{gone, Relisted, went, kept_core}
 use Rattle.post_floor.proofs.Changes.{Tab, Seat, Change, changes}

@@ -1,32 +1,15 @@
 -- Each step keeps the rule of the floor.
-use Rattle.std.proofs.Common.{◌≡◌, ℕ, ◌+◌, ◌<◌, List, [], ◌∷◌, ◌++◌, length, map, set, refl, sym, ap, ◌∙◌, subst, inl, inr, arith}
-use mathlib.Core.Option.{some}
-use lib.ListN.{get_elem?}
-use Rattle.atomic_table.specs.Table.{State}
-use Rattle.atomic_table.proofs.Lists.{at_set}
-use Rattle.path_algebra.specs.Algebra.{Algebra}
-use Rattle.scholten_core.specs.declared.event.Event.{Event}
-use Rattle.scholten_core.specs.declared.item.Item.{Item}
-use Rattle.scholten_core.specs.Network.{WellFormed}
+use Rattle.post_floor.proofs.Words.{◌≡◌, ℕ, ◌+◌, ◌<◌, List, [], ◌∷◌, ◌++◌, length, map, set, refl, sym, ap, ◌∙◌, subst, inl, inr, arith, some, get_elem?, State, at_set, Algebra, Event, Item, WellFormed, CoreState, opening, run_from, SetupData, network_of, place_in, IsPlanned, total, is, All, part_weight, HandledAll, total_append, run_append, handled_same, View, IsViewOf, StepsTo}
 use Rattle.scholten_core.specs.Accounts.{Totals, totals_of}
-use Rattle.scholten_core.specs.Diffusion.{CoreState, opening, run_from}
 use Rattle.scholten_core.specs.Shares.{Agree}
 use Rattle.scholten_core.proofs.CoreInvariant.{CoreInvariant, run_kept}
 use Rattle.scholten_core.proofs.Ended.{opening_kept}
 use Rattle.shard_part.specs.PartState.{PartData, state_in, mine, event_of}
-use Rattle.shard_store.specs.Setup.{SetupData, network_of, place_in, IsPlanned}
-use Rattle.shard_store.specs.Totals.{total, is}
-use Rattle.shard_part.specs.Weights.{All, part_weight}
-use Rattle.shard_part.specs.Handling.{HandledAll}
 use Rattle.shard_part.specs.Represents.{HoldsTables, HoldsShareIn, RepresentsIn, Represents, core_of}
 use Rattle.shard_part.specs.OnePart.{AreBestFirstIfOne, OwnOutboxIsEmpty}
 use Rattle.shard_part.proofs.OnePartTakesTheBest.{best_first_more, own_stays, all_best}
-use Rattle.shard_store.proofs.Totals.{total_append}
 use Rattle.shard_part.proofs.Showing.{AllLawful, all_parts, all_append, shown_holds, swap_shown}
-use Rattle.shard_part.proofs.TakenCounts.{run_append, handled_same}
-use Rattle.post_floor.specs.declared.view.View.{View}
 use Rattle.post_floor.specs.Floor.{Slot, flat, AddUp, CountsNone, in_transit, FloorInvariant}
-use Rattle.post_floor.specs.Plays.{IsViewOf, StepsTo}
 use Rattle.post_floor.proofs.Totals.{total_set}
 use Rattle.post_floor.proofs.Parts.{stands}
 use Rattle.post_floor.proofs.OneShard.{lone}

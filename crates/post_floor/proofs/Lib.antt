@@ -1,3 +1,4 @@
+mod Words
 pub mod Totals
 pub mod Parts
 mod Order

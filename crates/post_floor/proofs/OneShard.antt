@@ -1,21 +1,5 @@
 -- With one shard there is one part, and no mailbox is full.
-use Rattle.std.proofs.Common.{◌≡◌, ℕ, ◌<◌, Bool, cond, List, [], ◌∷◌, ◌++◌, length, get_or, refl, sym, ap, ◌∙◌, subst, inl, inr, arith, ne_eqb, length-append}
-use Rattle.std.proofs.lemmas.Bool.{cases_eq}
-use Rattle.std.proofs.lemmas.List.{nil_from_length}
-use lib.ListN.{get_elem?}
-use Rattle.atomic_table.specs.Table.{State}
-use Rattle.path_algebra.specs.Algebra.{Algebra}
-use Rattle.scholten_core.specs.declared.item.Item.{Item}
-use Rattle.shard_part.specs.PartState.{PartData}
-use Rattle.shard_store.specs.Setup.{SetupData, place_in, IsPlanned}
-use Rattle.shard_store.specs.Totals.{total, is}
-use Rattle.shard_store.proofs.Graphs.{place_below}
-use Rattle.shard_store.proofs.Totals.{sum_zero, sum_below_same, total_append}
-use Rattle.shard_part.specs.Weights.{All, part_weight}
-use Rattle.shard_part.proofs.Showing.{all_parts, is_self}
-use Rattle.post_floor.specs.declared.view.View.{View}
-use Rattle.post_floor.specs.Boxes.{full, box_count, dest}
-use Rattle.post_floor.specs.Floor.{Slot, flat, box, load_place, in_transit, FloorInvariant}
+use Rattle.post_floor.proofs.Words.{◌≡◌, ℕ, ◌<◌, Bool, cond, List, [], ◌∷◌, ◌++◌, length, get_or, refl, sym, ap, ◌∙◌, subst, inl, inr, arith, ne_eqb, length-append, cases_eq, nil_from_length, get_elem?, State, Algebra, Item, PartData, SetupData, place_in, IsPlanned, total, is, place_below, sum_zero, sum_below_same, total_append, All, part_weight, all_parts, is_self, View, full, box_count, dest, Slot, flat, box, load_place, in_transit, FloorInvariant}
 use Rattle.post_floor.proofs.Opened.{ends_below}
 
 total_short : {X : Type 0} (f : X → ℕ) (xs : List X) → length xs ≡ 0 → total f xs ≡ 0

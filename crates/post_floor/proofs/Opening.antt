@@ -1,28 +1,8 @@
 -- The table as it is opened keeps the rule.
-use Rattle.std.proofs.Common.{◌≡◌, ℕ, zero, suc, ◌+◌, ◌<◌, ◌≤◌, true, false, List, [], ◌∷◌, length, get_or, map, replicate, refl, sym, ap, ◌∙◌, subst, inl, inr, arith, eq-eqb, ne_eqb, append-nil}
-use Rattle.std.proofs.lemmas.Bool.{cases_eq}
+use Rattle.post_floor.proofs.Words.{◌≡◌, ℕ, zero, suc, ◌+◌, ◌<◌, ◌≤◌, true, false, List, [], ◌∷◌, length, get_or, map, replicate, refl, sym, ap, ◌∙◌, subst, inl, inr, arith, eq-eqb, ne_eqb, append-nil, cases_eq, Option, some, get_elem?, at_map, Algebra, Item, one_if, PartData, SetupData, place_in, IsPlanned, total, is, All, Represents, core_of, OwnOutboxIsEmpty, opened_parts, sum_zero, sum_below_same, place_below, View, box_count, mailbox, dest, Slot, flat, CountsNone, box, in_transit, empty_slot, words_between, MailboxInvariant, FloorInvariant, knows}
 use Rattle.std.proofs.lemmas.List.{length-replicate, length-map}
-use mathlib.Core.Option.{Option, some}
-use lib.ListN.{get_elem?}
 use Rattle.atomic_table.specs.Table.{opening}
-use Rattle.atomic_table.proofs.Lists.{at_map}
-use Rattle.path_algebra.specs.Algebra.{Algebra}
-use Rattle.scholten_core.specs.declared.item.Item.{Item}
-use Rattle.scholten_core.specs.Sums.{one_if}
-use Rattle.shard_part.specs.PartState.{PartData}
-use Rattle.shard_store.specs.Setup.{SetupData, place_in, IsPlanned}
-use Rattle.shard_store.specs.Totals.{total, is}
-use Rattle.shard_part.specs.Weights.{All}
-use Rattle.shard_part.specs.Represents.{Represents, core_of}
-use Rattle.shard_part.specs.OnePart.{OwnOutboxIsEmpty}
-use Rattle.shard_part.specs.Opening.{opened_parts}
-use Rattle.shard_store.proofs.Totals.{sum_zero, sum_below_same}
-use Rattle.shard_store.proofs.Graphs.{place_below}
 use Rattle.shard_part.proofs.OpenedAll.{opened_show, opened_same, shards_past}
-use Rattle.post_floor.specs.declared.view.View.{View}
-use Rattle.post_floor.specs.Boxes.{box_count, mailbox, dest}
-use Rattle.post_floor.specs.Floor.{Slot, flat, CountsNone, box, in_transit, empty_slot, words_between, MailboxInvariant, FloorInvariant}
-use Rattle.post_floor.specs.Seats.{knows}
 use Rattle.post_floor.proofs.Opened.{get_same}
 use Rattle.post_floor.proofs.Order.{fresh_order}
 use Rattle.post_floor.proofs.Ordering.{only}

@@ -1,7 +1,6 @@
 -- A pair's slots stay in order: each of the four steps on one of them.
 use Rattle.std.proofs.Common.{◌≡◌, ◌≢◌, ◌⊎◌, ℕ, zero, suc, ◌+◌, ◌-◌, ◌<◌, ◌≤◌, Bool, cond, refl, sym, ap, ◌∙◌, subst, inl, inr, arith, eq-eqb, ne_eqb}
-use Rattle.std.proofs.lemmas.Bool.{cases_eq, cases_lt}
-use Rattle.post_floor.specs.Boxes.{empty, filling, full, reading, next_slot, slot_after, AreInOrder}
+use Rattle.post_floor.proofs.Words.{cases_eq, cases_lt, empty, filling, full, reading, next_slot, slot_after, AreInOrder}
 
 -- the next slot by cases
 next_is : (a : ℕ) → a < 4 → ((a + 1 ≡ 4) × (next_slot a ≡ 0)) ⊎ ((a + 1 < 4) × (next_slot a ≡ a + 1))

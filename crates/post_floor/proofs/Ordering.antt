@@ -1,18 +1,6 @@
 -- The slots between each two shards stay in order when one view makes a step.
-use Rattle.std.proofs.Common.{◌≡◌, ◌≢◌, ◌⊎◌, ℕ, zero, suc, ◌+◌, ◌*◌, ◌/◌, ◌%◌, ◌<◌, List, [], ◌∷◌, length, set, get_or, sym, ap, ◌∙◌, subst, inl, inr, arith, get_or-set_other, get_or-set_same}
-use Rattle.std.proofs.lemmas.Bool.{cases_eq}
+use Rattle.post_floor.proofs.Words.{◌≡◌, ◌≢◌, ◌⊎◌, ℕ, zero, suc, ◌+◌, ◌*◌, ◌/◌, ◌%◌, ◌<◌, List, [], ◌∷◌, length, set, get_or, sym, ap, ◌∙◌, subst, inl, inr, arith, get_or-set_other, get_or-set_same, cases_eq, div-lt_iff_lt-mul, some, some-injective, some-ne-none, get_elem?, at_set, PartData, total, is, is_self, View, box_count, mailbox, dest, origin, AreInOrder, flat, IsSeatOf, words_between, AreAllInOrder, IsNextFill, IsNextRead}
 use Rattle.std.proofs.lemmas.Nat.{div-mul-add, mod-mul-add}
-use Rattle.std.proofs.Math.Nat.{div-lt_iff_lt-mul}
-use mathlib.Core.Option.{some, some-injective, some-ne-none}
-use lib.ListN.{get_elem?}
-use Rattle.atomic_table.proofs.Lists.{at_set}
-use Rattle.shard_part.specs.PartState.{PartData}
-use Rattle.shard_store.specs.Totals.{total, is}
-use Rattle.shard_part.proofs.Showing.{is_self}
-use Rattle.post_floor.specs.declared.view.View.{View}
-use Rattle.post_floor.specs.Boxes.{box_count, mailbox, dest, origin, AreInOrder}
-use Rattle.post_floor.specs.Floor.{flat, IsSeatOf, words_between, AreAllInOrder}
-use Rattle.post_floor.specs.Plays.{IsNextFill, IsNextRead}
 use Rattle.post_floor.proofs.Totals.{total_at, total_two}
 use Rattle.post_floor.proofs.Parts.{flat_total}
 use Rattle.post_floor.proofs.Order.{Elsewhere, order_same}

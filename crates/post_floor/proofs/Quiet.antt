@@ -1,16 +1,6 @@
 -- Where the state that is shown has ended, all is over.
-use Rattle.std.proofs.Common.{ℕ, List, ◌∙◌}
-use Rattle.path_algebra.specs.Algebra.{Algebra}
-use Rattle.scholten_core.specs.declared.event.Event.{Event}
-use Rattle.scholten_core.specs.declared.item.Item.{Item}
-use Rattle.scholten_core.specs.Diffusion.{HasEnded}
+use Rattle.post_floor.proofs.Words.{ℕ, List, ◌∙◌, Algebra, Event, Item, HasEnded, well_formed, PartData, SetupData, network_of, place_in, IsPlanned, Represents, core_of, AllLawful, ended_empty}
 use Rattle.scholten_core.proofs.EveryRun.{ended_is_quiet, ended_is_best}
-use Rattle.scholten_core.proofs.Networks.{well_formed}
-use Rattle.shard_part.specs.PartState.{PartData}
-use Rattle.shard_store.specs.Setup.{SetupData, network_of, place_in, IsPlanned}
-use Rattle.shard_part.specs.Represents.{Represents, core_of}
-use Rattle.shard_part.proofs.Showing.{AllLawful}
-use Rattle.shard_part.proofs.UnderWay.{ended_empty}
 use Rattle.post_floor.specs.Floor.{RepresentsQuiet}
 
 module _ {S V : Type 0} (meaning : S → Algebra V) (t : SetupData S) (L : AllLawful meaning) (P : IsPlanned t 0) where

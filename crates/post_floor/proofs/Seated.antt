@@ -1,20 +1,7 @@
 -- What a call knows of its seat, and that the seat is one again after its step.
 use Rattle.std.proofs.Common.{Option, ◌≡◌, ℕ, zero, suc, ◌+◌, ◌*◌, ◌<◌, ◌≤◌, Bool, cond, List, [], ◌∷◌, length, get_or, set, take, drop, refl, sym, ap, ◌∙◌, subst, inl, inr, arith, eq-eqb, ne_eqb, length-set, get_or-set_other}
-use Rattle.std.proofs.lemmas.Bool.{cases_eq}
+use Rattle.post_floor.proofs.Words.{cases_eq, TableId, rest, Buffer, buffer, Algebra, PartData, SetupData, total, is, handled_same, is_self, View, mailbox, next_slot, dest, origin, IsBetween, Slot, empty_slot, fill_claims, read_claims, without, IsNextFill, IsNextRead, StepsTo, at_word, end_fill, end_read, ViewLags, Unclaimed}
 use Rattle.std.proofs.lemmas.List.{take_all, same_from_push, get_or_read}
-use Rattle.atomic_table.specs.Seated.{TableId}
-use Rattle.atomic_table.specs.Table.{rest}
-use Rattle.circular_buffer.specs.Buffer.{Buffer, buffer}
-use Rattle.path_algebra.specs.Algebra.{Algebra}
-use Rattle.shard_part.specs.PartState.{PartData}
-use Rattle.shard_store.specs.Setup.{SetupData}
-use Rattle.shard_store.specs.Totals.{total, is}
-use Rattle.shard_part.proofs.TakenCounts.{handled_same}
-use Rattle.shard_part.proofs.Showing.{is_self}
-use Rattle.post_floor.specs.declared.view.View.{View}
-use Rattle.post_floor.specs.Boxes.{mailbox, next_slot, dest, origin, IsBetween}
-use Rattle.post_floor.specs.Floor.{Slot, empty_slot, fill_claims, read_claims}
-use Rattle.post_floor.specs.Plays.{without, IsNextFill, IsNextRead, StepsTo, at_word, end_fill, end_read, ViewLags, Unclaimed}
 use Rattle.post_floor.specs.Data.{FloorData, SeatData, AreSlots, HasEnd, AreOpen, AtTable, IsAt, IsSeat, IsTableSized, fill_box, read_box}
 use Rattle.post_floor.proofs.Totals.{is_else, without_same, without_else}
 use Rattle.post_floor.proofs.Claiming.{few_claims, claims_more, claims_less}

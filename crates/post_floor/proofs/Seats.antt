@@ -1,23 +1,8 @@
 -- Seats that are cut off and joined keep the rule.
-use Rattle.std.proofs.Common.{◌≡◌, ℕ, zero, suc, ◌+◌, ◌<◌, true, List, [], ◌∷◌, ◌++◌, map, set, get_or, refl, sym, ap, ◌∙◌, subst, inl, inr, arith}
+use Rattle.post_floor.proofs.Words.{◌≡◌, ℕ, zero, suc, ◌+◌, ◌<◌, true, List, [], ◌∷◌, ◌++◌, map, set, get_or, refl, sym, ap, ◌∙◌, subst, inl, inr, arith, map_push, same_from_push, some, some-ne-none, get_elem?, Algebra, PartData, SetupData, network_of, place_in, total, is, All, part_weight, HoldsTables, core_of, OwnOutboxIsEmpty, total_append, all_append, all_parts, View, box_count, AreInOrder, Slot, flat, fill_claims, read_claims, CountsNone, MailboxInvariant, IsSeatOf, words_between, FloorInvariant}
 use Rattle.std.proofs.lemmas.Bool.{or_cases}
-use Rattle.std.proofs.lemmas.List.{map_push, same_from_push}
-use mathlib.Core.Option.{some, some-ne-none}
-use lib.ListN.{get_elem?}
 use Rattle.atomic_table.specs.Table.{State, Splits, Joins}
 use Rattle.atomic_table.proofs.Lists.{at_set, at_snoc}
-use Rattle.path_algebra.specs.Algebra.{Algebra}
-use Rattle.shard_part.specs.PartState.{PartData}
-use Rattle.shard_store.specs.Setup.{SetupData, network_of, place_in}
-use Rattle.shard_store.specs.Totals.{total, is}
-use Rattle.shard_part.specs.Weights.{All, part_weight}
-use Rattle.shard_part.specs.Represents.{HoldsTables, core_of}
-use Rattle.shard_part.specs.OnePart.{OwnOutboxIsEmpty}
-use Rattle.shard_store.proofs.Totals.{total_append}
-use Rattle.shard_part.proofs.Showing.{all_append, all_parts}
-use Rattle.post_floor.specs.declared.view.View.{View}
-use Rattle.post_floor.specs.Boxes.{box_count, AreInOrder}
-use Rattle.post_floor.specs.Floor.{Slot, flat, fill_claims, read_claims, CountsNone, MailboxInvariant, IsSeatOf, words_between, FloorInvariant}
 use Rattle.post_floor.specs.Seats.{tail, first_alone, cut_left, cut_right, aside_left, aside_right, both, spent}
 use Rattle.post_floor.proofs.Totals.{total_set}
 use Rattle.post_floor.proofs.Parts.{flat_total, flat_each, flat_at}

@@ -1,26 +1,7 @@
 -- A floor on which nothing can move shows a state that has ended.
-use Rattle.std.proofs.Common.{◌≡◌, ◌≢◌, ◌⊎◌, ℕ, zero, suc, ◌+◌, ◌*◌, ◌/◌, ◌%◌, ◌<◌, true, List, [], ◌∷◌, get_or, refl, sym, ap, ◌∙◌, subst, inl, inr, arith}
-use Rattle.std.proofs.lemmas.Bool.{cases_eq}
+use Rattle.post_floor.proofs.Words.{◌≡◌, ◌≢◌, ◌⊎◌, ℕ, zero, suc, ◌+◌, ◌*◌, ◌/◌, ◌%◌, ◌<◌, true, List, [], ◌∷◌, get_or, refl, sym, ap, ◌∙◌, subst, inl, inr, arith, cases_eq, mod-lt, some, some-injective, some-ne-none, get_elem?, State, Algebra, Item, HasEnded, well_formed, PartData, SetupData, network_of, place_in, IsPlanned, total, is, sum_below_same, sum_zero, AllLawful, is_self, HoldsTables, core_of, has_ended, ended_empty, View, empty, filling, full, reading, box_count, mailbox, dest, origin, slot_after, AreInOrder}
 use Rattle.std.proofs.lemmas.Nat.{div-add-mod'}
-use Rattle.std.proofs.Math.Nat.{mod-lt}
-use mathlib.Core.Option.{some, some-injective, some-ne-none}
-use lib.ListN.{get_elem?}
-use Rattle.atomic_table.specs.Table.{State}
-use Rattle.path_algebra.specs.Algebra.{Algebra}
-use Rattle.scholten_core.specs.declared.item.Item.{Item}
-use Rattle.scholten_core.specs.Diffusion.{HasEnded}
-use Rattle.scholten_core.proofs.Networks.{well_formed}
-use Rattle.shard_part.specs.PartState.{PartData}
-use Rattle.shard_store.specs.Setup.{SetupData, network_of, place_in, IsPlanned}
-use Rattle.shard_store.specs.Totals.{total, is}
 use Rattle.shard_part.specs.Weights.{All, part_weight, outs_weight}
-use Rattle.shard_store.proofs.Totals.{sum_below_same, sum_zero}
-use Rattle.shard_part.proofs.Showing.{AllLawful, is_self}
-use Rattle.shard_part.specs.Represents.{HoldsTables, core_of}
-use Rattle.shard_part.specs.Readings.{has_ended}
-use Rattle.shard_part.proofs.UnderWay.{ended_empty}
-use Rattle.post_floor.specs.declared.view.View.{View}
-use Rattle.post_floor.specs.Boxes.{empty, filling, full, reading, box_count, mailbox, dest, origin, slot_after, AreInOrder}
 use Rattle.post_floor.specs.Floor.{Slot, flat, fill_claims, read_claims, box, in_transit, words_between, IsSeatOf, FloorInvariant, Rests, IsStill}
 use Rattle.post_floor.proofs.Totals.{total_none, is_one}
 use Rattle.post_floor.proofs.Parts.{flat_total, flat_each, flat_at}

@@ -1,12 +1,5 @@
 -- Sums over lists and over numbers, where one member changes.
-use Rattle.std.proofs.Common.{◌≡◌, ◌≢◌, ℕ, zero, suc, ◌+◌, ◌<◌, ◌≤◌, Bool, cond, eqb, List, [], ◌∷◌, set, refl, sym, ap, ◌∙◌, subst, inl, inr, arith, eq-eqb, ne_eqb}
-use Rattle.std.proofs.lemmas.Bool.{cases_eq}
-use mathlib.Core.Option.{some, some-injective, some-ne-none}
-use lib.ListN.{get_elem?}
-use Rattle.scholten_core.specs.Sums.{one_if}
-use Rattle.shard_store.specs.Totals.{total, is}
-use Rattle.shard_part.proofs.Showing.{is_self}
-use Rattle.post_floor.specs.Plays.{without}
+use Rattle.post_floor.proofs.Words.{◌≡◌, ◌≢◌, ℕ, zero, suc, ◌+◌, ◌<◌, ◌≤◌, Bool, cond, eqb, List, [], ◌∷◌, set, refl, sym, ap, ◌∙◌, subst, inl, inr, arith, eq-eqb, ne_eqb, cases_eq, some, some-injective, some-ne-none, get_elem?, one_if, total, is, is_self, without}
 
 module _ {A : Type 0} where
   pub total_set : (f : A → ℕ) (vs : List A) (i : ℕ) (v w : A) → get_elem? vs i ≡ some v → total f (set vs i w) + f v ≡ total f vs + f w

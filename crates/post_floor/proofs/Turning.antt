@@ -1,17 +1,7 @@
 -- Claims that are turned round.
 use Rattle.std.proofs.Common.{◌≡◌, ◌≢◌, ℕ, suc, ◌<◌, ◌≤◌, Bool, true, false, cond, eqb, List, [], ◌∷◌, ◌++◌, length, map, refl, sym, ap, ◌∙◌, subst, inl, inr, arith, eq-eqb, eqb-true, length-append}
-use Rattle.std.proofs.lemmas.Bool.{cases_eq}
-use Rattle.std.proofs.lemmas.List.{map_push}
+use Rattle.post_floor.proofs.Words.{cases_eq, map_push, total, is, All, SetupData, total_append, all_append, View, Slot, empty_slot, cycled, before, first_is, AreOpen, HasEnd}
 use Rattle.atomic_table.specs.Table.{rest, turned}
-use Rattle.shard_store.specs.Totals.{total, is}
-use Rattle.shard_part.specs.Weights.{All}
-use Rattle.shard_store.specs.Setup.{SetupData}
-use Rattle.shard_store.proofs.Totals.{total_append}
-use Rattle.shard_part.proofs.Showing.{all_append}
-use Rattle.post_floor.specs.declared.view.View.{View}
-use Rattle.post_floor.specs.Floor.{Slot, empty_slot}
-use Rattle.post_floor.specs.Claims.{cycled, before, first_is}
-use Rattle.post_floor.specs.Data.{AreOpen, HasEnd}
 use Rattle.post_floor.proofs.Totals.{is_else}
 
 pub cycled_total : {A : Type 0} (f : A → ℕ) (xs : List A) → total f (cycled xs) ≡ total f xs

@@ -1,9 +1,5 @@
 -- What is recorded of a cost.
-use Rattle.std.proofs.Common.{◌≡◌, ℕ, length, Option, Some, None, ap, subst, sym}
-use Rattle.std.specs.Prelude.{IfSome}
-use Rattle.std.specs.Option.{ForSome}
-use Rattle.road_graph.specs.GraphData.{GraphData}
-use Rattle.path_algebra.specs.Counted.{cost_of, CountsFit}
+use Rattle.question_solvers.proofs.Words.{◌≡◌, ℕ, length, Option, Some, None, ap, subst, sym, IfSome, ForSome, GraphData, cost_of, CountsFit}
 use Rattle.path_algebra.specs.declared.counted_sums.Cost.{Cost}
 use Rattle.elimination_order.specs.Bounds.{IsTooDense}
 use Rattle.elimination_order.specs.declared.counts.Counts.{Counts}

@@ -1,3 +1,4 @@
+mod Words
 pub mod QuestionKinds
 pub mod Searches
 pub mod FactorCosts

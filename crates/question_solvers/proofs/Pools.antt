@@ -3,9 +3,7 @@ use borrow.Rule.Slice.PartMut.{put_mid}
 use Rattle.std.proofs.Common.{arith, ◌≡◌, ℕ, List, ◌++◌, length, take, drop, All}
 use Rattle.std.proofs.lemmas.List.{length-drop}
 use Rattle.std.proofs.lemmas.List.Elements.{All-append, All-drop, All-take}
-use Rattle.road_graph.specs.GraphData.{GraphData}
-use Rattle.question_solvers.specs.Solvers.{IsPoolOf}
-use Rattle.question_solvers.specs.declared.pair_solver.PairSolver.{PairSolver}
+use Rattle.question_solvers.proofs.Words.{GraphData, IsPoolOf, PairSolver}
 
 -- all of a pool are of the graph
 pub pool_over : {S V : Type 0} (algebra : S) (g : GraphData) (pool : List (PairSolver S V)) → IsPoolOf algebra g pool → All (λ s. s.searcher.roads ≡ g) pool

@@ -2,8 +2,7 @@
 use Rattle.std.proofs.Common.{◌≡◌, ◌≢◌, ℕ, ◌<◌, length, get_or, sym, ap, subst, ◌∙◌, refl, Option, Vec, Global}
 use Rattle.std.specs.Prelude.{option_map}
 use Rattle.std.proofs.lemmas.List.{get_or-map}
-use Rattle.road_graph.specs.GraphData.{GraphData}
-use Rattle.path_algebra.specs.Algebra.{Algebra}
+use Rattle.question_solvers.proofs.Words.{GraphData, Algebra}
 use Rattle.route_tree.specs.Found.{IsPairFound, found_of}
 use Rattle.route_tree.specs.declared.found.Found.{Found}
 use Rattle.answer_text.specs.AnswerData.{PairAnswer}

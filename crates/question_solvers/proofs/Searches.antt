@@ -6,12 +6,9 @@ use Rattle.std.proofs.lemmas.Option.{get_or_from_slice_get, slice_get_read, slic
 use Rattle.std.specs.List.{AllZip}
 use Rattle.std.specs.Option.{IsSomeAnd}
 use Rattle.std.specs.Prelude.{Result, Ok, Err, IfOk, IfSome, OnOk, OnErr, MatchResult, Contains}
-use Rattle.road_graph.specs.GraphData.{GraphData}
-use Rattle.road_files.specs.Asked.{Question, Asked}
-use Rattle.path_algebra.specs.Algebra.{Algebra}
+use Rattle.question_solvers.proofs.Words.{GraphData, Question, Asked, Algebra, Searched}
 use Rattle.question_solvers.specs.Solved.{IsNext, IsSearched, IsSearchedAt, IsSolution, IsSolvedFor, next_of}
 use Rattle.question_solvers.specs.declared.solved.Solved.{Solved}
-use Rattle.question_solvers.specs.declared.searched.Searched.{Searched}
 
 -- what was pushed is next
 next_pushed : {V : Type 0} (old : List (Searched V)) (s : Searched V) → next_of (old ++ s ∷ []) ≡ Some s

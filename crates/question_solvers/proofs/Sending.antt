@@ -1,8 +1,7 @@
 -- A pair's searcher may go to another thread, with what it found, if values may.
 use denote.RattleType.{RattleType}
-use denote.Ref.{NamedLft}
+use Rattle.question_solvers.proofs.Words.{NamedLft, crosses}
 use denote.Param.Send.{IsSend, IsSync, sendable}
-use Rattle.std.proofs.Crossing.{crosses}
 use Rattle.path_algebra.specs.declared.algebra.PathAlgebra.{Ghosts}
 use Rattle.question_solvers.specs.contracts.pair_solver.PairSolver as PairSolver
 use Rattle.question_solvers.specs.contracts.task.PairTask as PairTask

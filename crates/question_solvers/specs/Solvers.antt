@@ -5,13 +5,13 @@ use Rattle.std.specs.List.{All}
 use Rattle.road_graph.specs.GraphData.{GraphData}
 use Rattle.elimination_order.specs.Bounds.{AreWithinBounds, IsTooDense}
 use Rattle.elimination_order.specs.declared.counts.Counts.{Counts}
-use Rattle.road_files.specs.Asked.{Asked}
-use Rattle.road_files.specs.declared.questions.Kind.TheVariants.{Pairs}
+use Rattle.road_files.specs.Asked.{asked_of}
 use Rattle.path_algebra.specs.declared.algebra.PathAlgebra.{Ghosts}
 use Rattle.path_algebra.specs.Algebra.{Algebra}
 use Rattle.path_algebra.specs.Carried.{IsCarried}
 use Rattle.path_algebra.specs.Counted.{cost_of, CountsFit}
 pub use Rattle.route_tree.specs.Searchers.{IsSearcherOf}
+use Rattle.question_solvers.specs.Questions.{ArePairs}
 use Rattle.question_solvers.specs.Solved.{IsSearched}
 use Rattle.question_solvers.specs.declared.factor_solver.FactorSolver.{FactorSolver}
 use Rattle.question_solvers.specs.declared.factor_solver.Factoring.{Factoring}
@@ -19,35 +19,37 @@ use Rattle.question_solvers.specs.declared.factor_solver.Factoring.TheVariants.{
 use Rattle.question_solvers.specs.declared.factor_solver.NoFactors.TheVariants.{Dense, Heavy}
 use Rattle.question_solvers.specs.declared.pair_solver.PairSolver.{PairSolver}
 use Rattle.question_solvers.specs.declared.plain_solver.PlainSolver.{PlainSolver}
+use Rattle.question_solvers.specs.declared.task.Task.{Task}
 
 -- each of a pool searches this graph by this algebra
 abbrev pub IsPoolOf : {S V : Type 0} → S → GraphData → List (PairSolver S V) → Type 0
 IsPoolOf algebra g pool = All (λ s. IsSearcherOf algebra g s.searcher) pool
 
--- the plain solver's, for an algebra with this meaning: what it found is right, its pool is the
--- graph's, and for pairs it has the rows of arcs by head
-pub record IsPlainReady {S V : Type 0} {G : Ghosts S V} (meaning : S → Algebra V) (algebra : S) (asked : Asked) (s : PlainSolver S V G) : Type 0 where
-  pub searched : All (IsSearched (meaning algebra) s.graph asked) s.searched.items
-  pub pool : IsPoolOf algebra s.graph s.pool.items
-  pub rows : asked.kind ≡ Pairs → IsSome s.by_head
+module _ {S R V : Type 0} {G : Ghosts S V} (meaning : S → Algebra V) (task : Task S R V G) where
+  -- the plain solver's, for a task: what it found is right, its pool is the graph's, and for pairs it
+  -- has the rows of arcs by head
+  pub record IsPlainReady (s : PlainSolver S V G) : Type 0 where
+    pub searched : All (IsSearched (meaning task.algebra) s.graph (asked_of task.questions.now)) s.searched.items
+    pub pool : IsPoolOf task.algebra s.graph s.pool.items
+    pub rows : ArePairs task.questions.now → IsSome s.by_head
 
--- after a question it is over the same graph, by tail and by head, and ready for the next one
-pub record IsPlainAfter {S V : Type 0} {G : Ghosts S V} (meaning : S → Algebra V) (algebra : S) (asked : Asked) (old new : PlainSolver S V G) : Type 0 where
-  pub graph : new.graph ≡ old.graph
-  pub rows : new.by_head ≡ old.by_head
-  pub ready : IsPlainReady meaning algebra asked new
+  -- after a question it is over the same graph, by tail and by head, and ready for the next one
+  pub record IsPlainAfter (old new : PlainSolver S V G) : Type 0 where
+    pub graph : new.graph ≡ old.graph
+    pub rows : new.by_head ≡ old.by_head
+    pub ready : IsPlainReady new
 
--- the factors' solver: the plain one in it is ready, and factors have the rows of arcs by head and
--- carry the algebra's values
-pub record IsFactorReady {S V : Type 0} {G : Ghosts S V} (meaning : S → Algebra V) (algebra : S) (asked : Asked) (s : FactorSolver S V G) : Type 0 where
-  pub plain : IsPlainReady meaning algebra asked s.plain
-  pub rows : IfSome s.factored (λ f. IsSome s.plain.by_head)
-  pub carried : IfSome s.factored (λ f. IsCarried (meaning algebra) (cost_of f.factors.algebra.cost))
+  -- the factors' solver: the plain one in it is ready, and factors have the rows of arcs by head and
+  -- carry the algebra's values
+  pub record IsFactorReady (s : FactorSolver S V G) : Type 0 where
+    pub plain : IsPlainReady s.plain
+    pub rows : IfSome s.factored (λ f. IsSome s.plain.by_head)
+    pub carried : IfSome s.factored (λ f. IsCarried (meaning task.algebra) (cost_of f.factors.algebra.cost))
 
--- after a question it is over the same graph, and ready for the next one
-pub record IsFactorAfter {S V : Type 0} {G : Ghosts S V} (meaning : S → Algebra V) (algebra : S) (asked : Asked) (old new : FactorSolver S V G) : Type 0 where
-  pub graph : new.plain.graph ≡ old.plain.graph
-  pub ready : IsFactorReady meaning algebra asked new
+  -- after a question it is over the same graph, and ready for the next one
+  pub record IsFactorAfter (old new : FactorSolver S V G) : Type 0 where
+    pub graph : new.plain.graph ≡ old.plain.graph
+    pub ready : IsFactorReady new
 
 -- its factors are for costs that carry the values of this algebra; and if it has none, the graph
 -- was refused for such costs

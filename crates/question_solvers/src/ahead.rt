@@ -51,33 +51,33 @@ pub(crate) fn add_next<A: PathAlgebra, R>(
     add(ahead, next)
 }
 
-/// Adds what a run found, its last one first. After an error some of it is added.
-pub(crate) fn add_run<V: Copy>(
+/// Adds what was found of a chunk, the last one first. After an error some of it is added.
+pub(crate) fn add_chunk<V: Copy>(
     ahead: &mut Vec<Searched<V>>,
-    mut run: Vec<Searched<V>>,
+    mut chunk: Vec<Searched<V>>,
 ) -> Result<(), Memory>
     ensures { (A : Algebra V) (g : GraphData) (asked : Asked) →
-        All (IsSearched A g asked) ahead.old.items → All (IsSearched A g asked) run.items →
+        All (IsSearched A g asked) ahead.old.items → All (IsSearched A g asked) chunk.items →
         All (IsSearched A g asked) ahead.new.items }
 {
-    while let Some(next) = run.pop() {
+    while let Some(next) = chunk.pop() {
         add(ahead, next)?;
     }
     Ok(())
 }
 
-/// Adds what several runs found, the last one first.
-pub(crate) fn add_runs<V: Copy>(
+/// Adds what was found of several chunks, the last one first.
+pub(crate) fn add_chunks<V: Copy>(
     ahead: &mut Vec<Searched<V>>,
-    mut runs: Vec<Vec<Searched<V>>>,
+    mut chunks: Vec<Vec<Searched<V>>>,
 ) -> Result<(), Memory>
     ensures { (A : Algebra V) (g : GraphData) (asked : Asked) →
         All (IsSearched A g asked) ahead.old.items →
-        All (λ run. All (IsSearched A g asked) run.items) runs.items →
+        All (λ chunk. All (IsSearched A g asked) chunk.items) chunks.items →
         All (IsSearched A g asked) ahead.new.items }
 {
-    while let Some(run) = runs.pop() {
-        add_run(ahead, run)?;
+    while let Some(chunk) = chunks.pop() {
+        add_chunk(ahead, chunk)?;
     }
     Ok(())
 }

@@ -2,7 +2,7 @@
 ghost use Rattle.std.specs.Prelude.{◌≡◌, All, IfOk};
 ghost use Rattle.question_solvers.specs.Tasks.{AreFoundIn, ArePairsIn, IsCarriedIn, IsFoundIn, IsPlaceIn, SolvesNextIn};
 
-use crate::ahead::{add_next, add_runs, advance};
+use crate::ahead::{add_chunks, add_next, advance};
 use crate::pair_search::{answer_of_pair, pair_at};
 use crate::searched::{Searched, add};
 use crate::task::FactoredTask;
@@ -39,7 +39,7 @@ fn ask_at<A: PathAlgebra, R>(
 }
 
 /// What the pairs from a place on are solved to, as many as `each`, by an asker of their own.
-fn ask_run<A: PathAlgebra, R>(
+fn ask_chunk<A: PathAlgebra, R>(
     factored: &FactoredTask<'_, A, R>,
     start: usize,
     each: usize,
@@ -59,9 +59,9 @@ fn ask_run<A: PathAlgebra, R>(
     Ok(found)
 }
 
-/// Asks for the pairs from a place on, in `count` runs of `each` pairs, with an asker for each run:
+/// Asks for the pairs from a place on, in `count` chunks of `each` pairs, with an asker for each:
 /// side by side, on all processors.
-fn ask_runs<A: PathAlgebra, R: Threads + Sync>(
+fn ask_chunks<A: PathAlgebra, R: Threads + Sync>(
     factored: &FactoredTask<'_, A, R>,
     first: usize,
     each: usize,
@@ -69,11 +69,11 @@ fn ask_runs<A: PathAlgebra, R: Threads + Sync>(
 ) -> Result<Vec<Vec<Searched<A::Value>>>, Memory>
     requires pairs { ArePairsIn factored.now.over.now }
     requires carried { IsCarriedIn A.meaning factored.now }
-    ensures { IfOk result (λ v. All (λ run. AreFoundIn A.meaning factored.now.over.now run.items)
-        v.items) }
+    ensures { IfOk result (λ v. All (λ chunk. AreFoundIn A.meaning factored.now.over.now
+        chunk.items) v.items) }
 {
     let task = factored.over.task;
-    let runs: Result<Vec<Vec<Searched<A::Value>>>, Memory> = (0..count)
+    let chunks: Result<Vec<Vec<Searched<A::Value>>>, Memory> = (0..count)
         .into_par_iter()
         .with_min_len(1)
         .map(
@@ -81,14 +81,14 @@ fn ask_runs<A: PathAlgebra, R: Threads + Sync>(
                 requires { ArePairsIn factored.now.over.now × IsCarriedIn A.meaning factored.now }
                 ensures { IfOk result (λ v. AreFoundIn A.meaning factored.entry.now.over.now
                     v.items) }
-            { ask_run(factored, first.saturating_add(k.saturating_mul(each)), each) },
+            { ask_chunk(factored, first.saturating_add(k.saturating_mul(each)), each) },
         )
         .collect(task.rt, task.alloc)?;
-    runs
+    chunks
 }
 
-/// Asks for the pair at a place and for those that follow it, in as many runs as the width, if that
-/// is more than one and the pairs are enough to be shared. What is found is added ahead.
+/// Asks for the pair at a place and for those that follow it, in as many chunks as the width, if
+/// that is more than one and the pairs are enough to be shared. What is found is added ahead.
 fn ask_ahead<A: PathAlgebra, R: Threads + Sync>(
     factored: &FactoredTask<'_, A, R>,
     i: usize,
@@ -107,8 +107,8 @@ fn ask_ahead<A: PathAlgebra, R: Threads + Sync>(
         return Ok(());
     }
     let count = rest.div_ceil(each).min(task.width);
-    let runs = ask_runs(factored, i, each, count)?;
-    add_runs(ahead, runs)
+    let chunks = ask_chunks(factored, i, each, count)?;
+    add_chunks(ahead, chunks)
 }
 
 /// Solves the pair at a place by asking: ahead if that can be and memory suffices, else by the

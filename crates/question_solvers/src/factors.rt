@@ -23,7 +23,7 @@ use crate::task::{FactoredTask, PairTask, Task, TaskOver};
 use elimination_order::Counts;
 use factor_routes::RouteAsker;
 use path_algebra::PathAlgebra;
-use road_files::{Kind, Questions};
+use road_files::Kind;
 use road_graph::Memory;
 use std::alloc::Global;
 use std::thread::Threads;
@@ -79,24 +79,22 @@ fn solve_by_factors<A: PathAlgebra, R: Threads + Sync>(
     ask_pair(factored, asker, i, ahead)
 }
 
-/// Seeks an order by which to factor the graph for what arcs cost under an algebra, unless there is
-/// one, or the graph was refused: what the order makes, if one is found. The more pairs are asked
-/// for, the more time it may take. The only error is want of memory.
-pub fn seek_order<A: PathAlgebra>(
-    alloc: Global,
-    algebra: A,
-    questions: &Questions,
+/// Seeks an order by which to factor the graph for what arcs cost, unless there is one, or the
+/// graph was refused: what the order makes, if one is found. The more pairs are asked for, the more
+/// time it may take. The only error is want of memory.
+pub fn seek_order<A: PathAlgebra, R>(
+    task: &Task<'_, A, R>,
     solver: &mut FactorSolver<A>,
 ) -> Result<Option<Counts>, Memory>
     ensures graph { solver.new.plain.graph ≡ solver.old.plain.graph }
     ensures found { IfOk result (IsSoughtBy solver.old) }
 {
-    let Some(cost) = algebra.cost() else {
+    let Some(cost) = task.algebra.cost() else {
         return Ok(None);
     };
-    make_rows(alloc, &mut solver.plain)?;
-    let care = care_for(solver.plain.graph.vertices(), questions);
-    solver.seek_order(alloc, cost, care)
+    make_rows(task.alloc, &mut solver.plain)?;
+    let care = care_for(solver.plain.graph.vertices(), task.questions);
+    solver.seek_order(task.alloc, cost, care)
 }
 
 /// Factors the graph for what arcs cost under an algebra, unless it is so already, or was refused.
@@ -133,8 +131,7 @@ pub fn start_factors<A: PathAlgebra, R>(
     solver: &mut FactorSolver<A>,
 ) -> Result<(), Memory>
     ensures graph { solver.new.plain.graph ≡ solver.old.plain.graph }
-    ensures ready { OnOk result (IsFactorReady A.meaning task.now.algebra
-        (asked_of task.now.questions.now) solver.new) }
+    ensures ready { OnOk result (IsFactorReady A.meaning task.now solver.new) }
     ensures factored { OnOk result (IsFactoredFor (A.meaning task.now.algebra) solver.new) }
     ensures order { IsSome solver.old.order → solver.new.order ≡ solver.old.order }
     ensures tried { OnOk result (IsSome (A.arc_cost task.now.algebra) → IsTried solver.new) }
@@ -152,10 +149,8 @@ fn solve_factored<A: PathAlgebra, R: Threads + Sync>(
 ) -> Result<(), Memory>
     requires place { HasPlace task.now.questions.now i }
     requires within { AreQuestionsOf solver.old.plain.graph.vertices task.now.questions.now }
-    requires ready { IsFactorReady A.meaning task.now.algebra (asked_of task.now.questions.now)
-        solver.old }
-    ensures after { IsFactorAfter A.meaning task.now.algebra (asked_of task.now.questions.now)
-        solver.old solver.new }
+    requires ready { IsFactorReady A.meaning task.now solver.old }
+    ensures after { IsFactorAfter A.meaning task.now solver.old solver.new }
     ensures next { OnOk result (IsNext (A.meaning task.now.algebra) solver.old.plain.graph
         (asked_of task.now.questions.now) i solver.new.plain.searched.items) }
 {
@@ -188,10 +183,9 @@ pub fn solve_next_by_factors<'s, A: PathAlgebra, R: Threads + Sync>(
 ) -> Result<&'s Solved<A::Value>, Memory>
     requires place { HasPlace task.now.questions.now i }
     requires within { AreQuestionsOf solver.old.plain.graph.vertices task.now.questions.now }
-    requires ready { IsFactorReady A.meaning task.now.algebra (asked_of task.now.questions.now)
-        solver.old }
-    ensures* after { sem 𝓛 (EndsFactors A.row A.Value.row A.PathAlgebra A.meaning
-        task.now.algebra (asked_of task.now.questions.now) solver.entry) }
+    requires ready { IsFactorReady A.meaning task.now solver.old }
+    ensures* after { sem 𝓛 (EndsFactors A.row A.Value.row A.PathAlgebra A.meaning task.now
+        solver.entry) }
     ensures solved { IfOk result (λ s. IsSolvedFor (A.meaning task.now.algebra)
         solver.old.plain.graph (asked_of task.now.questions.now) i s.now) }
 {

@@ -90,8 +90,7 @@ pub fn start_plain<A: PathAlgebra, R>(
 ) -> Result<(), Memory>
     ensures graph { solver.new.graph ≡ solver.old.graph }
     ensures rows { OnOk result (IsSome solver.old.by_head → IsSome solver.new.by_head) }
-    ensures ready { OnOk result (IsPlainReady A.meaning task.now.algebra
-        (asked_of task.now.questions.now) solver.new) }
+    ensures ready { OnOk result (IsPlainReady A.meaning task.now solver.new) }
 {
     solver.searched.clear();
     set_algebra(&mut solver.pool, task.algebra);
@@ -110,10 +109,8 @@ pub(crate) fn solve_plainly<A: PathAlgebra, R: Threads + Sync>(
 ) -> Result<(), Memory>
     requires place { HasPlace task.now.questions.now i }
     requires within { AreQuestionsOf solver.old.graph.vertices task.now.questions.now }
-    requires ready { IsPlainReady A.meaning task.now.algebra (asked_of task.now.questions.now)
-        solver.old }
-    ensures after { IsPlainAfter A.meaning task.now.algebra (asked_of task.now.questions.now)
-        solver.old solver.new }
+    requires ready { IsPlainReady A.meaning task.now solver.old }
+    ensures after { IsPlainAfter A.meaning task.now solver.old solver.new }
     ensures next { OnOk result (IsNext (A.meaning task.now.algebra) solver.old.graph
         (asked_of task.now.questions.now) i solver.new.searched.items) }
 {
@@ -139,10 +136,9 @@ pub fn solve_next_plainly<'s, A: PathAlgebra, R: Threads + Sync>(
 ) -> Result<&'s Solved<A::Value>, Memory>
     requires place { HasPlace task.now.questions.now i }
     requires within { AreQuestionsOf solver.old.graph.vertices task.now.questions.now }
-    requires ready { IsPlainReady A.meaning task.now.algebra (asked_of task.now.questions.now)
-        solver.old }
-    ensures* after { sem 𝓛 (EndsPlain A.row A.Value.row A.PathAlgebra A.meaning task.now.algebra
-        (asked_of task.now.questions.now) solver.entry) }
+    requires ready { IsPlainReady A.meaning task.now solver.old }
+    ensures* after { sem 𝓛 (EndsPlain A.row A.Value.row A.PathAlgebra A.meaning task.now
+        solver.entry) }
     ensures solved { IfOk result (λ s. IsSolvedFor (A.meaning task.now.algebra) solver.old.graph
         (asked_of task.now.questions.now) i s.now) }
 {

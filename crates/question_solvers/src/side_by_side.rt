@@ -5,7 +5,7 @@ ghost use Rattle.road_files.specs.Asked.{Question, asked_of, sources_of};
 ghost use Rattle.question_solvers.specs.Questions.{HasPlace};
 ghost use Rattle.question_solvers.specs.Tasks.{AreFoundIn, ArePairsIn, IsFoundIn, IsPlaceIn};
 
-use crate::ahead::add_run;
+use crate::ahead::add_chunk;
 use crate::searched::Searched;
 use crate::solved::Solved;
 use crate::task::{Task, TaskOver};
@@ -109,5 +109,5 @@ pub(crate) fn search_ahead<A: PathAlgebra, R: Threads + Sync>(
     }
     let places = places_from(over.task, i)?;
     let group = search_each(over, places.as_slice())?;
-    add_run(ahead, group)
+    add_chunk(ahead, group)
 }

@@ -1,24 +1,12 @@
 -- A graph and then questions that are written are read again as a bundle.
-use Rattle.std.proofs.Common.{◌≡◌, ◌≢◌, ℕ, ◌+◌, ◌*◌, ◌≤◌, List, [], ◌∷◌, ◌++◌, length, map, false, Option, Some, None, Ok, refl, sym, ap, ◌∙◌, arith, length-append}
-use Rattle.std.specs.List.{AllByRecursion}
-use Rattle.std.proofs.lemmas.Bool.{le-ltb}
+use Rattle.road_files.proofs.Words.{◌≡◌, ◌≢◌, ℕ, ◌+◌, ◌*◌, ◌≤◌, List, [], ◌∷◌, ◌++◌, length, map, false, Option, Some, None, Ok, refl, sym, ap, ◌∙◌, arith, length-append, AllByRecursion, le-ltb, ◌>>=◌, text_value, text_read, text_of, spelled, AreLines, word_of, Kind, Multi, Questions, Asked, asked_of, AreQuestionsOf, AskedSoFar, question_rules, InGraph, InQuestions, begins_questions, bundle_rules, bundle_end, problem_words, question_words, question_lines, questions_text}
 use Rattle.std.proofs.lemmas.Grind.{flat_map-append}
 use Rattle.road_graph.specs.declared.RoadArc.{RoadArc}
 use Rattle.road_graph.specs.GraphData.{GraphData, IsGraph}
-use Rattle.text_lines.specs.Rules.{◌>>=◌, text_value, text_read}
-use Rattle.text_lines.specs.Texts.{text_of, spelled, AreLines}
-use Rattle.text_lines.specs.Words.{word_of}
 use Rattle.graph_text.specs.GraphFiles.{RoadsSoFar, gr_line, gr_rules}
 use Rattle.graph_text.specs.WrittenGraphs.{arc_words, graph_lines, gr_text}
 use Rattle.text_lines.proofs.RoundTrip.{after, after_append, first_step, value_again, read_again}
 use Rattle.graph_text.proofs.WrittenGraphs.{graph_after, graph_are_lines, graph_length}
-use Rattle.road_files.specs.declared.questions.Kind.{Kind}
-use Rattle.road_files.specs.declared.questions.Kind.TheVariants.{Multi}
-use Rattle.road_files.specs.declared.questions.Questions.{Questions}
-use Rattle.road_files.specs.Asked.{Asked, asked_of, AreQuestionsOf}
-use Rattle.road_files.specs.QuestionFiles.{AskedSoFar, question_rules}
-use Rattle.road_files.specs.BundleFiles.{InGraph, InQuestions, begins_questions, bundle_rules, bundle_end}
-use Rattle.road_files.specs.WrittenQuestions.{problem_words, question_words, question_lines, questions_text}
 use Rattle.road_files.proofs.QuestionLaws.{questions_of, problem_step, questions_after, questions_are_lines, problem_is_line, short_text}
 
 -- the lines do not end the graph part

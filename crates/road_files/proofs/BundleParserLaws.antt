@@ -1,27 +1,12 @@
 -- A bundle's line, as its parser takes it.
-use Rattle.std.proofs.Common.{◌≡◌, ℕ, ◌<◌, List, [], ◌∷◌, map, Bool, false, Option, None, Ok, Err, refl, sym, ap, ◌∙◌, lit<, codes, subst}
+use Rattle.road_files.proofs.Words.{◌≡◌, ℕ, ◌<◌, List, [], ◌∷◌, map, Bool, false, Option, None, Ok, Err, refl, sym, ap, ◌∙◌, lit<, codes, subst, GraphData, ReadFault, Slot, fields, ◌>>=◌, value_of_lines, word_in, ShowsLine, Word, word_of, word_at, Keeps, keeps, short_word, RoadsSoFar, gr_line, Questions, AreQuestionsOf, question_line, question_line_of, sources_given, questions_begun, InGraph, InQuestions, begins_questions, bundle_line, bundle_with, bundle_rules}
 use Rattle.std.specs.Option.{IfSome}
-use Rattle.road_graph.specs.GraphData.{GraphData}
-use Rattle.text_lines.specs.declared.faults.ReadFault.{ReadFault}
-use Rattle.text_lines.specs.declared.slots.Slot.{Slot}
-use Rattle.text_lines.specs.Lines.{fields}
-use Rattle.text_lines.specs.Rules.{◌>>=◌, value_of_lines}
 use Rattle.text_lines.specs.ShortLines.{HasShortFields}
-use Rattle.text_lines.specs.Slots.{word_in}
-use Rattle.text_lines.specs.Takes.{ShowsLine}
-use Rattle.text_lines.specs.Words.{Word, word_of, word_at}
-use Rattle.text_lines.proofs.WordLaws.{Keeps, keeps, short_word}
 use Rattle.graph_text.specs.declared.graph_parser.GraphParser.{GraphParser}
-use Rattle.graph_text.specs.GraphFiles.{RoadsSoFar, gr_line}
 use Rattle.graph_text.specs.GraphTakes.{roads_so_far, taken_of}
 use Rattle.graph_text.proofs.RuleLaws.{few, line_held}
-use Rattle.road_files.specs.declared.questions.Questions.{Questions}
 use Rattle.road_files.specs.declared.bundle_part.BundlePart.{BundlePart}
 use Rattle.road_files.specs.declared.bundle_part.BundlePart.TheVariants as parts
-use Rattle.road_files.specs.Asked.{AreQuestionsOf}
-use Rattle.road_files.specs.QuestionFiles.{question_line, question_line_of}
-use Rattle.road_files.specs.QuestionTakes.{sources_given, questions_begun}
-use Rattle.road_files.specs.BundleFiles.{InGraph, InQuestions, begins_questions, bundle_line, bundle_with, bundle_rules}
 use Rattle.road_files.specs.BundleTakes.{bundle_so_far, kept_line, PartSoFar, GivesBundle}
 use Rattle.road_files.proofs.HeldQuestionLines.{problem_held}
 use Rattle.road_files.proofs.QuestionParserLaws.{list_rule}

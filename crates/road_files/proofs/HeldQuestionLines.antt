@@ -1,13 +1,9 @@
 -- What is kept of a line is enough for the rules of a question file.
 use Rattle.std.proofs.Common.{◌≡◌, ℕ, ◌<◌, ◌≤◌, min, List, [], ◌∷◌, length, take, drop, map, cond, eqb, Option, Result, Ok, Err, Bool, true, false, get_or, refl, sym, ap, ◌∙◌, arith, lit<, codes, inl, inr}
 use Rattle.std.proofs.lemmas.Bool.{cases_lt, lt-ltb, le-ltb}
-use Rattle.std.proofs.lemmas.List.{length-map}
+use Rattle.road_files.proofs.Words.{length-map, Word, word_of, word_at, held_word, vertex_held, Kind, Sources, Pairs, Multi}
 use Rattle.std.specs.Str.{bytes_eq}
-use Rattle.text_lines.specs.Words.{Word, word_of, word_at, held_word}
 use Rattle.text_lines.proofs.WordLaws.{Keeps, keeps, short_word, first_byte, number_held}
-use Rattle.graph_text.proofs.RuleLaws.{vertex_held}
-use Rattle.road_files.specs.declared.questions.Kind.{Kind}
-use Rattle.road_files.specs.declared.questions.Kind.TheVariants.{Sources, Pairs, Multi}
 use Rattle.road_files.specs.QuestionFiles.{AskedSoFar, kind_named, question_problem, vertices_in, source_of_line, pair_of_line, sources_of_line, one_question, begins_list, question_line_of, question_line}
 
 pub kind_held : (w : List ℕ) → kind_named (take 9 w) ≡ kind_named w

@@ -1,3 +1,4 @@
+mod Words
 mod ListFields
 pub mod HeldQuestionLines
 mod QuestionParserLaws

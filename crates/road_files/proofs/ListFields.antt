@@ -1,14 +1,7 @@
 -- The fields of a list, one after the other.
-use Rattle.std.proofs.Common.{◌≡◌, ℕ, ◌+◌, ◌<◌, ◌≤◌, List, [], ◌∷◌, ◌++◌, length, drop, map, Ok, Err, Result, true, refl, sym, ap, ◌∙◌, arith, length-append}
+use Rattle.road_files.proofs.Words.{◌≡◌, ℕ, ◌+◌, ◌<◌, ◌≤◌, List, [], ◌∷◌, ◌++◌, length, drop, map, Ok, Err, Result, true, refl, sym, ap, ◌∙◌, arith, length-append, ◌>>=◌, Word, word_of, held_word, vertex_in, vertex_held, PresentList, vertices_in, one_vertex_more, begins_list, ListSoFar, sources_given}
 use Rattle.std.specs.Result.{OnOk}
-use Rattle.text_lines.specs.Rules.{◌>>=◌}
-use Rattle.text_lines.specs.Words.{Word, word_of, held_word}
 use Rattle.text_lines.proofs.ListLaws.{words_push, after_first}
-use Rattle.graph_text.specs.Numbers.{vertex_in}
-use Rattle.graph_text.proofs.RuleLaws.{vertex_held}
-use Rattle.road_files.specs.declared.present_list.PresentList.{PresentList}
-use Rattle.road_files.specs.QuestionFiles.{vertices_in, one_vertex_more, begins_list}
-use Rattle.road_files.specs.QuestionTakes.{ListSoFar, sources_given}
 
 vertices_push : (n : ℕ) (ws : List Word) (w : Word) → vertices_in n (ws ++ w ∷ []) ≡ one_vertex_more n (vertices_in n ws) w.number
 vertices_push n = words_push (λ w. vertex_in n w.number) (vertices_in n) refl (λ w ws. refl)

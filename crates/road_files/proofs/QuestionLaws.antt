@@ -5,18 +5,12 @@ use Rattle.std.proofs.lemmas.List.Elements.{All-nil, All-cons, recursion_from_Al
 use Rattle.std.proofs.lemmas.List.{get_or-map, length-map}
 use Rattle.std.proofs.lemmas.Bool.{ne_eqb, lt-ltb, le-ltb}
 use Rattle.std.proofs.lemmas.Fmt.{length-decimal-le}
-use Rattle.text_lines.specs.Rules.{◌>>=◌, text_value, text_read}
+use Rattle.road_files.proofs.Words.{◌>>=◌, text_value, text_read, word_of, vertex_in, Questions, Kind, Sources, Pairs, Multi, may_be, question_problem, vertices_in, source_of_line, pair_of_line, sources_of_line, question_line_of, question_rules, question_end}
 use Rattle.text_lines.specs.Texts.{text_of, spelled, AreLines, IsWord, list_words}
-use Rattle.text_lines.specs.Words.{word_of}
 use Rattle.text_lines.proofs.RoundTrip.{decimal_is_number, word_of_number, word_by_test, after, value_again, read_again}
 use Rattle.graph_text.specs.Vertices.{IsVertexOf}
-use Rattle.graph_text.specs.Numbers.{vertex_in}
 use Rattle.road_files.specs.Asked.{AskWithin, Question, asked_of, of_source, of_pair, of_list, sources_of, FromSource, BetweenPair, FromSources, AreQuestionsOf}
-use Rattle.road_files.specs.declared.questions.Questions.{Questions}
-use Rattle.road_files.specs.declared.questions.Kind.{Kind}
-use Rattle.road_files.specs.declared.questions.Kind.TheVariants.{Sources, Pairs, Multi}
 use Rattle.road_files.specs.Vertices.{IsVertexPairOf, AreSourcesOf}
-use Rattle.road_files.specs.QuestionFiles.{may_be, question_problem, vertices_in, source_of_line, pair_of_line, sources_of_line, question_line_of, question_rules, question_end}
 use Rattle.road_files.specs.WrittenQuestions.{kind_word, problem_words, question_words, question_lines, questions_text}
 use Rattle.road_files.specs.declared.questions.Questions.TheVariants as variants
 

@@ -1,21 +1,9 @@
 -- A question's line, as its parser takes it.
-use Rattle.std.proofs.Common.{◌≡◌, ℕ, ◌+◌, List, ◌∷◌, map, Bool, Option, None, Result, Ok, Err, ◌∙◌, arith, subst}
+use Rattle.road_files.proofs.Words.{◌≡◌, ℕ, ◌+◌, List, ◌∷◌, map, Bool, Option, None, Result, Ok, Err, ◌∙◌, arith, subst, ReadFault, Slot, fields, word_in, word_of, gives_taken, gives_broken, Kind, Questions, PresentList, QuestionParser, asked_of, AskedSoFar, question_line, question_line_of, question_rules}
 use Rattle.std.specs.Result.{IfOk}
-use Rattle.text_lines.specs.declared.faults.ReadFault.{ReadFault}
 use Rattle.text_lines.specs.declared.faults.Rule.{Rule}
-use Rattle.text_lines.specs.declared.slots.Slot.{Slot}
-use Rattle.text_lines.specs.Lines.{fields}
 use Rattle.text_lines.specs.Rules.{value_of_lines, fault_at}
-use Rattle.text_lines.specs.Slots.{word_in}
 use Rattle.text_lines.specs.Takes.{ShowsLine, GivesBy}
-use Rattle.text_lines.specs.Words.{word_of}
-use Rattle.text_lines.proofs.ParserLaws.{gives_taken, gives_broken}
-use Rattle.road_files.specs.declared.questions.Kind.{Kind}
-use Rattle.road_files.specs.declared.questions.Questions.{Questions}
-use Rattle.road_files.specs.declared.present_list.PresentList.{PresentList}
-use Rattle.road_files.specs.declared.question_parser.QuestionParser.{QuestionParser}
-use Rattle.road_files.specs.Asked.{asked_of}
-use Rattle.road_files.specs.QuestionFiles.{AskedSoFar, question_line, question_line_of, question_rules}
 use Rattle.road_files.specs.QuestionTakes.{ListSoFar, sources_given, questions_begun, FitsFile, GivesQuestions}
 use Rattle.road_files.proofs.HeldQuestionLines.{question_line_kept}
 

@@ -1,12 +1,5 @@
 -- A service's line, as its parser takes it.
-use Rattle.std.proofs.Common.{◌≡◌, ℕ, List, [], ◌∷◌, map, Option, None, Ok, Err, sym, ap, ◌∙◌, inl}
-use Rattle.text_lines.specs.declared.slots.Slot.{Slot}
-use Rattle.text_lines.specs.Lines.{fields}
-use Rattle.text_lines.specs.Slots.{word_in}
-use Rattle.text_lines.specs.Takes.{ShowsLine}
-use Rattle.road_files.specs.declared.question_parser.QuestionParser.{QuestionParser}
-use Rattle.road_files.specs.QuestionFiles.{AskedSoFar, question_line_of, question_rules, question_end}
-use Rattle.road_files.specs.QuestionTakes.{ListSoFar, sources_given, questions_begun}
+use Rattle.road_files.proofs.Words.{◌≡◌, ℕ, List, [], ◌∷◌, map, Option, None, Ok, Err, sym, ap, ◌∙◌, inl, Slot, fields, word_in, ShowsLine, QuestionParser, AskedSoFar, question_line_of, question_rules, question_end, ListSoFar, sources_given, questions_begun}
 use Rattle.road_files.specs.ServiceText.{Passes, Step, given, whole_or_on, GiveMay}
 use Rattle.road_files.proofs.QuestionParserLaws.{list_rule}
 

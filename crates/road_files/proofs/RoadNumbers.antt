@@ -1,10 +1,6 @@
 -- Questions and bundles have faults of the numbers 10 to 19 alone, as graphs do.
-use Rattle.std.proofs.Common.{ℕ, List, ◌∷◌, [], length, drop, map, Bool, Option, Some, None, Result, arith}
-use Rattle.text_lines.specs.Words.{Word, word_of}
-use Rattle.graph_text.specs.Numbers.{vertex_in}
+use Rattle.road_files.proofs.Words.{ℕ, List, ◌∷◌, [], length, drop, map, Bool, Option, Some, None, Result, arith, Word, word_of, vertex_in, Kind, Question}
 use Rattle.graph_text.proofs.RuleLaws.{IsRoad, fine, wrong, step, test, either, number, vertex, graph_line, whole}
-use Rattle.road_files.specs.declared.questions.Kind.{Kind}
-use Rattle.road_files.specs.Asked.{Question}
 use Rattle.road_files.specs.QuestionFiles.{AskedSoFar, may_be, accepted, question_problem, asked_before, begins_list, vertices_in, source_of_line, pair_of_line, sources_of_line, one_question, question_line, question_line_of, question_end, question_rules}
 use Rattle.road_files.specs.BundleFiles.{BundleSoFar, InGraph, InQuestions, bundle_line, bundle_end}
 

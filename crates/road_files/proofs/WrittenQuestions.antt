@@ -1,11 +1,8 @@
 -- A problem line and then the lines of questions, as they are written.
-use Rattle.std.proofs.Common.{◌≡◌, ℕ, List, [], length, map, Result, subst}
-use Rattle.text_lines.specs.Texts.{text_of, spelled}
+use Rattle.road_files.proofs.Words.{◌≡◌, ℕ, List, [], length, map, Result, subst, text_of, spelled, Asked, problem_words, question_words, questions_text}
 use Rattle.text_lines.specs.Streams.{Output}
 use Rattle.text_lines.specs.Written.{WrotePrefix, FailedAfterPrefix, WritesText}
 use Rattle.text_lines.proofs.WriteLaws.{wrote_then, fell_first}
-use Rattle.road_files.specs.Asked.{Asked}
-use Rattle.road_files.specs.WrittenQuestions.{problem_words, question_words, questions_text}
 
 module _ {X : Type 0} (old mid new : Output X) (line : List ℕ) where
   -- a problem line, and then the lines of questions

@@ -1,12 +1,6 @@
 -- The entries of the index.
-use Rattle.std.proofs.Common.{◌≡◌, ℕ, ◌+◌, ◌-◌, ◌<◌, ◌≤◌, inl, inr, List, length, map, get_or, set, ap, sym, ◌∙◌, subst, arith, get_or-set_same, get_or-set_other}
-use Rattle.std.proofs.lemmas.Bool.{cases_eq}
-use Rattle.std.proofs.lemmas.List.{get_or-map, get_or_default, length-map}
-use Rattle.road_graph.specs.declared.OutRoad.{OutRoad}
+use Rattle.road_graph.proofs.Words.{◌≡◌, ℕ, ◌+◌, ◌-◌, ◌<◌, ◌≤◌, inl, inr, List, length, map, get_or, set, ap, sym, ◌∙◌, subst, arith, get_or-set_same, get_or-set_other, cases_eq, get_or-map, get_or_default, length-map, OutRoad, Tail, GraphData, IsGraph, HasArc, IsRank, ListsRoadsFrom, arc_of, road_of, roads_of, AreRows, IsEntry, IsIndex, end_of}
 use Rattle.road_graph.specs.declared.index.IndexEntry.{IndexEntry}
-use Rattle.road_graph.specs.declared.Side.TheVariants.{Tail}
-use Rattle.road_graph.specs.GraphData.{GraphData, IsGraph, HasArc, IsRank, ListsRoadsFrom, arc_of, road_of, roads_of}
-use Rattle.road_graph.specs.Making.{AreRows, IsEntry, IsIndex, end_of}
 use Rattle.road_graph.proofs.Places.{number_is_arc, stands, rank_is}
 use Rattle.road_graph.proofs.Lists.{same_rising}
 

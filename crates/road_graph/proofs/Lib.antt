@@ -1,3 +1,4 @@
+mod Words
 pub mod Numbers
 mod Counting
 mod Placing

@@ -1,14 +1,11 @@
 -- The elements of lists and options, and numbers that rise.
 use Rattle.std.proofs.Common.{◌≡◌, Option, Some, sym, ◌∙◌, ℕ, zero, suc, ◌<◌, ◌⊎◌, inl, inr, List, [], ◌∷◌, length, get_or, refl, arith, ◌≤◌, Result, Ok, Err, ap, subst}
 use Rattle.std.proofs.lemmas.Option.{same_Some}
-use Rattle.std.proofs.lemmas.List.{get_or_default}
-use Rattle.std.specs.Prelude.{Contains}
+use Rattle.road_graph.proofs.Words.{get_or_default, Contains, cases_lt, IsAscendingFrom}
 use Rattle.std.proofs.Math.Nat.{eq-or-lt_of_le}
-use Rattle.std.proofs.lemmas.Bool.{cases_lt}
 use Rattle.std.proofs.lemmas.List.Sorted.{searched}
 use Rattle.std.specs.List.Sorted.{IsBinarySearchResult}
 use Rattle.std.specs.Ordering.{nat_cmp}
-use Rattle.road_graph.specs.GraphData.{IsAscendingFrom}
 
 -- an option holds one value at most
 pub same_some : {X : Type 0} (o : Option X) (x y : X) → o ≡ Some x → o ≡ Some y → x ≡ y

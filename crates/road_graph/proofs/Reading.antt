@@ -1,11 +1,6 @@
 -- What is read of a row.
-use Rattle.std.proofs.Common.{◌≡◌, ℕ, ◌+◌, ◌-◌, List, take, drop, get_or, refl, arith}
+use Rattle.road_graph.proofs.Words.{◌≡◌, ℕ, ◌+◌, ◌-◌, List, take, drop, get_or, refl, arith, OutRoad, Side, Tail, Head, GraphData, HasVertex, ListsArcsFrom, ListsArcsInto, ListsRoadsFrom, roads_of, road_of, arc_of, numbers_at, AreRows}
 use Rattle.std.specs.List.{drop-map, take-map}
-use Rattle.road_graph.specs.declared.OutRoad.{OutRoad}
-use Rattle.road_graph.specs.declared.Side.{Side}
-use Rattle.road_graph.specs.declared.Side.TheVariants.{Tail, Head}
-use Rattle.road_graph.specs.GraphData.{GraphData, HasVertex, ListsArcsFrom, ListsArcsInto, ListsRoadsFrom, roads_of, road_of, arc_of}
-use Rattle.road_graph.specs.Making.{numbers_at, AreRows}
 use Rattle.road_graph.proofs.Numbers.{lists_from, lists_into}
 
 module _ (g : GraphData) (v : ℕ) (in_v : HasVertex g v) (starts numbers : List ℕ) (start past : ℕ) (from : start ≡ get_or starts (v - 1) 0) (to : past ≡ get_or starts v 0) where

@@ -1,14 +1,7 @@
 -- Lists that are made blank again at the vertices that were found.
-use Rattle.std.proofs.Common.{◌≡◌, ℕ, ◌+◌, ◌-◌, ◌<◌, ◌≤◌, ◌⊎◌, inl, inr, Bool, true, false, cond, List, [], ◌∷◌, ◌++◌, length, get_or, set, drop, replicate, refl, ap, sym, ◌∙◌, subst, arith, Option, Some, None, get_or-set_same, get_or-set_other, length-set}
-use Rattle.std.proofs.lemmas.Bool.{cases_eq}
+use Rattle.route_tree.proofs.Words.{◌≡◌, ℕ, ◌+◌, ◌-◌, ◌<◌, ◌≤◌, ◌⊎◌, inl, inr, Bool, true, false, cond, List, [], ◌∷◌, ◌++◌, length, get_or, set, drop, replicate, refl, ap, sym, ◌∙◌, subst, arith, Option, Some, None, get_or-set_same, get_or-set_other, length-set, cases_eq, Contains, GraphData, IsGraph, HasVertex, arc_of, not_in_empty, head_or_tail, here, later, label_of, is_marked, AreFound, IsBlankBut, AreLeast, AreLeastTails}
 use Rattle.std.proofs.lemmas.List.{get_or-replicate, length-replicate, ext_get_or, drop_more, drop_all}
 use Rattle.std.proofs.lemmas.List.Elements.{Contains-append_left, Contains-push, Contains-push_cases}
-use Rattle.std.specs.Prelude.{Contains}
-use Rattle.road_graph.specs.GraphData.{GraphData, IsGraph, HasVertex, arc_of}
-use Rattle.road_graph.proofs.Lists.{not_in_empty, head_or_tail, here, later}
-use Rattle.path_algebra.specs.Walks.{label_of, is_marked}
-use Rattle.route_tree.specs.Blank.{AreFound, IsBlankBut}
-use Rattle.route_tree.specs.Levels.{AreLeast, AreLeastTails}
 use Rattle.route_tree.proofs.Trees.{no_arc, tail_at}
 
 module _ {X : Type 0} (blank : X) where

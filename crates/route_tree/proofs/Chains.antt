@@ -1,8 +1,6 @@
 -- Chains of parents.
-use Rattle.std.proofs.Common.{◌≡◌, ℕ, ◌+◌, ◌≤◌, List, [], ◌∷◌, ◌++◌, length, refl, ap, ◌∙◌, subst, Option, Some, None, reverse}
+use Rattle.route_tree.proofs.Words.{◌≡◌, ℕ, ◌+◌, ◌≤◌, List, [], ◌∷◌, ◌++◌, length, refl, ap, ◌∙◌, subst, Option, Some, None, reverse, same_some, Branches, hops_of, parent_of, IsLinkedAt, IsLinked, IsChain, IsRoute}
 use Rattle.std.proofs.lemmas.List.{reverse-append}
-use Rattle.road_graph.proofs.Lists.{same_some}
-use Rattle.route_tree.specs.Tree.{Branches, hops_of, parent_of, IsLinkedAt, IsLinked, IsChain, IsRoute}
 
 -- a list that is being filled from the back: reversed, it leads from `at` to the target
 pub record Climbing (t : Branches) (target at : ℕ) (items : List ℕ) : Type 0 where

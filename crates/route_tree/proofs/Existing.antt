@@ -1,18 +1,11 @@
 -- Trees and routes exist: by visiting the levels in thought.
-use Rattle.std.proofs.Common.{add-one, ◌≡◌, ℕ, zero, suc, ◌+◌, ◌-◌, ◌<◌, ◌≤◌, Bool, true, false, cond, List, [], ◌∷◌, ◌++◌, length, get_or, set, replicate, reverse, take, refl, sym, ◌∙◌, subst, arith, Option, Some, None}
+use Rattle.route_tree.proofs.Words.{add-one, ◌≡◌, ℕ, zero, suc, ◌+◌, ◌-◌, ◌<◌, ◌≤◌, Bool, true, false, cond, List, [], ◌∷◌, ◌++◌, length, get_or, set, replicate, reverse, take, refl, sym, ◌∙◌, subst, arith, Option, Some, None, length-append, get_or_default, All, GraphData, IsGraph, HasVertex, arc_of, Algebra, IsLawful, AreBest, is_tight, label_of, all_inside, Branches, hops_of, parent_of, IsTree, IsLinked, IsRoute}
 use Rattle.std.proofs.Math.Seq.{take-length}
-use Rattle.std.proofs.lemmas.List.{length-append, get_or_default}
 use Rattle.std.proofs.lemmas.List.Sums.{sum_by-set}
-use Rattle.std.specs.Prelude.{All}
-use Rattle.road_graph.specs.GraphData.{GraphData, IsGraph, HasVertex, arc_of}
 use Rattle.road_graph.specs.Making.{numbers_at}
 use Rattle.road_graph.specs.declared.Side.TheVariants.{Tail}
 use Rattle.road_graph.proofs.Numbers.{lists_from}
-use Rattle.path_algebra.specs.Algebra.{Algebra, IsLawful}
-use Rattle.path_algebra.specs.Walks.{AreBest, is_tight, label_of}
-use Rattle.path_algebra.proofs.Walks.{all_inside}
 use Rattle.route_tree.specs.Levels.{AreLeast, AreLeastTails, IsMarked, Visiting, hops_if, parents_if, next_if, one_if_unreached, unreached}
-use Rattle.route_tree.specs.Tree.{Branches, hops_of, parent_of, IsTree, IsLinked, IsRoute}
 use Rattle.route_tree.proofs.OneArc.{visit_arc}
 use Rattle.route_tree.proofs.OneVertex.{visit_open, visit_level}
 use Rattle.route_tree.proofs.Marking.{marked_start, marked_once, marked_visits}

@@ -1,13 +1,7 @@
 -- When no level is left, hops are least and parents are least.
-use Rattle.std.proofs.Common.{◌≡◌, ℕ, ◌+◌, ◌≤◌, inl, inr, Bool, true, eqb, eqb-true, List, [], ◌∷◌, ◌++◌, length, refl, ap, sym, ◌∙◌, arith, Option, Some, None}
-use Rattle.std.proofs.lemmas.List.{length-append, nil_from_length}
+use Rattle.route_tree.proofs.Words.{◌≡◌, ℕ, ◌+◌, ◌≤◌, inl, inr, Bool, true, eqb, eqb-true, List, [], ◌∷◌, ◌++◌, length, refl, ap, sym, ◌∙◌, arith, Option, Some, None, length-append, nil_from_length, IsTrue, Contains, All, GraphData, HasArc, HasVertex, arc_of, not_in_empty, same_some, IsWalk, label_of, IsWalkOf, IsLeastAt, AreLeast, IsTreeArc, IsLeastTail, AreLeastTails, IsPassed, Visiting}
 use Rattle.std.proofs.lemmas.List.Elements.{All-nil, All-cons, All-head, All-tail, All-append}
-use Rattle.std.specs.Prelude.{IsTrue, Contains, All}
-use Rattle.road_graph.specs.GraphData.{GraphData, HasArc, HasVertex, arc_of}
-use Rattle.road_graph.proofs.Lists.{not_in_empty, same_some}
-use Rattle.path_algebra.specs.Walks.{IsWalk, label_of}
 use Rattle.path_algebra.proofs.Walks.{IsWalk-snoc}
-use Rattle.route_tree.specs.Levels.{IsWalkOf, IsLeastAt, AreLeast, IsTreeArc, IsLeastTail, AreLeastTails, IsPassed, Visiting}
 
 module _ (g : GraphData) (test : ℕ → Bool) (sources : List ℕ) where
   -- a walk goes on by an arc that passes

@@ -1,3 +1,4 @@
+mod Words
 pub mod LevelsAreLeast
 mod OneArc
 mod OneVertex

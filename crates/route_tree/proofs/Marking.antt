@@ -1,13 +1,6 @@
 -- The first level: the sources.
-use Rattle.std.proofs.Common.{◌≡◌, ℕ, ◌+◌, ◌-◌, ◌<◌, ◌≤◌, ◌⊎◌, inl, inr, Bool, List, [], ◌∷◌, ◌++◌, length, get_or, set, replicate, take, refl, ap, sym, ◌∙◌, subst, arith, Option, Some, None, get_or-set_same, get_or-set_other, length-set}
-use Rattle.std.proofs.lemmas.Bool.{cases_eq}
+use Rattle.route_tree.proofs.Words.{◌≡◌, ℕ, ◌+◌, ◌-◌, ◌<◌, ◌≤◌, ◌⊎◌, inl, inr, Bool, List, [], ◌∷◌, ◌++◌, length, get_or, set, replicate, take, refl, ap, sym, ◌∙◌, subst, arith, Option, Some, None, get_or-set_same, get_or-set_other, length-set, cases_eq, Contains-append_left, Contains-append_right, Contains-append_cases, Contains, All, GraphData, IsGraph, HasArc, HasVertex, arc_of, not_in_empty, head_or_tail, here, same_some, label_of, IsWalkOf, hops_if, next_if, Visiting, IsMarked}
 use Rattle.std.proofs.lemmas.List.{get_or-replicate, length-replicate, take_more}
-use Rattle.std.proofs.lemmas.List.Elements.{Contains-append_left, Contains-append_right, Contains-append_cases}
-use Rattle.std.specs.Prelude.{Contains, All}
-use Rattle.road_graph.specs.GraphData.{GraphData, IsGraph, HasArc, HasVertex, arc_of}
-use Rattle.road_graph.proofs.Lists.{not_in_empty, head_or_tail, here, same_some}
-use Rattle.path_algebra.specs.Walks.{label_of}
-use Rattle.route_tree.specs.Levels.{IsWalkOf, hops_if, next_if, Visiting, IsMarked}
 use Rattle.route_tree.proofs.LevelsAreLeast.{IsWalkOf-nil}
 
 module _ (n : ℕ) (sources : List ℕ) where

@@ -1,11 +1,6 @@
 -- One arc of a vertex that is visited.
 use Rattle.std.proofs.Common.{◌≡◌, ℕ, ◌+◌, ◌-◌, ◌<◌, ◌≤◌, ◌⊎◌, inl, inr, Bool, true, false, cond, eqb, leb, eqb-true, eq-eqb, leb-true, le-leb, List, [], ◌∷◌, ◌++◌, length, set, refl, ap, sym, ◌∙◌, subst, arith, Option, Some, None, get_or-set_same, get_or-set_other, length-set}
-use Rattle.std.proofs.lemmas.Bool.{cases_eq}
-use Rattle.std.proofs.lemmas.List.Elements.{Contains-append_left, Contains-append_right, Contains-append_cases}
-use Rattle.std.specs.Prelude.{Contains}
-use Rattle.road_graph.specs.GraphData.{GraphData, IsGraph, HasArc, HasVertex, arc_of}
-use Rattle.road_graph.proofs.Lists.{not_in_empty, head_or_tail, here, later, same_some}
-use Rattle.path_algebra.specs.Walks.{label_of}
+use Rattle.route_tree.proofs.Words.{cases_eq, Contains-append_left, Contains-append_right, Contains-append_cases, Contains, GraphData, IsGraph, HasArc, HasVertex, arc_of, not_in_empty, head_or_tail, here, later, same_some, label_of}
 use Rattle.route_tree.specs.Levels.{IsWalkOf, IsTreeArc, lesser, hops_if, parents_if, next_if, IsPassed, Visiting}
 use Rattle.route_tree.proofs.LevelsAreLeast.{IsWalkOf-snoc}
 

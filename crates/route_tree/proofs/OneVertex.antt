@@ -1,13 +1,5 @@
 -- One vertex that is visited, and one level.
-use Rattle.std.proofs.Common.{drop, drop-cons, add-one, ◌≡◌, ℕ, suc, ◌+◌, ◌<◌, ◌≤◌, inl, inr, Bool, false, cond, List, [], ◌∷◌, length, get_or, refl, ap, sym, ◌∙◌, arith, Option}
-use Rattle.std.proofs.Math.ListN.{drop_of_length-le}
-use Rattle.std.proofs.lemmas.List.{get_or-map, length-map, get_or_default}
-use Rattle.road_graph.specs.GraphData.{GraphData, IsGraph, HasArc, arc_of, ListsArcsFrom, road_of, roads_of}
-use Rattle.road_graph.specs.declared.OutRoad.{OutRoad}
-use Rattle.road_graph.proofs.Lists.{not_in_empty, head_or_tail, here, later}
-use Rattle.path_algebra.specs.Algebra.{Algebra}
-use Rattle.path_algebra.specs.Walks.{label_of, is_tight_between}
-use Rattle.route_tree.specs.Levels.{hops_if, parents_if, next_if, Visiting}
+use Rattle.route_tree.proofs.Words.{drop, drop-cons, add-one, ◌≡◌, ℕ, suc, ◌+◌, ◌<◌, ◌≤◌, inl, inr, Bool, false, cond, List, [], ◌∷◌, length, get_or, refl, ap, sym, ◌∙◌, arith, Option, drop_of_length-le, get_or-map, length-map, get_or_default, GraphData, IsGraph, HasArc, arc_of, ListsArcsFrom, road_of, roads_of, OutRoad, not_in_empty, head_or_tail, here, later, Algebra, label_of, is_tight_between, hops_if, parents_if, next_if, Visiting}
 use Rattle.route_tree.specs.Regions.{in_region, is_tight_into}
 use Rattle.route_tree.proofs.OneArc.{visit_arc}
 

@@ -1,16 +1,6 @@
 -- A tree that is held to the region which a search back found: its route to the target is that of
 -- the whole tree.
-use Rattle.std.proofs.Common.{◌≡◌, ℕ, ◌+◌, ◌≤◌, Bool, true, false, cond, List, [], ◌∷◌, length, get_or, refl, ap, sym, ◌∙◌, subst, arith, Option, Some, None}
-use Rattle.std.proofs.lemmas.List.Elements.{All-nil, All-cons, All-head, All-tail}
-use Rattle.std.specs.Prelude.{IsTrue, Contains, All}
-use Rattle.road_graph.specs.GraphData.{GraphData, IsGraph, HasVertex, arc_of}
-use Rattle.road_graph.proofs.Lists.{same_some}
-use Rattle.path_algebra.specs.Algebra.{Algebra, IsLawful}
-use Rattle.path_algebra.specs.Walks.{IsWalk, AreBest, AreHops, IsUnreached, label_of, is_marked, is_tight}
-use Rattle.route_tree.specs.Levels.{IsWalkOf, AreLeast, IsTreeArc, IsLeastTail, AreLeastTails}
-use Rattle.route_tree.specs.Regions.{IsWithinHops, Covers}
-use Rattle.route_tree.specs.Told.{IsParentRoute}
-use Rattle.route_tree.specs.Tree.{AreHopsAt, IsChain, IsRoute}
+use Rattle.route_tree.proofs.Words.{◌≡◌, ℕ, ◌+◌, ◌≤◌, Bool, true, false, cond, List, [], ◌∷◌, length, get_or, refl, ap, sym, ◌∙◌, subst, arith, Option, Some, None, All-nil, All-cons, All-head, All-tail, IsTrue, Contains, All, GraphData, IsGraph, HasVertex, arc_of, same_some, Algebra, IsLawful, IsWalk, AreBest, AreHops, IsUnreached, label_of, is_marked, is_tight, IsWalkOf, AreLeast, IsTreeArc, IsLeastTail, AreLeastTails, IsWithinHops, Covers, IsParentRoute, AreHopsAt, IsChain, IsRoute}
 use Rattle.route_tree.proofs.VisitingBack.{within_back}
 use Rattle.route_tree.proofs.Existing.{least_exist}
 use Rattle.route_tree.proofs.LevelsAreLeast.{IsWalkOf-snoc}

@@ -1,13 +1,7 @@
 -- What labels and a tree tell, and what a route is, in the words of walks.
-use Rattle.std.proofs.Common.{◌≡◌, ℕ, zero, suc, ◌+◌, ◌≤◌, ◌⊎◌, inl, inr, List, [], ◌∷◌, ◌++◌, length, refl, ap, sym, ◌∙◌, subst, arith, Option, Some, None}
-use Rattle.std.proofs.lemmas.List.{length-append}
-use Rattle.std.proofs.lemmas.List.Elements.{All-nil, All-head, All-tail}
-use Rattle.std.specs.Prelude.{Contains, All, ◌↔◌}
-use Rattle.road_graph.specs.GraphData.{GraphData, IsGraph, HasVertex, arc_of}
+use Rattle.route_tree.proofs.Words.{◌≡◌, ℕ, zero, suc, ◌+◌, ◌≤◌, ◌⊎◌, inl, inr, List, [], ◌∷◌, ◌++◌, length, refl, ap, sym, ◌∙◌, subst, arith, Option, Some, None, length-append, All-nil, All-head, All-tail, Contains, All, ◌↔◌, GraphData, IsGraph, HasVertex, arc_of, Algebra, Branches, hops_of, parent_of, AreHopsAt, IsParentAt, IsTree, IsChain, IsRoute}
 use Rattle.road_graph.proofs.Lists.{here, only_element}
-use Rattle.path_algebra.specs.Algebra.{Algebra}
 use Rattle.path_algebra.specs.Walks.{IsWalk, IsWalkValue, IsTight, IsBestLabel, AreBest, AreHops, IsParent, IsUnreached, label_of, IsParentChain}
-use Rattle.route_tree.specs.Tree.{Branches, hops_of, parent_of, AreHopsAt, IsParentAt, IsTree, IsChain, IsRoute}
 use Rattle.route_tree.specs.Told.{IsToldOf, IsParentRoute}
 use Rattle.route_tree.specs.Found.{FoundData, IsFoundBetween}
 

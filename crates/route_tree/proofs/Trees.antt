@@ -1,15 +1,7 @@
 -- The tree that least hops and least tails make.
-use Rattle.std.proofs.Common.{◌≡◌, ℕ, ◌+◌, ◌≤◌, ◌⊎◌, inl, inr, Bool, List, [], ◌∷◌, length, refl, ap, sym, ◌∙◌, subst, arith, Option, Some, None, ◌-◌, true, false, get_or, map}
-use Rattle.std.proofs.lemmas.List.Elements.{All-nil, All-cons, All-head, All-tail}
-use Rattle.std.specs.Prelude.{IsTrue, Contains, All}
-use Rattle.road_graph.specs.GraphData.{GraphData, IsGraph, HasArc, HasVertex, arc_of}
-use Rattle.road_graph.proofs.Lists.{same_some}
+use Rattle.route_tree.proofs.Words.{◌≡◌, ℕ, ◌+◌, ◌≤◌, ◌⊎◌, inl, inr, Bool, List, [], ◌∷◌, length, refl, ap, sym, ◌∙◌, subst, arith, Option, Some, None, ◌-◌, true, false, get_or, map, All-nil, All-cons, All-head, All-tail, IsTrue, Contains, All, GraphData, IsGraph, HasArc, HasVertex, arc_of, same_some, IsWalkOf, IsLeastAt, AreLeast, IsLeastTail, AreLeastTails, IsLinkedAt, IsLinked, AreHopsAt, IsParentAt, IsTree, get_or-map, Algebra, IsLawful}
 use Rattle.path_algebra.specs.Walks.{IsWalk, label_of, IsTight, is_tight, AreBest, AreHops, IsParent, IsTightWalk, IsUnreached}
-use Rattle.route_tree.specs.Levels.{IsWalkOf, IsLeastAt, AreLeast, IsLeastTail, AreLeastTails}
-use Rattle.route_tree.specs.Tree.{IsLinkedAt, IsLinked, AreHopsAt, IsParentAt, IsTree}
 use Rattle.route_tree.proofs.LevelsAreLeast.{IsWalkOf-snoc, IsWalkOf-nil}
-use Rattle.std.proofs.lemmas.List.{get_or-map}
-use Rattle.path_algebra.specs.Algebra.{Algebra, IsLawful}
 use Rattle.path_algebra.proofs.Tight.{tight_is, tight_arcs_reach, labelled}
 
 module _ (g : GraphData) (roads : IsGraph g) (test : ℕ → Bool) (sources : List ℕ) where

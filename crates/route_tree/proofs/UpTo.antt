@@ -1,23 +1,16 @@
 -- Labels that are best up to a target: the search back from it goes along the same arcs as by best
 -- labels.
-use Rattle.std.proofs.Common.{◌≡◌, ℕ, ◌+◌, inl, inr, Bool, true, false, cond, List, [], ◌∷◌, length, refl, ap, sym, ◌∙◌, subst, Option, Some, None}
+use Rattle.route_tree.proofs.Words.{◌≡◌, ℕ, ◌+◌, inl, inr, Bool, true, false, cond, List, [], ◌∷◌, length, refl, ap, sym, ◌∙◌, subst, Option, Some, None, All-nil, All-cons, All-head, All-tail, IsTrue, Contains, All, GraphData, IsGraph, HasVertex, HasArc, arc_of, Algebra, IsLawful, IsWalkOf, IsLeastAt, AreLeast, IsTreeArc, IsLeastTail, AreLeastTails, IsParentRoute, IsRoute}
 use Rattle.std.proofs.lemmas.Bool.{cases_Bool}
-use Rattle.std.proofs.lemmas.List.Elements.{All-nil, All-cons, All-head, All-tail}
-use Rattle.std.specs.Prelude.{IsTrue, Contains, All}
-use Rattle.road_graph.specs.GraphData.{GraphData, IsGraph, HasVertex, HasArc, arc_of}
-use Rattle.path_algebra.specs.Algebra.{Algebra, IsLawful}
 use Rattle.path_algebra.specs.Walks.{IsWalk, AreWalkValues, AreBest, AreHops, IsBestCode, IsUnreached, IsBestLabel, label_of, is_marked, is_tight, is_tight_between, is_reached_by}
 use Rattle.path_algebra.proofs.Walks.{walk_value_is_value}
 use Rattle.path_algebra.proofs.Tight.{best_at, labelled}
 use Rattle.path_algebra.proofs.Least.{same_no_worse}
 use Rattle.path_plain.specs.UpTo.{AreBestUpTo}
-use Rattle.route_tree.specs.Levels.{IsWalkOf, IsLeastAt, AreLeast, IsTreeArc, IsLeastTail, AreLeastTails}
 use Rattle.route_tree.specs.Regions.{Covers, LeadTo, VisitingBack, is_tight_into}
-use Rattle.route_tree.specs.Told.{IsParentRoute}
 use Rattle.route_tree.specs.Found.{IsFoundIn, IsPairFound}
 use Rattle.route_tree.specs.declared.found.Found.{Found}
 use Rattle.route_tree.proofs.Told.{from_one}
-use Rattle.route_tree.specs.Tree.{IsRoute}
 use Rattle.route_tree.proofs.RegionTrees.{no_route, route_told}
 
 -- the search back marks only vertices from which it came

@@ -1,15 +1,5 @@
 -- The search from a target back.
-use Rattle.std.proofs.Common.{add-one, ◌≡◌, ℕ, suc, ◌+◌, ◌-◌, ◌<◌, ◌≤◌, ◌⊎◌, inl, inr, Bool, true, false, cond, List, [], ◌∷◌, ◌++◌, length, get_or, set, replicate, drop, drop-cons, map, refl, ap, sym, ◌∙◌, subst, arith, get_or-set_same, get_or-set_other, length-set}
-use Rattle.std.proofs.Math.ListN.{drop_of_length-le}
-use Rattle.std.proofs.lemmas.Bool.{cases_eq}
-use Rattle.std.proofs.lemmas.List.{get_or-replicate, length-replicate, length-map, get_or-map, get_or_default}
-use Rattle.std.proofs.lemmas.List.Elements.{All-nil, All-cons, All-head, All-tail, Contains-append_left, Contains-append_right, Contains-append_cases}
-use Rattle.std.specs.Prelude.{IsTrue, Contains, All, ◌↔◌}
-use Rattle.road_graph.specs.declared.OutRoad.{OutRoad}
-use Rattle.road_graph.specs.GraphData.{GraphData, IsGraph, HasArc, HasVertex, arc_of, road_of, reversed_arc}
-use Rattle.road_graph.proofs.Lists.{not_in_empty, head_or_tail, here, later}
-use Rattle.path_algebra.specs.Walks.{IsWalk, is_marked}
-use Rattle.route_tree.specs.Regions.{IsWithinHops, Covers, VisitingBack}
+use Rattle.route_tree.proofs.Words.{add-one, ◌≡◌, ℕ, suc, ◌+◌, ◌-◌, ◌<◌, ◌≤◌, ◌⊎◌, inl, inr, Bool, true, false, cond, List, [], ◌∷◌, ◌++◌, length, get_or, set, replicate, drop, drop-cons, map, refl, ap, sym, ◌∙◌, subst, arith, get_or-set_same, get_or-set_other, length-set, drop_of_length-le, cases_eq, get_or-replicate, length-replicate, length-map, get_or-map, get_or_default, All-nil, All-cons, All-head, All-tail, Contains-append_left, Contains-append_right, Contains-append_cases, IsTrue, Contains, All, ◌↔◌, OutRoad, GraphData, IsGraph, HasArc, HasVertex, arc_of, road_of, reversed_arc, not_in_empty, head_or_tail, here, later, IsWalk, is_marked, IsWithinHops, Covers, VisitingBack}
 
 module _ (g : GraphData) (roads : IsGraph g) (test : ℕ → Bool) (target : ℕ) where
   -- one arc further back

@@ -1,19 +1,7 @@
 -- If events take the best waiting message first, no label changes twice, and each arc out of a
 -- labelled vertex is sent one message, if its extension is not refused.
-use Rattle.std.proofs.Common.{◌≡◌, ◌≢◌, ℕ, suc, ◌+◌, Bool, true, false, not, ◌&&◌, is_some, eqb-true, Option, Some, None, List, [], ◌∷◌, ◌⊎◌, refl, sym, ap, ◌∙◌, subst, inl, inr, arith}
-use Rattle.std.proofs.lemmas.Bool.{cases_Bool, cond-true, cond-false, false≢true, and_parts, not-true}
-use Rattle.path_algebra.specs.Algebra.{Algebra, IsLawful}
-use Rattle.path_algebra.proofs.Least.{same_no_worse}
-use Rattle.scholten_core.specs.declared.token.Token.{Token}
-use Rattle.scholten_core.specs.declared.token.Token.TheVariants.{Idle, Message, Held, Signal}
-use Rattle.scholten_core.specs.declared.event.Event.{Event}
-use Rattle.scholten_core.specs.Network.{Network, WellFormed}
-use Rattle.scholten_core.specs.Sums.{one_if}
-use Rattle.scholten_core.specs.Accounts.{sent_on}
+use Rattle.scholten_core.proofs.Words.{◌≡◌, ◌≢◌, ℕ, suc, ◌+◌, Bool, true, false, not, ◌&&◌, is_some, eqb-true, Option, Some, None, List, [], ◌∷◌, ◌⊎◌, refl, sym, ap, ◌∙◌, subst, inl, inr, arith, cases_Bool, cond-true, cond-false, false≢true, and_parts, not-true, Algebra, IsLawful, same_no_worse, Token, Idle, Message, Held, Signal, Event, Network, WellFormed, one_if, sent_on, CoreState, opening, state_after, run_from, improves, better_of, same_label, is_message, is_due, out_idle, pump, arrive, released, freed, settle, step, sent, extend_label, answer_to, put_tells, sent_message, same_self, walk_value_is_value}
 use Rattle.scholten_core.specs.BestFirst.{IsNoWorseThanWaiting, TakesBest, IsBestFirst}
-use Rattle.scholten_core.specs.Diffusion.{CoreState, opening, state_after, run_from, improves, better_of, same_label, is_message, is_due, out_idle, pump, arrive, released, freed, settle, step, sent, extend_label, answer_to}
-use Rattle.scholten_core.proofs.Basics.{put_tells, sent_message, same_self}
-use Rattle.scholten_core.proofs.Walks.{walk_value_is_value}
 use Rattle.scholten_core.proofs.CoreInvariant.{CoreInvariant, pumped, head_real, arrive_kept, freed_kept, step_kept}
 use Rattle.scholten_core.proofs.StepCases.{step_cases, released_changes, held_pumped, rest_told, rest_label}
 use Rattle.scholten_core.proofs.Ended.{opening_kept}

@@ -1,21 +1,9 @@
 -- An engaged vertex has a busy arc out, through each event; so some event is enabled until the end.
-use Rattle.std.proofs.Common.{◌≡◌, ◌≢◌, ℕ, zero, suc, ◌≤◌, Bool, true, false, not, ◌&&◌, ◌||◌, eqb, Option, Some, None, List, [], ◌∷◌, ◌⊎◌, refl, sym, ap, ◌∙◌, subst, inl, inr, eqb-true, arith, Contains}
+use Rattle.scholten_core.proofs.Words.{◌≡◌, ◌≢◌, ℕ, zero, suc, ◌≤◌, Bool, true, false, not, ◌&&◌, ◌||◌, eqb, Option, Some, None, List, [], ◌∷◌, ◌⊎◌, refl, sym, ap, ◌∙◌, subst, inl, inr, eqb-true, arith, Contains, IsTrue, Token, Idle, Message, Held, Signal, Event, Deliver, Accept, Algebra, IsLawful, Network, WellFormed, CoreState, opening, state_after, HasEnded, is_enabled, is_idle, is_message, is_signal, all_below, pump, arrive, rest, released, freed, step, out_idle, engaged_by, answer_to, IsEngagementOrder, IsRooted, CanGoOn, put_tells, put-other, idle-false, not_in_empty, later, head_or_tail}
 use Rattle.std.proofs.lemmas.Bool.{cases_eq, cases_Bool, false≢true, or_parts, not-false}
-use Rattle.std.specs.Prelude.{IsTrue}
-use Rattle.scholten_core.specs.declared.token.Token.{Token}
-use Rattle.scholten_core.specs.declared.token.Token.TheVariants.{Idle, Message, Held, Signal}
-use Rattle.scholten_core.specs.declared.event.Event.{Event}
-use Rattle.scholten_core.specs.declared.event.Event.TheVariants.{Deliver, Accept}
-use Rattle.path_algebra.specs.Algebra.{Algebra, IsLawful}
-use Rattle.scholten_core.specs.Network.{Network, WellFormed}
-use Rattle.scholten_core.specs.Diffusion.{CoreState, opening, state_after, HasEnded, is_enabled, is_idle, is_message, is_signal, all_below, pump, arrive, rest, released, freed, step, out_idle, engaged_by, answer_to}
-use Rattle.scholten_core.specs.Rooted.{IsEngagementOrder, IsRooted}
-use Rattle.scholten_core.specs.Progress.{CanGoOn}
-use Rattle.scholten_core.proofs.Basics.{put_tells, put-other, idle-false}
 use Rattle.scholten_core.proofs.CoreInvariant.{CoreInvariant, pumped}
 use Rattle.scholten_core.proofs.StepCases.{step_cases, run_cases}
 use Rattle.scholten_core.proofs.Ended.{opening_kept, reached_kept, reached_rooted}
-use Rattle.road_graph.proofs.Lists.{not_in_empty, later, head_or_tail}
 
 -- a test that does not pass at each number below n fails at one
 all_below-fails : (p : ℕ → Bool) (n : ℕ) → all_below p n ≡ false → (k : ℕ) × (p k ≡ false)

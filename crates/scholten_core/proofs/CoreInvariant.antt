@@ -1,14 +1,5 @@
 -- What every event keeps.
-use Rattle.std.proofs.Common.{◌≡◌, ◌≢◌, ℕ, zero, suc, Bool, true, false, Option, Some, None, List, [], ◌∷◌, ◌⊎◌, refl, sym, ap, ◌∙◌, subst, inl, inr, arith}
-use Rattle.std.proofs.lemmas.Bool.{cases_eq, cond-true, cond-false}
-use Rattle.scholten_core.specs.declared.token.Token.{Token}
-use Rattle.scholten_core.specs.declared.token.Token.TheVariants.{Idle, Message, Held, Signal}
-use Rattle.scholten_core.specs.declared.event.Event.{Event}
-use Rattle.scholten_core.specs.declared.event.Event.TheVariants.{Deliver, Accept}
-use Rattle.path_algebra.specs.Algebra.{Algebra, IsLawful}
-use Rattle.scholten_core.specs.Network.{Network, WellFormed}
-use Rattle.scholten_core.proofs.Walks.{IsValueAt}
-use Rattle.scholten_core.specs.Diffusion.{CoreState, settle, step, run_from, delivered, accepted, settle_tail, pump, arrive, rest, released, freed, is_due, out_idle, better_of, engaged_by, answer_to, sent, extend_label}
+use Rattle.scholten_core.proofs.Words.{◌≡◌, ◌≢◌, ℕ, zero, suc, Bool, true, false, Option, Some, None, List, [], ◌∷◌, ◌⊎◌, refl, sym, ap, ◌∙◌, subst, inl, inr, arith, cases_eq, cond-true, cond-false, Token, Idle, Message, Held, Signal, Event, Deliver, Accept, Algebra, IsLawful, Network, WellFormed, IsValueAt, CoreState, settle, step, run_from, delivered, accepted, settle_tail, pump, arrive, rest, released, freed, is_due, out_idle, better_of, engaged_by, answer_to, sent, extend_label}
 use Rattle.scholten_core.proofs.Walks.{AtMost, walk_value_more}
 use Rattle.scholten_core.proofs.Basics.{put_tells, put-at, put-same, put-other, due_tells, sent_message, sent_held, better_tells, out_idle-at}
 

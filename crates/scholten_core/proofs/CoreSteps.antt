@@ -1,18 +1,8 @@
 -- The events of a running core.
 use Rattle.std.proofs.Common.{◌≡◌, ◌≢◌, ℕ, zero, suc, ◌+◌, ◌<◌, ◌≤◌, Bool, true, false, cond, Some, List, [], ◌∷◌, ◌++◌, length, get_or, take, length-take, refl, sym, ap, ◌∙◌, subst, inl, inr, arith}
-use Rattle.std.proofs.lemmas.Bool.{cases_eq}
+use Rattle.scholten_core.proofs.Words.{cases_eq, Algebra, IsLawful, Idle, Message, Held, Signal, Event, Deliver, Accept, Network, WellFormed, CoreState, arrive, pump, rest, settle, step, run_from, state_after, opening, delivered, accepted, settle_tail, freed, count_enabled, is_enabled, IdleIsTold, CoreView, state_of, network_of, IsRun, network_in, IsDiffusion, well_formed}
 use Rattle.std.proofs.lemmas.List.{take_more}
-use Rattle.path_algebra.specs.Algebra.{Algebra, IsLawful}
-use Rattle.scholten_core.specs.declared.token.Token.TheVariants.{Idle, Message, Held, Signal}
-use Rattle.scholten_core.specs.declared.event.Event.{Event}
-use Rattle.scholten_core.specs.declared.event.Event.TheVariants.{Deliver, Accept}
-use Rattle.scholten_core.specs.Network.{Network, WellFormed}
-use Rattle.scholten_core.specs.Diffusion.{CoreState, arrive, pump, rest, settle, step, run_from, state_after, opening, delivered, accepted, settle_tail, freed, count_enabled, is_enabled}
-use Rattle.scholten_core.specs.IdleIsTold.{IdleIsTold}
-use Rattle.scholten_core.specs.CoreView.{CoreView, state_of, network_of, IsRun}
-use Rattle.scholten_core.specs.DiffusionData.{network_in, IsDiffusion}
 use Rattle.scholten_core.proofs.StepCases.{held_pumped}
-use Rattle.scholten_core.proofs.Networks.{well_formed}
 use Rattle.scholten_core.proofs.CoreInvariant.{CoreInvariant, head_real, arrive_kept, freed_kept}
 use Rattle.scholten_core.proofs.Ended.{reached_kept}
 

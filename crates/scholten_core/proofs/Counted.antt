@@ -1,13 +1,5 @@
 -- The counters of busy arcs follow each change of one arc's token.
-use Rattle.std.proofs.Common.{◌≡◌, ◌≢◌, ℕ, suc, ◌+◌, ◌<◌, ◌≤◌, Bool, true, false, not, ◌&&◌, eqb, eq-eqb, ne_eqb, List, length, get_or, set, refl, sym, ap, ◌∙◌, inl, inr, arith, get_or-set_same, get_or-set_other}
-use Rattle.std.proofs.lemmas.Bool.{cases_eq}
-use Rattle.scholten_core.specs.declared.token.Token.{Token}
-use Rattle.scholten_core.specs.declared.token.Token.TheVariants.{Idle}
-use Rattle.scholten_core.specs.Network.{Network}
-use Rattle.scholten_core.specs.Diffusion.{CoreState, is_idle}
-use Rattle.scholten_core.specs.Sums.{one_if}
-use Rattle.scholten_core.specs.Deficit.{deficit}
-use Rattle.scholten_core.specs.CoreView.{AreDeficits}
+use Rattle.scholten_core.proofs.Words.{◌≡◌, ◌≢◌, ℕ, suc, ◌+◌, ◌<◌, ◌≤◌, Bool, true, false, not, ◌&&◌, eqb, eq-eqb, ne_eqb, List, length, get_or, set, refl, sym, ap, ◌∙◌, inl, inr, arith, get_or-set_same, get_or-set_other, cases_eq, Token, Idle, Network, CoreState, is_idle, one_if, deficit, AreDeficits}
 use Rattle.scholten_core.proofs.Basics.{one_if-most, sum_zero, sum_ones, sum_most, sum_at, sum_term}
 
 module _ {V : Type 0} (N : Network) where

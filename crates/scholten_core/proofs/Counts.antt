@@ -1,15 +1,6 @@
 -- The counts of events against the tokens that stand.
-use Rattle.std.proofs.Common.{◌≡◌, ◌≢◌, ℕ, suc, ◌+◌, ◌<◌, ◌≤◌, true, false, not, ◌&&◌, cond, eqb, ne_eqb, eq-eqb, Option, Some, None, List, [], ◌∷◌, ◌⊎◌, refl, sym, ap, ◌∙◌, subst, inl, inr, arith}
-use Rattle.std.proofs.lemmas.Bool.{cases_eq, cond-true, cond-false}
-use Rattle.scholten_core.specs.declared.token.Token.{Token}
-use Rattle.scholten_core.specs.declared.token.Token.TheVariants.{Idle, Message, Held, Signal}
-use Rattle.scholten_core.specs.declared.event.Event.{Event}
-use Rattle.path_algebra.specs.Algebra.{Algebra, IsLawful}
-use Rattle.scholten_core.specs.Network.{Network, WellFormed}
-use Rattle.scholten_core.specs.Diffusion.{CoreState, state_after, opening, put, run_from, is_message, is_signal, out_idle, pump, arrive, freed, settle, step, sent, extend_label, answer_to}
-use Rattle.scholten_core.specs.Sums.{sum_below, one_if}
+use Rattle.scholten_core.proofs.Words.{◌≡◌, ◌≢◌, ℕ, suc, ◌+◌, ◌<◌, ◌≤◌, true, false, not, ◌&&◌, cond, eqb, ne_eqb, eq-eqb, Option, Some, None, List, [], ◌∷◌, ◌⊎◌, refl, sym, ap, ◌∙◌, subst, inl, inr, arith, cases_eq, cond-true, cond-false, Token, Idle, Message, Held, Signal, Event, Algebra, IsLawful, Network, WellFormed, CoreState, state_after, opening, put, run_from, is_message, is_signal, out_idle, pump, arrive, freed, settle, step, sent, extend_label, answer_to, sum_below, one_if, put_tells, put-same, put-other, sent_held, sum_same, sum_zero, sum_add, sum_at}
 use Rattle.scholten_core.specs.Accounts.{count_sent, count_signalled, is_delivery, is_acceptance, sent_total, signalled_total, delivered_total, accepted_total}
-use Rattle.scholten_core.proofs.Basics.{put_tells, put-same, put-other, sent_held, sum_same, sum_zero, sum_add, sum_at}
 use Rattle.scholten_core.proofs.Ended.{opening_kept, ended}
 use Rattle.scholten_core.proofs.CoreInvariant.{CoreInvariant, pumped, arrive_kept, freed_kept, step_kept}
 use Rattle.scholten_core.proofs.StepCases.{counted_cases, released_changes, held_pumped}

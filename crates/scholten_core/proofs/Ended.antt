@@ -1,14 +1,5 @@
 -- What holds after every list of events, and where the environment's arc is idle.
-use Rattle.std.proofs.Common.{◌≡◌, ℕ, true, Some, None, List, refl, sym, ap, ◌∙◌, subst, inl, inr}
-use Rattle.std.proofs.lemmas.Bool.{cases_eq}
-use Rattle.scholten_core.specs.declared.token.Token.TheVariants.{Idle, Message}
-use Rattle.scholten_core.specs.declared.event.Event.{Event}
-use Rattle.path_algebra.specs.Algebra.{Algebra, IsLawful}
-use Rattle.scholten_core.specs.Network.{Network, WellFormed}
-use Rattle.scholten_core.proofs.Walks.{IsValueAt}
-use Rattle.scholten_core.specs.Diffusion.{CoreState, opening, state_after, IsQuiet}
-use Rattle.scholten_core.specs.Rooted.{IsRooted}
-use Rattle.scholten_core.proofs.Basics.{put_tells, put-same}
+use Rattle.scholten_core.proofs.Words.{◌≡◌, ℕ, true, Some, None, List, refl, sym, ap, ◌∙◌, subst, inl, inr, cases_eq, Idle, Message, Event, Algebra, IsLawful, Network, WellFormed, IsValueAt, CoreState, opening, state_after, IsQuiet, IsRooted, put_tells, put-same}
 use Rattle.scholten_core.proofs.Walks.{AtMost, Closed, closed_best, origin_value}
 use Rattle.scholten_core.proofs.CoreInvariant.{CoreInvariant, run_kept}
 use Rattle.scholten_core.proofs.Rooted.{Ordered, run_ordered, opening_ordered, rooted, none_engaged}

@@ -1,14 +1,6 @@
 -- From every state that is reached, enabled events lead to the end.
-use Rattle.std.proofs.Common.{◌≡◌, ℕ, zero, suc, ◌+◌, ◌*◌, ◌≤◌, true, false, List, [], ◌∷◌, ◌++◌, length, refl, sym, ◌∙◌, subst, inl, inr, arith}
-use Rattle.std.proofs.lemmas.Bool.{cond-true, false≢true}
-use Rattle.road_graph.specs.GraphData.{GraphData, IsGraph, HasVertex}
-use Rattle.path_algebra.specs.Algebra.{Algebra, IsLawful}
-use Rattle.scholten_core.specs.declared.event.Event.{Event}
-use Rattle.scholten_core.specs.Network.{Network, WellFormed, network}
-use Rattle.scholten_core.specs.Diffusion.{CoreState, opening, step, run_from, state_after, is_enabled, count_enabled, HasEnded}
-use Rattle.scholten_core.specs.SimpleWalks.{message_bound}
+use Rattle.scholten_core.proofs.Words.{◌≡◌, ℕ, zero, suc, ◌+◌, ◌*◌, ◌≤◌, true, false, List, [], ◌∷◌, ◌++◌, length, refl, sym, ◌∙◌, subst, inl, inr, arith, cond-true, false≢true, GraphData, IsGraph, HasVertex, Algebra, IsLawful, Event, Network, WellFormed, network, CoreState, opening, step, run_from, state_after, is_enabled, count_enabled, HasEnded, message_bound, well_formed}
 use Rattle.scholten_core.specs.Progress.{CanGoOn, CanEnd}
-use Rattle.scholten_core.proofs.Networks.{well_formed}
 use Rattle.scholten_core.proofs.Busy.{never_stuck, goes_on}
 use Rattle.scholten_core.proofs.Finite.{few_events}
 

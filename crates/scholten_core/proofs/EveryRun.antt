@@ -1,28 +1,20 @@
 -- What is promised of every reached state and its accounts, and of every ended one, in the words of
 -- the graph.
-use Rattle.std.proofs.Common.{◌≡◌, ℕ, ◌<◌, ◌≤◌, ◌^◌, Option, Some, None, List, [], ◌∷◌, refl, sym, ap, subst, ◌∙◌, suc, ◌+◌, Bool, true, is_some, inl, inr, length, arith}
+use Rattle.scholten_core.proofs.Words.{◌≡◌, ℕ, ◌<◌, ◌≤◌, ◌^◌, Option, Some, None, List, [], ◌∷◌, refl, sym, ap, subst, ◌∙◌, suc, ◌+◌, Bool, true, is_some, inl, inr, length, arith, Algebra, IsLawful, Event, network, head_of, WellFormed, CoreState, extend_label, state_after, HasEnded, IsQuiet, opening, well_formed, tail-arc, tail-entry, weight-arc, cases_Bool, sum_below, one_if, walk_value_is_value}
 use Rattle.road_graph.specs.GraphData.{GraphData, IsGraph, HasVertex, HasArc, arc_of}
-use Rattle.path_algebra.specs.Algebra.{Algebra, IsLawful}
 use Rattle.path_algebra.specs.Walks.{IsBestLabel, IsWalkValue}
-use Rattle.scholten_core.specs.declared.event.Event.{Event}
-use Rattle.scholten_core.specs.Network.{network, head_of, WellFormed}
-use Rattle.scholten_core.specs.Diffusion.{CoreState, extend_label, state_after, HasEnded, IsQuiet, opening}
 use Rattle.scholten_core.specs.Rooted.{IsRooted, NeutralIsIdle, HeldIsEngager}
 use Rattle.scholten_core.specs.Reached.{LabelsAreWalkValues, MessagesAreWalkValues, EntryIsOrigin, LabelsAreBest}
-use Rattle.scholten_core.proofs.Networks.{well_formed, tail-arc, tail-entry, weight-arc}
 use Rattle.scholten_core.proofs.SharedWalks.{value_in_graph, value_in_network}
 use Rattle.scholten_core.proofs.CoreInvariant.{CoreInvariant}
 use Rattle.scholten_core.proofs.Ended.{IsSolved, reached_kept, reached_rooted, ended}
-use Rattle.std.proofs.lemmas.Bool.{cases_Bool}
 use Rattle.path_algebra.specs.Given.{reach}
 use Rattle.path_algebra.specs.Laws.{reach_laws}
-use Rattle.scholten_core.specs.Sums.{sum_below, one_if}
 use Rattle.scholten_core.specs.Accounts.{sent_on, label_changes, totals_of, AreEqualTotals, AreMarksOfReached, count_marked}
 use Rattle.scholten_core.specs.BestFirst.{IsBestFirst, AreMarksOfWalkEnds}
 use Rattle.scholten_core.proofs.MessagesFollowLabels.{sends_at_most}
 use Rattle.scholten_core.proofs.BestFirst.{best_first_sends}
 use Rattle.std.specs.Prelude.{IsSome, IsTrue}
-use Rattle.scholten_core.proofs.Walks.{walk_value_is_value}
 use Rattle.scholten_core.proofs.Counts.{all_equal}
 use Rattle.scholten_core.proofs.Reach.{IsOneValued, reach_sends, total_by_arc, walk_end}
 use Rattle.scholten_core.proofs.Basics.{one_if-most, sum_same, sum_below_same, sum_below_most, sum_first}

@@ -1,20 +1,7 @@
 -- Each change of a vertex's label uses up one of the simple walks to it, so they are no more than
 -- these.
-use Rattle.std.proofs.Common.{◌≡◌, ℕ, suc, ◌+◌, ◌≤◌, Bool, true, false, not, Option, Some, None, List, [], ◌∷◌, length, ◌⊎◌, refl, sym, ap, ◌∙◌, subst, inl, inr, arith, Contains}
+use Rattle.scholten_core.proofs.Words.{◌≡◌, ℕ, suc, ◌+◌, ◌≤◌, Bool, true, false, not, Option, Some, None, List, [], ◌∷◌, length, ◌⊎◌, refl, sym, ap, ◌∙◌, subst, inl, inr, arith, Contains, GraphData, IsGraph, not_in_empty, head_or_tail, Algebra, IsLawful, same_no_worse, Event, Network, network, CoreState, opening, arrive, freed, step, improves, better_of, same_label, one_if, label_changes, HasSimpleWalks, put_tells, same_self, one_if-most, well_formed, along}
 use Rattle.std.proofs.lemmas.Bool.{cases_Bool, cond-true, cond-false, false≢true, and_parts, and_from, and_right, not-true, not_from_true, not_from_false, false_from_ne_true}
-use Rattle.road_graph.specs.GraphData.{GraphData, IsGraph}
-use Rattle.road_graph.proofs.Lists.{not_in_empty, head_or_tail}
-use Rattle.path_algebra.specs.Algebra.{Algebra, IsLawful}
-use Rattle.path_algebra.proofs.Least.{same_no_worse}
-use Rattle.scholten_core.specs.declared.event.Event.{Event}
-use Rattle.scholten_core.specs.Network.{Network, network}
-use Rattle.scholten_core.specs.Diffusion.{CoreState, opening, arrive, freed, step, improves, better_of, same_label}
-use Rattle.scholten_core.specs.Sums.{one_if}
-use Rattle.scholten_core.specs.Accounts.{label_changes}
-use Rattle.path_algebra.specs.SimpleWalks.{HasSimpleWalks}
-use Rattle.scholten_core.proofs.Basics.{put_tells, same_self, one_if-most}
-use Rattle.scholten_core.proofs.Networks.{well_formed}
-use Rattle.scholten_core.proofs.Walks.{along}
 use Rattle.scholten_core.proofs.SharedWalks.{along_extends}
 use Rattle.scholten_core.proofs.CoreInvariant.{CoreInvariant, step_kept}
 use Rattle.scholten_core.proofs.StepCases.{step_cases, settle_label}

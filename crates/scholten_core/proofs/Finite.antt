@@ -1,19 +1,7 @@
 -- No list of events has more enabled ones than its diffusion allows.
-use Rattle.std.proofs.Common.{◌≡◌, ℕ, suc, ◌+◌, ◌*◌, ◌≤◌, Bool, true, false, not, ◌&&◌, cond, List, [], ◌∷◌, length, refl, sym, ap, subst, arith}
-use Rattle.road_graph.specs.GraphData.{GraphData, IsGraph, HasVertex, arc_of}
-use Rattle.path_algebra.specs.Algebra.{Algebra, IsLawful}
-use Rattle.path_algebra.specs.Walks.{IsWalk}
-use Rattle.scholten_core.specs.declared.event.Event.{Event}
-use Rattle.scholten_core.specs.declared.event.Event.TheVariants.{Deliver, Accept}
-use Rattle.scholten_core.specs.Network.{Network, network}
-use Rattle.scholten_core.specs.Diffusion.{CoreState, opening, step, is_enabled, is_message, is_signal, count_enabled}
-use Rattle.scholten_core.specs.Sums.{sum_below, one_if}
-use Rattle.scholten_core.specs.Accounts.{sent_on, is_delivery, is_acceptance, sent_total, delivered_total, accepted_total, label_changes, totals_of}
+use Rattle.scholten_core.proofs.Words.{◌≡◌, ℕ, suc, ◌+◌, ◌*◌, ◌≤◌, Bool, true, false, not, ◌&&◌, cond, List, [], ◌∷◌, length, refl, sym, ap, subst, arith, GraphData, IsGraph, HasVertex, arc_of, Algebra, IsLawful, IsWalk, Event, Deliver, Accept, Network, network, CoreState, opening, step, is_enabled, is_message, is_signal, count_enabled, sum_below, one_if, sent_on, is_delivery, is_acceptance, sent_total, delivered_total, accepted_total, label_changes, totals_of, message_bound, tail-arc, tail-entry, well_formed, sum_zero, sum_add, sum_most, sum_first}
 use Rattle.path_algebra.specs.SimpleWalks.{HasSimpleWalks, simple_walks}
-use Rattle.scholten_core.specs.SimpleWalks.{message_bound}
 use Rattle.scholten_core.proofs.MessagesFollowLabels.{sends_at_most}
-use Rattle.scholten_core.proofs.Networks.{tail-arc, tail-entry, well_formed}
-use Rattle.scholten_core.proofs.Basics.{sum_zero, sum_add, sum_most, sum_first}
 use Rattle.scholten_core.proofs.Counts.{never_more}
 use Rattle.scholten_core.proofs.Falling.{changes_at_most}
 use Rattle.path_algebra.proofs.SimpleWalks.{has_simple_walks}

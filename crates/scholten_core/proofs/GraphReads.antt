@@ -1,10 +1,6 @@
 -- What the code reads of the graph, against the network.
-use Rattle.std.proofs.Common.{◌≡◌, ℕ, ◌≤◌, Bool, true, false, eqb, eqb-true, eq-eqb, inl, inr, sym, ap, ◌∙◌, arith}
-use Rattle.std.proofs.lemmas.Bool.{cases_eq, false≢true}
-use Rattle.road_graph.specs.GraphData.{arc_of}
+use Rattle.scholten_core.proofs.Words.{◌≡◌, ℕ, ◌≤◌, Bool, true, false, eqb, eqb-true, eq-eqb, inl, inr, sym, ap, ◌∙◌, arith, cases_eq, false≢true, arc_of, CoreView, weight-arc}
 use Rattle.scholten_core.specs.Network.{weight_of}
-use Rattle.scholten_core.specs.CoreView.{CoreView}
-use Rattle.scholten_core.proofs.Networks.{weight-arc}
 
 -- the test for the environment's arc
 pub is_entry : (a : ℕ) (r : Bool) → r ≡ eqb a 0 → r ≡ true → a ≡ 0

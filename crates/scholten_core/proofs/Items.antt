@@ -1,18 +1,10 @@
 -- The items that an event makes, against the tokens that it changes.
 use Rattle.std.proofs.Common.{◌≡◌, ◌≢◌, ℕ, Bool, true, false, cond, eqb, ne_eqb, eq-eqb, Option, Some, None, List, [], ◌∷◌, ◌++◌, append-nil, ◌⊎◌, refl, sym, ap, ◌∙◌, subst, inl, inr, Contains}
-use Rattle.std.proofs.lemmas.Bool.{cases_eq, cases_Bool, cond-true, cond-false}
-use Rattle.scholten_core.specs.declared.token.Token.{Token}
-use Rattle.scholten_core.specs.declared.token.Token.TheVariants.{Idle, Message, Held, Signal}
-use Rattle.path_algebra.specs.Algebra.{Algebra, IsLawful}
-use Rattle.scholten_core.specs.Network.{Network, WellFormed}
-use Rattle.scholten_core.specs.Diffusion.{CoreState, is_due, out_idle, pump, arrive, rest, released, freed, settle, sent, extend_label, answer_to}
+use Rattle.scholten_core.proofs.Words.{cases_eq, cases_Bool, cond-true, cond-false, Token, Idle, Message, Held, Signal, Algebra, IsLawful, Network, WellFormed, CoreState, is_due, out_idle, pump, arrive, rest, released, freed, settle, sent, extend_label, answer_to, due_tells, put_tells, put-same, put-other, not_in_empty, here_as, later, head_or_tail, here, Agree}
 use Rattle.scholten_core.specs.declared.item.Item.{Item}
 use Rattle.scholten_core.specs.declared.item.Item.TheVariants.{Message as MessageOn, Signal as SignalOn}
 use Rattle.scholten_core.specs.Items.{item_arc, at, item_of, pump_made, rest_made, settle_made, IsDistinct, IsOutList, Makes}
-use Rattle.scholten_core.proofs.Basics.{due_tells, put_tells, put-same, put-other}
 use Rattle.scholten_core.proofs.CoreInvariant.{CoreInvariant, pumped, arrive_kept, freed_kept}
-use Rattle.road_graph.proofs.Lists.{not_in_empty, here_as, later, head_or_tail, here}
-use Rattle.scholten_core.specs.Shares.{Agree}
 use Rattle.scholten_core.proofs.Shares.{pump_agree, due_agree, out_idle_agree}
 
 cond_append : {X : Type 0} (t : Bool) (i : X) (xs ys : List X) → cond t (i ∷ (xs ++ ys)) (xs ++ ys) ≡ cond t (i ∷ xs) xs ++ ys

@@ -1,3 +1,4 @@
+mod Words
 pub mod Basics
 pub mod Walks
 pub mod CoreInvariant

@@ -1,14 +1,5 @@
 -- In every run, the messages sent on an arc are at most the changes of its tail's label.
-use Rattle.std.proofs.Common.{◌≡◌, ◌≢◌, ℕ, suc, ◌+◌, ◌≤◌, Bool, true, false, not, ◌&&◌, Option, Some, None, List, [], ◌∷◌, refl, sym, ap, ◌∙◌, inl, inr, arith}
-use Rattle.std.proofs.lemmas.Bool.{cases_Bool, cond-true, cond-false, false≢true, and_parts}
-use Rattle.scholten_core.specs.declared.token.Token.{Token}
-use Rattle.scholten_core.specs.declared.token.Token.TheVariants.{Idle, Held}
-use Rattle.scholten_core.specs.declared.event.Event.{Event}
-use Rattle.path_algebra.specs.Algebra.{Algebra, IsLawful}
-use Rattle.scholten_core.specs.Network.{Network, WellFormed}
-use Rattle.scholten_core.specs.Diffusion.{CoreState, opening, put, same_label, run_from, is_message, is_due, out_idle, pump, arrive, freed, settle, step, answer_to}
-use Rattle.scholten_core.specs.Sums.{one_if}
-use Rattle.scholten_core.specs.Accounts.{sent_on, label_changes}
+use Rattle.scholten_core.proofs.Words.{◌≡◌, ◌≢◌, ℕ, suc, ◌+◌, ◌≤◌, Bool, true, false, not, ◌&&◌, Option, Some, None, List, [], ◌∷◌, refl, sym, ap, ◌∙◌, inl, inr, arith, cases_Bool, cond-true, cond-false, false≢true, and_parts, Token, Idle, Held, Event, Algebra, IsLawful, Network, WellFormed, CoreState, opening, put, same_label, run_from, is_message, is_due, out_idle, pump, arrive, freed, settle, step, answer_to, one_if, sent_on, label_changes}
 use Rattle.scholten_core.proofs.Basics.{use_same, due_tells, put_tells, same_self, one_if-most}
 use Rattle.scholten_core.proofs.Ended.{opening_kept}
 use Rattle.scholten_core.proofs.CoreInvariant.{CoreInvariant, arrive_kept, freed_kept, step_kept}

@@ -1,9 +1,5 @@
 -- The loop of pumping: after the first k outgoing arcs.
-use Rattle.std.proofs.Common.{◌≡◌, ◌≢◌, ℕ, ◌+◌, ◌<◌, List, length, get_or, sym, ap, ◌∙◌, subst, inl, inr, arith}
-use Rattle.std.proofs.lemmas.Bool.{cases_eq, cond-false}
-use Rattle.path_algebra.specs.Algebra.{Algebra}
-use Rattle.scholten_core.specs.Network.{Network}
-use Rattle.scholten_core.specs.Diffusion.{CoreState, pump, pump_one}
+use Rattle.scholten_core.proofs.Words.{◌≡◌, ◌≢◌, ℕ, ◌+◌, ◌<◌, List, length, get_or, sym, ap, ◌∙◌, subst, inl, inr, arith, cases_eq, cond-false, Algebra, Network, CoreState, pump, pump_one}
 use Rattle.scholten_core.proofs.Basics.{put-at, put-other, not_due, pumped_same}
 
 module _ {V : Type 0} (A : Algebra V) (N : Network) where

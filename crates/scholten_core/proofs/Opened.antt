@@ -1,17 +1,6 @@
 -- The tables of a fresh core.
-use Rattle.std.proofs.Common.{◌≡◌, ℕ, ◌+◌, false, Option, None, List, [], length, get_or, set, replicate, sym, ap, ◌∙◌, subst, inl, inr, arith, length-set, get_or-set_same, get_or-set_other}
-use Rattle.std.proofs.lemmas.Bool.{cases_lt}
+use Rattle.scholten_core.proofs.Words.{◌≡◌, ℕ, ◌+◌, false, Option, None, List, [], length, get_or, set, replicate, sym, ap, ◌∙◌, subst, inl, inr, arith, length-set, get_or-set_same, get_or-set_other, cases_lt, GraphData, IsGraph, HasVertex, Algebra, Token, Idle, Message, Network, network, CoreState, opening, put, is_idle, CoreView, state_of, network_of, AreDeficits, AreTablesSized, IsRun, network_in, IsDiffusion, tail-entry, put_set}
 use Rattle.std.proofs.lemmas.List.{get_or_past, get_or-replicate, length-replicate}
-use Rattle.road_graph.specs.GraphData.{GraphData, IsGraph, HasVertex}
-use Rattle.path_algebra.specs.Algebra.{Algebra}
-use Rattle.scholten_core.specs.declared.token.Token.{Token}
-use Rattle.scholten_core.specs.declared.token.Token.TheVariants.{Idle, Message}
-use Rattle.scholten_core.specs.Network.{Network, network}
-use Rattle.scholten_core.specs.Diffusion.{CoreState, opening, put, is_idle}
-use Rattle.scholten_core.specs.CoreView.{CoreView, state_of, network_of, AreDeficits, AreTablesSized, IsRun}
-use Rattle.scholten_core.specs.DiffusionData.{network_in, IsDiffusion}
-use Rattle.scholten_core.proofs.Networks.{tail-entry}
-use Rattle.scholten_core.proofs.Basics.{put_set}
 use Rattle.scholten_core.proofs.Counted.{counted_more, idle_counted}
 
 replicate_reads : {X : Type 0} (n : ℕ) (x : X) → ◌≡◌ {A = ℕ → X} (λ j. get_or (replicate n x) j x) (λ j. x)

@@ -1,13 +1,5 @@
 -- Pumping in code: arc by arc, and not at all where nothing is due.
-use Rattle.std.proofs.Common.{◌≡◌, ℕ, ◌+◌, ◌<◌, ◌≤◌, false, Some, List, length, get_or, sym, ap, ◌∙◌, subst, arith}
-use Rattle.std.proofs.lemmas.Bool.{cond-false}
-use Rattle.path_algebra.specs.Algebra.{Algebra, IsLawful}
-use Rattle.scholten_core.specs.Network.{Network}
-use Rattle.scholten_core.specs.Diffusion.{CoreState, improves, is_idle, arrive, freed, pump, pump_one}
-use Rattle.scholten_core.specs.IdleIsTold.{IdleIsTold}
-use Rattle.scholten_core.specs.CoreView.{CoreView, state_of, network_of}
-use Rattle.scholten_core.specs.DiffusionData.{network_in}
-use Rattle.scholten_core.proofs.Basics.{idle-false}
+use Rattle.scholten_core.proofs.Words.{◌≡◌, ℕ, ◌+◌, ◌<◌, ◌≤◌, false, Some, List, length, get_or, sym, ap, ◌∙◌, subst, arith, cond-false, Algebra, IsLawful, Network, CoreState, improves, is_idle, arrive, freed, pump, pump_one, IdleIsTold, CoreView, state_of, network_of, network_in, idle-false}
 use Rattle.scholten_core.proofs.Networks.{OutOf}
 use Rattle.scholten_core.proofs.Offered.{Offered, offered_more, offered_all}
 use Rattle.scholten_core.proofs.Quick.{pump_nothing, pump_alone, quiet_arrival, quiet_acceptance}

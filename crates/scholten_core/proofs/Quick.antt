@@ -1,16 +1,6 @@
 -- Where nothing has to be sent, nothing has to be looked at.
-use Rattle.std.proofs.Common.{◌≡◌, ◌≢◌, ℕ, zero, suc, ◌+◌, Bool, true, false, cond, not, ◌&&◌, ◌||◌, eqb, Option, Some, None, List, [], ◌∷◌, ◌++◌, refl, sym, ap, ◌∙◌, subst, inl, inr, arith, ne_eqb, Contains}
-use Rattle.std.proofs.lemmas.Bool.{cases_eq, cond-false, false≢true, and_right}
-use Rattle.scholten_core.specs.declared.token.Token.TheVariants.{Idle}
-use Rattle.path_algebra.specs.Algebra.{Algebra, IsLawful}
-use Rattle.scholten_core.specs.Network.{Network}
-use Rattle.scholten_core.specs.Diffusion.{CoreState, put, is_idle, is_due, all_below, out_idle, arrive, pump, pump_one, freed, same_label, sent, extend_label, better_of, answer_to}
-use Rattle.scholten_core.specs.Sums.{one_if}
+use Rattle.scholten_core.proofs.Words.{◌≡◌, ◌≢◌, ℕ, zero, suc, ◌+◌, Bool, true, false, cond, not, ◌&&◌, ◌||◌, eqb, Option, Some, None, List, [], ◌∷◌, ◌++◌, refl, sym, ap, ◌∙◌, subst, inl, inr, arith, ne_eqb, Contains, cases_eq, cond-false, false≢true, and_right, Idle, Algebra, IsLawful, Network, CoreState, put, is_idle, is_due, all_below, out_idle, arrive, pump, pump_one, freed, same_label, sent, extend_label, better_of, answer_to, one_if, IdleIsTold, item_of, pump_made, IsDistinct, put_tells, put-same, put-other, due_tells, same_self, not_in_empty, here, later, head_or_tail}
 use Rattle.scholten_core.specs.Deficit.{busy_out}
-use Rattle.scholten_core.specs.IdleIsTold.{IdleIsTold}
-use Rattle.scholten_core.specs.Items.{item_of, pump_made, IsDistinct}
-use Rattle.scholten_core.proofs.Basics.{put_tells, put-same, put-other, due_tells, same_self}
-use Rattle.road_graph.proofs.Lists.{not_in_empty, here, later, head_or_tail}
 
 module _ {V : Type 0} (A : Algebra V) (N : Network) where
   due_differs : (v : ℕ) (d : CoreState V) (b : ℕ) → is_due A N v d b ≡ true → same_label A (d.told b) (d.label v) ≡ true → ⊥

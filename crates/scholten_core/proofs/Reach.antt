@@ -1,17 +1,7 @@
 -- Where all values are the same and no extension refuses, an ended run has sent one message for
 -- each arc whose tail is reached.
-use Rattle.std.proofs.Common.{◌≡◌, ◌≢◌, ℕ, suc, ◌+◌, ◌≤◌, Bool, true, false, not, ◌&&◌, is_some, Option, Some, None, List, [], ◌∷◌, ◌⊎◌, refl, sym, ap, ◌∙◌, inl, inr, arith}
-use Rattle.std.proofs.lemmas.Bool.{cases_eq, cond-true, cond-false, and_from}
-use Rattle.scholten_core.specs.declared.token.Token.TheVariants.{Idle, Message, Held}
-use Rattle.scholten_core.specs.declared.event.Event.{Event}
-use Rattle.path_algebra.specs.Algebra.{Algebra, IsLawful}
-use Rattle.scholten_core.specs.Network.{Network, WellFormed}
-use Rattle.scholten_core.proofs.Walks.{Walk}
-use Rattle.scholten_core.specs.Diffusion.{CoreState, state_after, opening, same_label, run_from, is_message, is_due, out_idle, pump, arrive, released, freed, settle, step, sent, extend_label, answer_to}
-use Rattle.scholten_core.specs.Sums.{sum_below, one_if}
-use Rattle.scholten_core.specs.Accounts.{sent_on, label_changes, count_sent, sent_total}
+use Rattle.scholten_core.proofs.Words.{◌≡◌, ◌≢◌, ℕ, suc, ◌+◌, ◌≤◌, Bool, true, false, not, ◌&&◌, is_some, Option, Some, None, List, [], ◌∷◌, ◌⊎◌, refl, sym, ap, ◌∙◌, inl, inr, arith, cases_eq, cond-true, cond-false, and_from, Idle, Message, Held, Event, Algebra, IsLawful, Network, WellFormed, Walk, CoreState, state_after, opening, same_label, run_from, is_message, is_due, out_idle, pump, arrive, released, freed, settle, step, sent, extend_label, answer_to, sum_below, one_if, sent_on, label_changes, count_sent, sent_total, due_tells, put_tells, sum_zero, sum_add, sum_same, one_if-most}
 use Rattle.scholten_core.proofs.MessagesFollowLabels.{sends_at_most}
-use Rattle.scholten_core.proofs.Basics.{due_tells, put_tells, sum_zero, sum_add, sum_same, one_if-most}
 use Rattle.scholten_core.proofs.Ended.{opening_kept, reached_kept, ended}
 use Rattle.scholten_core.proofs.CoreInvariant.{CoreInvariant, AtMost_arrive, arrive_kept, freed_kept, step_kept}
 use Rattle.scholten_core.proofs.StepCases.{step_cases, released_changes, held_pumped, rest_told, settle_label}

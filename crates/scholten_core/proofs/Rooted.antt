@@ -1,16 +1,7 @@
 -- The engagement order through each event.
-use Rattle.std.proofs.Common.{◌≡◌, ◌≢◌, ℕ, suc, Bool, true, false, cond, eqb, Option, Some, None, List, [], ◌∷◌, ◌⊎◌, refl, sym, ap, ◌∙◌, subst, inl, inr, eq-eqb, ne_eqb, Contains}
-use Rattle.std.proofs.lemmas.Bool.{cases_eq, cond-true, cond-false}
-use Rattle.scholten_core.specs.declared.token.Token.TheVariants.{Message}
-use Rattle.scholten_core.specs.declared.event.Event.{Event}
-use Rattle.path_algebra.specs.Algebra.{Algebra, IsLawful}
-use Rattle.scholten_core.specs.Network.{Network, WellFormed}
-use Rattle.scholten_core.specs.Diffusion.{CoreState, opening, put, pump, arrive, rest, released, freed, step, run_from, out_idle, engaged_by}
-use Rattle.scholten_core.specs.Rooted.{IsEngagementOrder, IsRooted}
-use Rattle.scholten_core.proofs.Basics.{put_tells, put-same, put-other, out_idle-at}
+use Rattle.scholten_core.proofs.Words.{◌≡◌, ◌≢◌, ℕ, suc, Bool, true, false, cond, eqb, Option, Some, None, List, [], ◌∷◌, ◌⊎◌, refl, sym, ap, ◌∙◌, subst, inl, inr, eq-eqb, ne_eqb, Contains, cases_eq, cond-true, cond-false, Message, Event, Algebra, IsLawful, Network, WellFormed, CoreState, opening, put, pump, arrive, rest, released, freed, step, run_from, out_idle, engaged_by, IsEngagementOrder, IsRooted, put_tells, put-same, put-other, out_idle-at, not_in_empty, here, here_as, later, head_or_tail}
 use Rattle.scholten_core.proofs.CoreInvariant.{CoreInvariant}
 use Rattle.scholten_core.proofs.StepCases.{step_cases, run_cases, head_pumped, tail_pumped}
-use Rattle.road_graph.proofs.Lists.{not_in_empty, here, here_as, later, head_or_tail}
 
 module _ {V : Type 0} (A : Algebra V) (N : Network) where
   -- the part of IsRooted that pumping cannot change

@@ -1,13 +1,6 @@
 -- What a running core's tables say of walks, engagements and the end.
 use Rattle.std.proofs.Common.{◌≡◌, ℕ, Option, Some, None, IfSome, [], ◌∷◌, sym, ap, ◌∙◌, subst}
-use Rattle.path_algebra.specs.Algebra.{Algebra, IsLawful}
-use Rattle.path_algebra.specs.Walks.{IsWalkValue}
-use Rattle.scholten_core.specs.declared.token.Token.TheVariants.{Idle, Message, Held}
-use Rattle.scholten_core.specs.Diffusion.{IsQuiet}
-use Rattle.scholten_core.specs.Rooted.{IsRooted}
-use Rattle.scholten_core.specs.Progress.{CanGoOn}
-use Rattle.scholten_core.specs.Reached.{LabelsAreBest}
-use Rattle.scholten_core.specs.CoreView.{CoreView, state_of, network_of, IsRun}
+use Rattle.scholten_core.proofs.Words.{Algebra, IsLawful, IsWalkValue, Idle, Message, Held, IsQuiet, IsRooted, CanGoOn, LabelsAreBest, CoreView, state_of, network_of, IsRun}
 use Rattle.scholten_core.proofs.EveryRun.{labels_are_walk_values, messages_are_walk_values, runs_are_rooted, run_kept_at, ended_is_quiet, ended_is_best}
 use Rattle.scholten_core.proofs.Ending.{run_goes_on}
 

@@ -1,17 +1,6 @@
 -- Every schedule that goes on making enabled events ends its diffusion.
-use Rattle.std.proofs.Common.{◌≡◌, ℕ, zero, suc, ◌+◌, ◌*◌, ◌-◌, ◌≤◌, true, false, List, [], ◌∷◌, ◌++◌, ◌⊎◌, refl, sym, ap, ◌∙◌, inl, inr, arith}
-use Rattle.std.proofs.lemmas.Bool.{cases_eq, cases_Bool, false≢true}
-use Rattle.road_graph.specs.GraphData.{GraphData, IsGraph, HasVertex}
-use Rattle.path_algebra.specs.Algebra.{Algebra, IsLawful}
-use Rattle.scholten_core.specs.declared.token.Token.{Token}
-use Rattle.scholten_core.specs.declared.token.Token.TheVariants.{Idle, Message, Held, Signal}
-use Rattle.scholten_core.specs.declared.event.Event.{Event}
-use Rattle.scholten_core.specs.declared.event.Event.TheVariants.{Deliver, Accept}
-use Rattle.scholten_core.specs.Network.{Network, WellFormed, network}
-use Rattle.scholten_core.specs.Diffusion.{CoreState, opening, step, delivered, accepted, is_enabled, is_message, is_signal, count_enabled, HasEnded}
-use Rattle.scholten_core.specs.SimpleWalks.{message_bound}
+use Rattle.scholten_core.proofs.Words.{◌≡◌, ℕ, zero, suc, ◌+◌, ◌*◌, ◌-◌, ◌≤◌, true, false, List, [], ◌∷◌, ◌++◌, ◌⊎◌, refl, sym, ap, ◌∙◌, inl, inr, arith, cases_eq, cases_Bool, false≢true, GraphData, IsGraph, HasVertex, Algebra, IsLawful, Token, Idle, Message, Held, Signal, Event, Deliver, Accept, Network, WellFormed, network, CoreState, opening, step, delivered, accepted, is_enabled, is_message, is_signal, count_enabled, HasEnded, message_bound, well_formed}
 use Rattle.scholten_core.specs.Progress.{first_events, state_at, GoesOnAt, IsBusySchedule, KeepsGoing, IsFairSchedule}
-use Rattle.scholten_core.proofs.Networks.{well_formed}
 use Rattle.scholten_core.proofs.Ended.{ended}
 use Rattle.scholten_core.proofs.Busy.{never_stuck}
 use Rattle.scholten_core.proofs.Ending.{run_more, count_more}

@@ -1,11 +1,5 @@
 -- The walks of a network are the walks of its graph, with the same values.
-use Rattle.std.proofs.Common.{◌≡◌, ℕ, ◌<◌, Option, Some, None, List, [], ◌∷◌, refl, sym, ap, ◌∙◌, subst, arith}
-use Rattle.road_graph.specs.GraphData.{GraphData, IsGraph, arc_of}
-use Rattle.road_graph.proofs.Lists.{only_element}
-use Rattle.path_algebra.specs.Algebra.{Algebra}
-use Rattle.path_algebra.specs.Walks.{IsWalk, Extends, IsWalkValue}
-use Rattle.scholten_core.specs.Network.{network}
-use Rattle.scholten_core.proofs.Networks.{tail-arc, head-arc, weight-arc, real_arc}
+use Rattle.scholten_core.proofs.Words.{◌≡◌, ℕ, ◌<◌, Option, Some, None, List, [], ◌∷◌, refl, sym, ap, ◌∙◌, subst, arith, GraphData, IsGraph, arc_of, only_element, Algebra, IsWalk, Extends, IsWalkValue, network, tail-arc, head-arc, weight-arc, real_arc}
 use Rattle.scholten_core.proofs.Walks.{Walk, along, along-none, IsValueAt}
 
 module _ {V : Type 0} (A : Algebra V) (g : GraphData) (s : ℕ) where

@@ -1,15 +1,6 @@
 -- An event at a vertex of one shard: it depends on that shard's share alone, and leaves the other
 -- shares as they are.
-use Rattle.std.proofs.Common.{◌≡◌, ◌≢◌, ℕ, zero, suc, Bool, true, false, not, ◌&&◌, ◌||◌, eqb, eqb-true, Option, Some, None, refl, sym, ap, ◌∙◌, subst, inl, inr}
-use Rattle.std.proofs.lemmas.Bool.{cases_eq, cases_Bool, cond-true, cond-false, false≢true}
-use Rattle.scholten_core.specs.declared.token.Token.{Token}
-use Rattle.scholten_core.specs.declared.token.Token.TheVariants.{Idle, Message, Held, Signal}
-use Rattle.scholten_core.specs.declared.event.Event.TheVariants.{Deliver, Accept}
-use Rattle.path_algebra.specs.Algebra.{Algebra, IsLawful}
-use Rattle.scholten_core.specs.Network.{Network, WellFormed}
-use Rattle.scholten_core.specs.Diffusion.{CoreState, put, is_idle, all_below, is_due, out_idle, same_label, pump, arrive, released, freed, settle, settle_tail, delivered, accepted, step, sent, extend_label, better_of, engaged_by, answer_to}
-use Rattle.scholten_core.specs.Shares.{Agree}
-use Rattle.scholten_core.proofs.Basics.{put_tells, put-at, put-other, not_due}
+use Rattle.scholten_core.proofs.Words.{◌≡◌, ◌≢◌, ℕ, zero, suc, Bool, true, false, not, ◌&&◌, ◌||◌, eqb, eqb-true, Option, Some, None, refl, sym, ap, ◌∙◌, subst, inl, inr, cases_eq, cases_Bool, cond-true, cond-false, false≢true, Token, Idle, Message, Held, Signal, Deliver, Accept, Algebra, IsLawful, Network, WellFormed, CoreState, put, is_idle, all_below, is_due, out_idle, same_label, pump, arrive, released, freed, settle, settle_tail, delivered, accepted, step, sent, extend_label, better_of, engaged_by, answer_to, Agree, put_tells, put-at, put-other, not_due}
 use Rattle.scholten_core.proofs.CoreInvariant.{CoreInvariant}
 use Rattle.scholten_core.proofs.StepCases.{head_pumped, tail_pumped}
 

@@ -1,17 +1,9 @@
 -- The trails of a network are the walks of its graph that pass no vertex twice.
-use Rattle.std.proofs.Common.{◌≡◌, ℕ, ◌≤◌, Option, Some, List, [], ◌∷◌, ◌++◌, refl, sym, ap, ◌∙◌, subst, inl, inr, arith, Contains}
+use Rattle.scholten_core.proofs.Words.{◌≡◌, ℕ, ◌≤◌, Option, Some, List, [], ◌∷◌, ◌++◌, refl, sym, ap, ◌∙◌, subst, inl, inr, arith, Contains, GraphData, IsGraph, arc_of, not_in_empty, here, later, only_element, Algebra, IsLawful, IsWalk, Extends, Event, network, state_after, tail-arc, head-arc, weight-arc, real_arc, well_formed}
 use Rattle.std.proofs.lemmas.List.Elements.{Contains-push_cases}
-use Rattle.road_graph.specs.GraphData.{GraphData, IsGraph, arc_of}
-use Rattle.road_graph.proofs.Lists.{not_in_empty, here, later, only_element}
-use Rattle.path_algebra.specs.Algebra.{Algebra, IsLawful}
-use Rattle.path_algebra.specs.Walks.{IsWalk, Extends}
 use Rattle.path_algebra.proofs.Walks.{IsWalk-snoc, Extends-snoc}
-use Rattle.scholten_core.specs.declared.event.Event.{Event}
-use Rattle.scholten_core.specs.Network.{network}
-use Rattle.scholten_core.specs.Diffusion.{state_after}
 use Rattle.path_algebra.specs.SimpleWalks.{vertices_of, AreDistinct}
 use Rattle.scholten_core.specs.SimpleWalks.{HasAtMost, KeepsUp, IsSimpleWalkValue, LabelsAreSimpleWalkValues, MessagesExtendSimpleWalks}
-use Rattle.scholten_core.proofs.Networks.{tail-arc, head-arc, weight-arc, real_arc, well_formed}
 use Rattle.scholten_core.proofs.Trails.{Visits, IsTrail, reached_trails}
 
 -- from the first arc to the last

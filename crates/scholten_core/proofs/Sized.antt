@@ -1,10 +1,5 @@
 -- The tables keep their sizes, and the counters stay right, through each move.
-use Rattle.std.proofs.Common.{◌≡◌, ◌≢◌, ℕ, suc, ◌+◌, ◌-◌, ◌<◌, ◌≤◌, ◌^◌, true, false, Option, List, length, get_or, set, sym, ap, ◌∙◌, subst, arith, length-set, get_or-set_same, get_or-set_other}
-use Rattle.scholten_core.specs.declared.token.Token.{Token}
-use Rattle.scholten_core.specs.declared.token.Token.TheVariants.{Idle, Held}
-use Rattle.scholten_core.specs.Diffusion.{is_idle}
-use Rattle.scholten_core.specs.Deficit.{deficit}
-use Rattle.scholten_core.specs.CoreView.{CoreView, state_of, network_of, AreTablesSized}
+use Rattle.scholten_core.proofs.Words.{◌≡◌, ◌≢◌, ℕ, suc, ◌+◌, ◌-◌, ◌<◌, ◌≤◌, ◌^◌, true, false, Option, List, length, get_or, set, sym, ap, ◌∙◌, subst, arith, length-set, get_or-set_same, get_or-set_other, Token, Idle, Held, is_idle, deficit, CoreView, state_of, network_of, AreTablesSized}
 use Rattle.scholten_core.proofs.Written.{busy_within, reads}
 use Rattle.scholten_core.proofs.Counted.{counted_same, counted_more, counted_less, deficit_least, deficit_most}
 

@@ -1,14 +1,5 @@
 -- What an event does: nothing, or the token of one arc changes and a vertex settles.
-use Rattle.std.proofs.Common.{◌≡◌, ◌≢◌, ℕ, zero, suc, Bool, true, false, Option, Some, None, List, [], ◌∷◌, ◌⊎◌, inl, inr, refl, ap, ◌∙◌, arith}
-use Rattle.scholten_core.specs.declared.token.Token.{Token}
-use Rattle.scholten_core.specs.declared.token.Token.TheVariants.{Idle, Message, Held, Signal}
-use Rattle.scholten_core.specs.declared.event.Event.{Event}
-use Rattle.scholten_core.specs.declared.event.Event.TheVariants.{Deliver, Accept}
-use Rattle.path_algebra.specs.Algebra.{Algebra, IsLawful}
-use Rattle.scholten_core.specs.Network.{Network, WellFormed}
-use Rattle.scholten_core.specs.Diffusion.{CoreState, is_message, is_signal, engaged_by, out_idle, pump, arrive, freed, released, settle, settle_tail, delivered, accepted, step, run_from}
-use Rattle.scholten_core.specs.Accounts.{is_delivery, is_acceptance}
-use Rattle.scholten_core.proofs.Basics.{put_tells, put-same}
+use Rattle.scholten_core.proofs.Words.{◌≡◌, ◌≢◌, ℕ, zero, suc, Bool, true, false, Option, Some, None, List, [], ◌∷◌, ◌⊎◌, inl, inr, refl, ap, ◌∙◌, arith, Token, Idle, Message, Held, Signal, Event, Deliver, Accept, Algebra, IsLawful, Network, WellFormed, CoreState, is_message, is_signal, engaged_by, out_idle, pump, arrive, freed, released, settle, settle_tail, delivered, accepted, step, run_from, is_delivery, is_acceptance, put_tells, put-same}
 use Rattle.scholten_core.proofs.CoreInvariant.{CoreInvariant, pumped, head_real, arrive_kept, freed_kept, pump_kept, step_kept}
 
 module _ {V : Type 0} (A : Algebra V) (N : Network) where

@@ -1,13 +1,5 @@
 -- Labels are values of walks that pass no vertex twice, through each event.
-use Rattle.std.proofs.Common.{◌≡◌, ◌≢◌, ℕ, suc, Bool, true, false, not, Option, Some, None, List, [], ◌∷◌, ◌⊎◌, refl, sym, ap, ◌∙◌, subst, inl, inr}
-use Rattle.std.proofs.lemmas.Bool.{cases_eq, cases_Bool, cond-true, cond-false, false≢true, and_parts, not-true}
-use Rattle.scholten_core.specs.declared.token.Token.TheVariants.{Idle, Message, Signal}
-use Rattle.scholten_core.specs.declared.event.Event.{Event}
-use Rattle.path_algebra.specs.Algebra.{Algebra, IsLawful}
-use Rattle.scholten_core.specs.Network.{Network, WellFormed}
-use Rattle.scholten_core.specs.Diffusion.{CoreState, opening, state_after, pump, arrive, rest, released, freed, step, out_idle, answer_to, improves, better_of}
-use Rattle.scholten_core.proofs.Basics.{put_tells, sent_message}
-use Rattle.scholten_core.proofs.Walks.{AtMost}
+use Rattle.scholten_core.proofs.Words.{◌≡◌, ◌≢◌, ℕ, suc, Bool, true, false, not, Option, Some, None, List, [], ◌∷◌, ◌⊎◌, refl, sym, ap, ◌∙◌, subst, inl, inr, cases_eq, cases_Bool, cond-true, cond-false, false≢true, and_parts, not-true, Idle, Message, Signal, Event, Algebra, IsLawful, Network, WellFormed, CoreState, opening, state_after, pump, arrive, rest, released, freed, step, out_idle, answer_to, improves, better_of, put_tells, sent_message, AtMost}
 use Rattle.scholten_core.proofs.CoreInvariant.{CoreInvariant, pumped, head_real, AtMost_arrive, AtMost_arrived}
 use Rattle.scholten_core.proofs.StepCases.{step_cases, run_cases, tail_real}
 use Rattle.scholten_core.proofs.Ended.{opening_kept}

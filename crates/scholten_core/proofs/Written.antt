@@ -1,13 +1,5 @@
 -- A write to a table changes the state's function at one place.
-use Rattle.std.proofs.Common.{◌≡◌, ℕ, ◌<◌, Bool, true, false, not, ◌&&◌, eq-eqb, Option, Some, None, List, length, get_or, set, refl, sym, ap, ◌∙◌, inl, inr, get_or-set_same, get_or-set_other}
-use Rattle.std.proofs.lemmas.Bool.{cases_eq, cases_lt, cond-true, cond-false}
-use Rattle.std.proofs.lemmas.List.{get_or_past, get_or_default}
-use Rattle.path_algebra.specs.Algebra.{Algebra}
-use Rattle.scholten_core.specs.declared.token.Token.{Token}
-use Rattle.scholten_core.specs.declared.token.Token.TheVariants.{Idle, Message, Signal}
-use Rattle.scholten_core.specs.Network.{Network}
-use Rattle.scholten_core.specs.Diffusion.{CoreState, is_due, is_idle, same_label, sent, extend_label, put, freed, arrive, better_of, engaged_by, answer_to, pump_one, released, rest, out_idle}
-use Rattle.scholten_core.specs.CoreView.{CoreView, state_of}
+use Rattle.scholten_core.proofs.Words.{◌≡◌, ℕ, ◌<◌, Bool, true, false, not, ◌&&◌, eq-eqb, Option, Some, None, List, length, get_or, set, refl, sym, ap, ◌∙◌, inl, inr, get_or-set_same, get_or-set_other, cases_eq, cases_lt, cond-true, cond-false, get_or_past, get_or_default, Algebra, Token, Idle, Message, Signal, Network, CoreState, is_due, is_idle, same_label, sent, extend_label, put, freed, arrive, better_of, engaged_by, answer_to, pump_one, released, rest, out_idle, CoreView, state_of}
 use Rattle.scholten_core.proofs.Basics.{put-at, put-other, idle-true, put_set, same_function}
 
 pub answered_busy : {V : Type 0} (o : Option ℕ) (t : Token V) → t ≡ answer_to o → is_idle t ≡ false

@@ -2,10 +2,7 @@
 use Rattle.std.proofs.Common.{◌≡◌, ◌≢◌, ℕ, ◌<◌, Bool, true, false, Option, Some, None, IfSome, List, [], length, map, get_or, sym, ap, ◌∙◌, subst}
 use Rattle.std.specs.Prelude.{Contains, if◌then◌else◌}
 use Rattle.path_algebra.specs.Walks.{better_label}
-use Rattle.scholten_core.specs.declared.item.Item.{Item}
-use Rattle.scholten_core.specs.declared.item.Item.TheVariants.{Message as MessageOn}
-use Rattle.shard_part.specs.PartState.{PartData}
-use Rattle.shard_part.specs.Part.{IsOutgoing, IsOutgoingTo}
+use Rattle.shard_part.proofs.Words.{Item, MessageOn, PartData, IsOutgoing, IsOutgoingTo}
 use Rattle.shard_part.proofs.Rings.{map_read}
 
 -- what holds of two labels holds of the better one

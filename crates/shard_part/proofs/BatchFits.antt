@@ -4,15 +4,7 @@ use Rattle.std.specs.Prelude.{slice_get, IsTrue, ◌↔◌}
 use Rattle.std.proofs.lemmas.Bool.{cases_eq, leb-true, le-leb, false≢true}
 use Rattle.std.proofs.lemmas.Bool.Decides.{leb_tells}
 use Rattle.std.proofs.lemmas.List.{drop_all, drop_more, length-map}
-use Rattle.path_algebra.specs.Algebra.{Algebra}
-use Rattle.scholten_core.specs.declared.item.Item.{Item}
-use Rattle.scholten_core.specs.Items.{item_arc}
-use Rattle.scholten_core.specs.Sums.{one_if}
-use Rattle.shard_part.specs.PartState.{PartData}
-use Rattle.shard_store.specs.Setup.{network_of, place_in}
-use Rattle.shard_store.specs.Totals.{total, counted, is}
-use Rattle.shard_part.specs.Weights.{part_weight, outs_weight}
-use Rattle.shard_part.specs.LocalInvariant.{LocalInvariant}
+use Rattle.shard_part.proofs.Words.{Algebra, Item, item_arc, one_if, PartData, network_of, place_in, total, counted, is, part_weight, outs_weight, LocalInvariant}
 use Rattle.shard_part.specs.Exchange.{Fits, FitsAlone, FitsBefore}
 use Rattle.shard_part.proofs.Rings.{map_read}
 use Rattle.shard_store.proofs.Totals.{none_of}

@@ -1,27 +1,8 @@
 -- An arc becomes busy, or idle, and the deficit of its tail follows.
-use Rattle.std.proofs.Common.{◌≡◌, ◌≢◌, ℕ, zero, suc, ◌+◌, ◌-◌, ◌<◌, ◌≤◌, ◌^◌, Bool, true, false, not, ◌&&◌, eqb, List, length, set, get_or, ◌⊎◌, inl, inr, refl, sym, ap, ◌∙◌, subst, arith, length-set, get_or-set_same, get_or-set_other, eq-eqb, ne_eqb}
-use Rattle.std.proofs.lemmas.Bool.{cases_eq, cases_lt}
-use Rattle.std.proofs.lemmas.List.{take_all}
-use Rattle.scholten_core.specs.Network.{Network}
-use Rattle.scholten_core.specs.Diffusion.{CoreState, is_idle}
-use Rattle.scholten_core.specs.Sums.{one_if}
-use Rattle.scholten_core.specs.Items.{item_arc}
-use Rattle.shard_store.specs.Tables.{scatter}
-use Rattle.scholten_core.specs.Deficit.{busy_out}
-use Rattle.shard_part.specs.PartState.{PartData, state_in, token_if}
-use Rattle.shard_store.specs.Setup.{network_of, place_in}
-use Rattle.shard_store.specs.Outgoing.{local_vertices, arcs_out}
-use Rattle.shard_store.specs.Totals.{is}
-use Rattle.shard_part.specs.Weights.{part_weight}
-use Rattle.shard_part.specs.LocalInvariant.{engages, idles, LocalInvariant, IsClear}
-use Rattle.shard_store.specs.Queue.{Room}
-use Rattle.shard_store.specs.Rows.{Rows}
-use Rattle.shard_part.specs.Moves.{AreRowDeficits, RepInvariant, IsPlace, IsArcRow}
+use Rattle.shard_part.proofs.Words.{◌≡◌, ◌≢◌, ℕ, zero, suc, ◌+◌, ◌-◌, ◌<◌, ◌≤◌, ◌^◌, Bool, true, false, not, ◌&&◌, eqb, List, length, set, get_or, ◌⊎◌, inl, inr, refl, sym, ap, ◌∙◌, subst, arith, length-set, get_or-set_same, get_or-set_other, eq-eqb, ne_eqb, cases_eq, cases_lt, take_all, Network, CoreState, is_idle, one_if, item_arc, scatter, busy_out, PartData, state_in, token_if, network_of, place_in, local_vertices, arcs_out, is, part_weight, engages, idles, LocalInvariant, IsClear, Room, Rows, AreRowDeficits, RepInvariant, IsPlace, IsArcRow, table_write, table_long, own_apart, own_placed, one_if-most}
 use Rattle.shard_store.proofs.Totals.{sum_at, sum_below_same}
 use Rattle.shard_store.proofs.Counting.{own_arcs_most}
-use Rattle.shard_store.proofs.Places.{table_write, table_long, own_apart, own_placed}
 use Rattle.shard_part.proofs.Moves.{place_at, row_at, arc_below, apart, rebuilt}
-use Rattle.scholten_core.proofs.Basics.{one_if-most}
 
 pub busy_most : {V : Type 0} (N : Network) (v : ℕ) (d : CoreState V) (n : ℕ) → busy_out N v d n ≤ n
 busy_most N v d zero = omega arith

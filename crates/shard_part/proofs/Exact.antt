@@ -1,19 +1,7 @@
 -- What items send, deliver, signal and accept, exactly, and that it is what their events do.
 use Rattle.std.proofs.Common.{◌≡◌, ℕ, ◌+◌, min, List, [], ◌∷◌, ◌++◌, refl, ap, ◌∙◌, subst, arith}
-use Rattle.scholten_core.specs.declared.item.Item.{Item}
-use Rattle.scholten_core.specs.declared.event.Event.{Event}
-use Rattle.path_algebra.specs.Algebra.{Algebra}
-use Rattle.scholten_core.specs.Network.{Network, WellFormed}
-use Rattle.scholten_core.specs.Diffusion.{CoreState, step, run_from}
+use Rattle.shard_part.proofs.Words.{Item, Event, Algebra, Network, WellFormed, CoreState, step, run_from, CoreInvariant, step_kept, counted_on, top, PartData, state_in, event_of, SetupData, network_of, place_in, total, message_weight, signal_weight, made, HandledItemIn, HandledAll, Represents}
 use Rattle.scholten_core.specs.Accounts.{Totals, count_sent, count_signalled, sent_total, delivered_total, signalled_total, accepted_total}
-use Rattle.scholten_core.proofs.CoreInvariant.{CoreInvariant, step_kept}
-use Rattle.shard_store.specs.Tallies.{counted_on, top}
-use Rattle.shard_part.specs.PartState.{PartData, state_in, event_of}
-use Rattle.shard_store.specs.Setup.{SetupData, network_of, place_in}
-use Rattle.shard_store.specs.Totals.{total}
-use Rattle.shard_part.specs.Weights.{message_weight, signal_weight}
-use Rattle.shard_part.specs.Handling.{made, HandledItemIn, HandledAll}
-use Rattle.shard_part.specs.Represents.{Represents}
 use Rattle.shard_part.specs.Exact.{no_totals, plus, done_by, Saturates, RepresentsMoved}
 use Rattle.shard_part.proofs.Showing.{AllLawful, handled_shows, shown_holds}
 use Rattle.shard_part.proofs.TakenCounts.{counts}

@@ -1,19 +1,10 @@
 -- What the graph and the plan say of the arcs and places of a part.
-use Rattle.std.proofs.Common.{◌≡◌, ◌≢◌, ℕ, ◌+◌, ◌<◌, ◌≤◌, List, length, get_or, take, ◌⊎◌, sym, ap, ◌∙◌, subst, inl, inr, arith, Contains}
+use Rattle.shard_part.proofs.Words.{◌≡◌, ◌≢◌, ℕ, ◌+◌, ◌<◌, ◌≤◌, List, length, get_or, take, ◌⊎◌, sym, ap, ◌∙◌, subst, inl, inr, arith, Contains, IsGraph, HasVertex, HasArc, arc_of, SetupData, network_of, place_in, PartData, IsArc, outgoing, local_vertices, arcs_out, Room, Rows, RepInvariant, IsPlace, IsArcRow, IsStrictlyIncreasing, cases_eq}
 use Rattle.std.proofs.lemmas.Grind.{get_or_default_zero}
-use Rattle.road_graph.specs.GraphData.{IsGraph, HasVertex, HasArc, arc_of}
 use Rattle.scholten_core.proofs.Networks.{real_arc, tail-arc, head-arc, tail-entry, head-entry}
 use Rattle.shard_store.specs.Plans.{shard_in, HasPlanned}
-use Rattle.shard_store.specs.Setup.{SetupData, network_of, place_in}
-use Rattle.shard_part.specs.PartState.{PartData, IsArc}
-use Rattle.shard_store.specs.Outgoing.{outgoing, local_vertices, arcs_out}
-use Rattle.shard_store.specs.Queue.{Room}
-use Rattle.shard_store.specs.Rows.{Rows}
-use Rattle.shard_part.specs.Moves.{RepInvariant, IsPlace, IsArcRow}
-use Rattle.std.specs.List.Sorted.{IsStrictlyIncreasing}
 use Rattle.shard_store.proofs.Graphs.{placed_as}
 use Rattle.shard_store.proofs.Places.{arc_at_place, own_increasing, own_all}
-use Rattle.std.proofs.lemmas.Bool.{cases_eq}
 
 module _ {S : Type 0} (t : SetupData S) where
   pub graph_arc : (b : ℕ) → b ≢ 0 → IsArc (network_of t) b → HasArc t.diffusion.roads b

@@ -1,15 +1,6 @@
 -- What a part does to its own tables is what the event does to its share.
-use Rattle.std.proofs.Common.{◌≡◌, ℕ, zero, suc, Bool, true, false, Option, Some, None, refl, sym, ap, ◌∙◌, subst, inl, inr}
-use Rattle.scholten_core.specs.declared.token.Token.TheVariants.{Message, Held, Signal}
-use Rattle.scholten_core.specs.declared.event.Event.TheVariants.{Deliver, Accept}
-use Rattle.scholten_core.specs.declared.item.Item.TheVariants.{Message as MessageOn, Signal as SignalOn}
-use Rattle.path_algebra.specs.Algebra.{Algebra}
-use Rattle.path_algebra.specs.Algebra.{IsLawful as Lawful}
-use Rattle.scholten_core.specs.Network.{Network, WellFormed}
+use Rattle.shard_part.proofs.Words.{◌≡◌, ℕ, zero, suc, Bool, true, false, Option, Some, None, refl, sym, ap, ◌∙◌, subst, inl, inr, Message, Held, Signal, Deliver, Accept, MessageOn, SignalOn, Algebra, Lawful, Network, WellFormed, Agree, arrive_here, rest_here, settle_here, settle_tail_here, taken, put_tells, put-at, put-other}
 use Rattle.scholten_core.specs.Diffusion.{CoreState, is_idle, pump, out_idle, arrive, released, freed, settle, settle_tail, delivered, accepted, step, answer_to}
-use Rattle.scholten_core.specs.Shares.{Agree}
-use Rattle.shard_part.specs.Handling.{arrive_here, rest_here, settle_here, settle_tail_here, taken}
-use Rattle.scholten_core.proofs.Basics.{put_tells, put-at, put-other}
 use Rattle.scholten_core.proofs.CoreInvariant.{CoreInvariant, arrive_kept, freed_kept}
 use Rattle.scholten_core.proofs.StepCases.{held_pumped}
 use Rattle.scholten_core.proofs.Shares.{arrive_agree, pump_agree, freed_agree, out_idle_agree}

@@ -1,25 +1,9 @@
 -- What an event does to the weights of the items that stand.
-use Rattle.std.proofs.Common.{◌≡◌, ◌≢◌, ℕ, zero, suc, ◌+◌, ◌<◌, ◌≤◌, eqb, List, [], ◌∷◌, ◌++◌, sym, ap, ◌∙◌, subst, inl, inr, arith, eq-eqb, eqb-true, Contains}
-use Rattle.std.proofs.lemmas.Bool.{cases_eq, cases_Bool, cond-true, cond-false}
-use Rattle.scholten_core.specs.declared.token.Token.TheVariants.{Idle, Message, Signal}
-use Rattle.scholten_core.specs.declared.event.Event.TheVariants.{Deliver, Accept}
-use Rattle.scholten_core.specs.declared.item.Item.{Item}
-use Rattle.scholten_core.specs.declared.item.Item.TheVariants.{Message as MessageOn, Signal as SignalOn}
-use Rattle.path_algebra.specs.Algebra.{Algebra}
-use Rattle.path_algebra.specs.Algebra.{IsLawful as Lawful}
-use Rattle.scholten_core.specs.Network.{Network, WellFormed}
-use Rattle.scholten_core.specs.Diffusion.{CoreState, settle, arrive, freed, step, delivered, accepted, answer_to}
-use Rattle.scholten_core.specs.Sums.{sum_below}
+use Rattle.shard_part.proofs.Words.{◌≡◌, ◌≢◌, ℕ, zero, suc, ◌+◌, ◌<◌, ◌≤◌, eqb, List, [], ◌∷◌, ◌++◌, sym, ap, ◌∙◌, subst, inl, inr, arith, eq-eqb, eqb-true, Contains, cases_eq, cases_Bool, cond-true, cond-false, Idle, Message, Signal, Deliver, Accept, Item, MessageOn, SignalOn, Algebra, Lawful, Network, WellFormed, CoreState, settle, arrive, freed, step, delivered, accepted, answer_to, sum_below, total, in_flight, at_place, made, CoreInvariant, step_kept, sum_at, total_by_arc, not_in_empty, here_as, later, head_or_tail}
 use Rattle.scholten_core.specs.Items.{at, item_of, Makes, IsOutList, settle_made, IsDistinct}
-use Rattle.shard_store.specs.Totals.{total}
-use Rattle.shard_part.specs.Weights.{in_flight, at_place}
 use Rattle.shard_store.specs.Outgoing.{outgoing, arcs_from}
-use Rattle.shard_part.specs.Handling.{made}
 use Rattle.scholten_core.proofs.Basics.{put-same, put-other, sum_add}
-use Rattle.scholten_core.proofs.CoreInvariant.{CoreInvariant, step_kept}
 use Rattle.scholten_core.proofs.Items.{at-nil, message_makes, signal_makes}
-use Rattle.shard_store.proofs.Totals.{sum_at, total_by_arc}
-use Rattle.road_graph.proofs.Lists.{not_in_empty, here_as, later, head_or_tail}
 
 module _ {V : Type 0} (A : Algebra V) (N : Network) where
   -- arcs past the last are idle

@@ -1,28 +1,8 @@
 -- What the moves do with the item whose turn it is is one item taken.
-use Rattle.std.proofs.Common.{◌≡◌, ◌≢◌, ℕ, zero, suc, ◌<◌, ◌≤◌, Bool, true, false, cond, Option, Some, None, List, [], ◌∷◌, ◌++◌, length, set, get_or, refl, sym, ap, ◌∙◌, subst, inl, inr, arith, length-set, get_or-set_same, get_or-set_other, eqb-true, eq-eqb, Contains}
-use Rattle.std.proofs.lemmas.Bool.{cond-true, cond-false}
-use Rattle.std.specs.List.Sorted.{IsPermutation}
-use Rattle.scholten_core.specs.declared.token.Token.TheVariants.{Idle}
-use Rattle.scholten_core.specs.declared.item.Item.{Item}
-use Rattle.scholten_core.specs.declared.item.Item.TheVariants.{Message as MessageOn, Signal as SignalOn}
-use Rattle.path_algebra.specs.Algebra.{Algebra}
-use Rattle.path_algebra.specs.Algebra.{IsLawful as Lawful}
-use Rattle.scholten_core.specs.Network.{Network, WellFormed}
+use Rattle.shard_part.proofs.Words.{◌≡◌, ◌≢◌, ℕ, zero, suc, ◌<◌, ◌≤◌, Bool, true, false, cond, Option, Some, None, List, [], ◌∷◌, ◌++◌, length, set, get_or, refl, sym, ap, ◌∙◌, subst, inl, inr, arith, length-set, get_or-set_same, get_or-set_other, eqb-true, eq-eqb, Contains, cond-true, cond-false, IsPermutation, Idle, Item, MessageOn, SignalOn, Algebra, Lawful, Network, WellFormed, item_arc, item_of, pump_made, settle_made, IsDistinct, IsOutList, counted_on, top, PartData, state_in, token_if, mine, vertex_of, IsArc, SetupData, network_of, place_in, IsPlanned, Channels, channels_of, message_weight, signal_weight, total, routes, route, arrive_here, settle_here, taken, made, IsInTurn, HandledItemIn, outgoing, Room, Rows, OwnIdleIsTold, table_long, not_in_empty, here_as, head_or_tail}
 use Rattle.scholten_core.specs.Diffusion.{CoreState, put, is_idle, is_due, improves, better_of, engaged_by, answer_to, freed}
-use Rattle.scholten_core.specs.Items.{item_arc, item_of, pump_made, settle_made, IsDistinct, IsOutList}
 use Rattle.scholten_core.proofs.Basics.{put_tells, due_tells, put_set}
-use Rattle.shard_store.specs.Tallies.{counted_on, top}
-use Rattle.shard_part.specs.PartState.{PartData, state_in, token_if, mine, vertex_of, IsArc}
-use Rattle.shard_store.specs.Setup.{SetupData, network_of, place_in, IsPlanned}
-use Rattle.shard_part.specs.Weights.{Channels, channels_of, message_weight, signal_weight}
-use Rattle.shard_store.specs.Totals.{total}
-use Rattle.shard_part.specs.Handling.{routes, route, arrive_here, settle_here, taken, made, IsInTurn, HandledItemIn}
-use Rattle.shard_store.specs.Outgoing.{outgoing}
-use Rattle.shard_store.specs.Queue.{Room}
-use Rattle.shard_store.specs.Rows.{Rows}
 use Rattle.shard_part.specs.Moves.{RepInvariant, IsPopped, engaged_or_answered, offered, offered_all, rested, with_value, with_free, with_taken}
-use Rattle.shard_part.specs.Part.{OwnIdleIsTold}
-use Rattle.shard_store.proofs.Places.{table_long}
 use Rattle.shard_part.proofs.InFlight.{outgoing_is}
 use Rattle.shard_part.proofs.Moves.{formed}
 use Rattle.shard_part.proofs.Graphs.{head_of_arc, head_of_entry, tail_of_arc, tail_of_entry}
@@ -31,7 +11,6 @@ use Rattle.scholten_core.proofs.Quick.{HasTold, quiet_signal, made_nothing, made
 use Rattle.shard_part.proofs.Quick.{quiet_message}
 use Rattle.shard_part.proofs.OffersArePumped.{counted_none, counted_top}
 use Rattle.shard_part.proofs.VertexSettles.{Made, settles, made_after}
-use Rattle.road_graph.proofs.Lists.{not_in_empty, here_as, head_or_tail}
 
 -- the tables have a place for each vertex and each arc, and no counter is past its top
 pub record IsFit {S V : Type 0} (p : PartData S V) : Type 0 where

@@ -1,3 +1,4 @@
+mod Words
 mod InFlight
 mod Here
 mod Quick

@@ -1,23 +1,8 @@
 -- Each move of the tables keeps what the tables keep, and is one write to the part's data.
-use Rattle.std.proofs.Common.{◌≡◌, ◌≢◌, ℕ, suc, ◌+◌, ◌<◌, ◌≤◌, Bool, true, false, ◌&&◌, eqb, Option, Some, None, List, length, set, get_or, ◌⊎◌, inl, inr, refl, sym, ap, ◌∙◌, subst, arith, length-set, get_or-set_same, get_or-set_other, eq-eqb, ne_eqb}
-use Rattle.std.proofs.lemmas.Bool.{cases_eq}
-use Rattle.scholten_core.specs.Network.{WellFormed}
-use Rattle.scholten_core.specs.Sums.{one_if}
-use Rattle.scholten_core.specs.declared.item.Item.{Item}
-use Rattle.scholten_core.specs.Items.{item_arc}
-use Rattle.scholten_core.proofs.Networks.{well_formed}
+use Rattle.shard_part.proofs.Words.{◌≡◌, ◌≢◌, ℕ, suc, ◌+◌, ◌<◌, ◌≤◌, Bool, true, false, ◌&&◌, eqb, Option, Some, None, List, length, set, get_or, ◌⊎◌, inl, inr, refl, sym, ap, ◌∙◌, subst, arith, length-set, get_or-set_same, get_or-set_other, eq-eqb, ne_eqb, cases_eq, WellFormed, one_if, Item, item_arc, well_formed, PartData, state_in, IsArc, network_of, place_in, IsPlanned, local_vertices, arcs_out, is, part_weight, names, engages, idles, LocalInvariant, IsClear, Room, Rows, one_if-most}
 use Rattle.shard_store.specs.Tables.{scatter, IsApart}
-use Rattle.shard_part.specs.PartState.{PartData, state_in, IsArc}
-use Rattle.shard_store.specs.Setup.{network_of, place_in, IsPlanned}
-use Rattle.shard_store.specs.Outgoing.{local_vertices, arcs_out}
-use Rattle.shard_store.specs.Totals.{is}
-use Rattle.shard_part.specs.Weights.{part_weight}
-use Rattle.shard_part.specs.LocalInvariant.{names, engages, idles, LocalInvariant, IsClear}
-use Rattle.shard_store.specs.Queue.{Room}
-use Rattle.shard_store.specs.Rows.{Rows}
 use Rattle.shard_part.specs.Moves.{RepInvariant, IsSeen, AreRowDeficits, IsPlace, IsArcRow}
 use Rattle.shard_store.proofs.Places.{table_read, table_write, table_long, own_apart, own_below, own_placed, arcs_apart, arc_owner}
-use Rattle.scholten_core.proofs.Basics.{one_if-most}
 
 module _ {S V : Type 0} where
   pub formed : (p : PartData S V) (s : ℕ) → IsPlanned p.setup s → WellFormed (network_of p.setup)

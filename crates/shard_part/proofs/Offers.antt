@@ -1,20 +1,9 @@
 -- An arc is offered a label: the code's steps are the definition's.
-use Rattle.std.proofs.Common.{◌≡◌, ◌≢◌, ℕ, suc, Bool, true, false, not, ◌&&◌, eqb, Option, Some, None, List, length, set, get_or, refl, sym, ap, ◌∙◌, subst, inr, eq-eqb, ne_eqb}
-use Rattle.std.proofs.lemmas.Bool.{cond-true}
-use Rattle.path_algebra.specs.Algebra.{Algebra}
-use Rattle.scholten_core.specs.declared.item.Item.TheVariants.{Signal as SignalOn}
-use Rattle.scholten_core.specs.Diffusion.{is_idle, is_due, same_label, extend_label, out_idle}
-use Rattle.road_graph.specs.GraphData.{arc_of}
+use Rattle.shard_part.proofs.Words.{◌≡◌, ◌≢◌, ℕ, suc, Bool, true, false, not, ◌&&◌, eqb, Option, Some, None, List, length, set, get_or, refl, sym, ap, ◌∙◌, subst, inr, eq-eqb, ne_eqb, cond-true, Algebra, SignalOn, is_idle, is_due, same_label, extend_label, out_idle, arc_of, busy_out, shard_in, PartData, state_in, token_if, IsArc, network_of, place_in, Room, Rows}
 use Rattle.scholten_core.proofs.Networks.{weight-arc}
-use Rattle.scholten_core.specs.Deficit.{busy_out}
-use Rattle.shard_store.specs.Plans.{shard_in}
-use Rattle.shard_part.specs.PartState.{PartData, state_in, token_if, IsArc}
-use Rattle.shard_store.specs.Setup.{network_of, place_in}
 use Rattle.shard_part.proofs.Graphs.{arc_in_graph, head_told, shard_is}
 use Rattle.shard_part.proofs.Moves.{mine_at}
 use Rattle.scholten_core.proofs.Quick.{out_idle_counted}
-use Rattle.shard_store.specs.Queue.{Room}
-use Rattle.shard_store.specs.Rows.{Rows}
 use Rattle.shard_part.specs.Moves.{RepInvariant, IsPlace, with_item, with_message, offered, rested, rested_by}
 
 module _ {S V : Type 0} (A : Algebra V) where

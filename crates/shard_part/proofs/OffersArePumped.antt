@@ -1,24 +1,9 @@
 -- Arcs offered one after the other are the arcs pumped at once.
-use Rattle.std.proofs.Common.{◌≡◌, ◌≢◌, ℕ, ◌+◌, ◌<◌, ◌≤◌, Bool, true, false, cond, Option, Some, None, List, [], ◌∷◌, ◌++◌, length, set, get_or, ◌⊎◌, refl, sym, ap, ◌∙◌, subst, inl, inr, arith, length-set, get_or-set_same, get_or-set_other, Contains}
+use Rattle.shard_part.proofs.Words.{◌≡◌, ◌≢◌, ℕ, ◌+◌, ◌<◌, ◌≤◌, Bool, true, false, cond, Option, Some, None, List, [], ◌∷◌, ◌++◌, length, set, get_or, ◌⊎◌, refl, sym, ap, ◌∙◌, subst, inl, inr, arith, length-set, get_or-set_same, get_or-set_other, Contains, cases_eq, cond-true, cond-false, Item, MessageOn, Algebra, Network, item_of, pump_made, IsDistinct, counted_on, top, PartData, state_in, token_if, network_of, place_in, Channels, channels_of, message_weight, signal_weight, total, route, routes, with_message, offered_all, total_append, not_in_empty, here, here_as, later, head_or_tail}
 use Rattle.std.proofs.Math.Nat.{min-le_right, min-eq_left}
-use Rattle.std.proofs.lemmas.Bool.{cases_eq, cond-true, cond-false}
-use Rattle.scholten_core.specs.declared.item.Item.{Item}
-use Rattle.scholten_core.specs.declared.item.Item.TheVariants.{Message as MessageOn}
-use Rattle.path_algebra.specs.Algebra.{Algebra}
-use Rattle.scholten_core.specs.Network.{Network}
 use Rattle.scholten_core.specs.Diffusion.{CoreState, is_idle, is_due, pump, sent, extend_label}
-use Rattle.scholten_core.specs.Items.{item_of, pump_made, IsDistinct}
-use Rattle.shard_store.specs.Tallies.{counted_on, top}
-use Rattle.shard_part.specs.PartState.{PartData, state_in, token_if}
-use Rattle.shard_store.specs.Setup.{network_of, place_in}
-use Rattle.shard_part.specs.Weights.{Channels, channels_of, message_weight, signal_weight}
-use Rattle.shard_store.specs.Totals.{total}
-use Rattle.shard_part.specs.Handling.{route, routes}
-use Rattle.shard_part.specs.Moves.{with_message, offered_all}
-use Rattle.shard_store.proofs.Totals.{total_append}
 use Rattle.shard_part.proofs.Routed.{routes-append}
 use Rattle.scholten_core.proofs.Basics.{due_idle, due_same, pumped_same}
-use Rattle.road_graph.proofs.Lists.{not_in_empty, here, here_as, later, head_or_tail}
 
 pub counted_none : (n : ℕ) → n ≤ top → counted_on 0 n ≡ n
 counted_none n h = min-eq_left (let e : n + 0 ≤ top = omega (arith, h) in e) ∙ (let z : n + 0 ≡ n = omega arith in z)

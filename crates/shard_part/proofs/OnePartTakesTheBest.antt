@@ -1,39 +1,10 @@
 -- The items that the one part of a plan takes, best first, are events that take the best waiting
 -- message first.
-use Rattle.std.proofs.Common.{◌≡◌, ◌≢◌, ◌⊎◌, ℕ, suc, ◌+◌, ◌<◌, ◌≤◌, Bool, cond, List, [], ◌∷◌, ◌++◌, map, set, get_or, refl, sym, ap, ◌∙◌, subst, inl, inr, arith, eq-eqb, ne_eqb, get_or-set_other}
-use Rattle.std.specs.Prelude.{IsTrue, IsSome, All as AllOf}
-use Rattle.std.proofs.lemmas.Bool.{cases_eq, cases_lt, false≢true}
-use Rattle.road_graph.specs.GraphData.{HasArc, arc_of}
-use Rattle.path_algebra.specs.Algebra.{Algebra, IsLawful as Lawful}
-use Rattle.path_algebra.proofs.Least.{same_no_worse}
-use Rattle.scholten_core.specs.declared.token.Token.TheVariants.{Message}
-use Rattle.scholten_core.specs.declared.item.Item.{Item}
-use Rattle.scholten_core.specs.declared.item.Item.TheVariants.{Message as MessageOn, Signal as SignalOn}
-use Rattle.scholten_core.specs.declared.event.Event.{Event}
-use Rattle.scholten_core.specs.Network.{Network, WellFormed}
+use Rattle.shard_part.proofs.Words.{◌≡◌, ◌≢◌, ◌⊎◌, ℕ, suc, ◌+◌, ◌<◌, ◌≤◌, Bool, cond, List, [], ◌∷◌, ◌++◌, map, set, get_or, refl, sym, ap, ◌∙◌, subst, inl, inr, arith, eq-eqb, ne_eqb, get_or-set_other, IsTrue, IsSome, AllOf, cases_eq, cases_lt, false≢true, HasArc, arc_of, Algebra, Lawful, same_no_worse, Message, Item, MessageOn, SignalOn, Event, Network, WellFormed, CoreState, opening, step, run_from, improves, item_of, Agree, sum_term, one_if-most, CoreInvariant, step_kept, opening_kept, token_told, well_formed, BestFirst, is_first, SetupData, network_of, place_in, IsPlanned, total, place_below, total_permutation, PartData, state_in, vertex_of, event_of, mine, Channels, at_place, in_flight, outs_weight, part_weight, route, routes, made, GoesAtOnce, IsInTurn, HandledItemIn, HandledAll, HoldsTables, HoldsShareIn, RepresentsIn, opened_part, opened_parts}
 use Rattle.scholten_core.specs.Accounts.{count_marked}
 use Rattle.scholten_core.specs.BestFirst.{TakesBest, IsBestFirst}
-use Rattle.scholten_core.specs.Diffusion.{CoreState, opening, step, run_from, improves}
-use Rattle.scholten_core.specs.Items.{item_of}
-use Rattle.scholten_core.specs.Shares.{Agree}
-use Rattle.scholten_core.proofs.Basics.{sum_term, one_if-most}
-use Rattle.scholten_core.proofs.CoreInvariant.{CoreInvariant, step_kept}
-use Rattle.scholten_core.proofs.Ended.{opening_kept}
 use Rattle.scholten_core.proofs.EveryRun.{best_first_most}
-use Rattle.scholten_core.proofs.Items.{token_told}
-use Rattle.scholten_core.proofs.Networks.{well_formed}
-use Rattle.shard_store.specs.declared.queue_order.QueueOrder.TheVariants.{BestFirst}
-use Rattle.shard_store.specs.Layout.{is_first}
 use Rattle.shard_store.specs.Queue.{IsNoWorseOn, IsBestMessage}
-use Rattle.shard_store.specs.Setup.{SetupData, network_of, place_in, IsPlanned}
-use Rattle.shard_store.specs.Totals.{total}
-use Rattle.shard_store.proofs.Graphs.{place_below}
-use Rattle.shard_store.proofs.Totals.{total_permutation}
-use Rattle.shard_part.specs.PartState.{PartData, state_in, vertex_of, event_of, mine}
-use Rattle.shard_part.specs.Weights.{Channels, at_place, in_flight, outs_weight, part_weight}
-use Rattle.shard_part.specs.Handling.{route, routes, made, GoesAtOnce, IsInTurn, HandledItemIn, HandledAll}
-use Rattle.shard_part.specs.Represents.{HoldsTables, HoldsShareIn, RepresentsIn}
-use Rattle.shard_part.specs.Opening.{opened_part, opened_parts}
 use Rattle.shard_part.specs.OnePart.{HasOneBestFirstPart, OwnOutboxIsEmpty}
 use Rattle.shard_part.proofs.TakenIsEvent.{Stands, marks, marks_self, marks_true, item_stands, handled_event}
 use Rattle.shard_part.proofs.TakenCounts.{runs, handled_same}

@@ -1,34 +1,6 @@
 -- A part as it is opened keeps what tables and rings keep, and holds its share of the opening.
-use Rattle.std.proofs.Common.{◌≡◌, ◌≢◌, ℕ, zero, suc, ◌+◌, ◌<◌, ◌≤◌, Bool, true, false, not, ◌&&◌, eqb, Some, None, List, [], ◌∷◌, length, set, get_or, replicate, refl, sym, ap, ◌∙◌, subst, inl, inr, arith, length-set, get_or-set_same, get_or-set_other, eqb-true, eq-eqb, ne_eqb}
-use Rattle.std.proofs.lemmas.Bool.{cases_eq, cases_lt}
+use Rattle.shard_part.proofs.Words.{◌≡◌, ◌≢◌, ℕ, zero, suc, ◌+◌, ◌<◌, ◌≤◌, Bool, true, false, not, ◌&&◌, eqb, Some, None, List, [], ◌∷◌, length, set, get_or, replicate, refl, sym, ap, ◌∙◌, subst, inl, inr, arith, length-set, get_or-set_same, get_or-set_other, eqb-true, eq-eqb, ne_eqb, cases_eq, cases_lt, Algebra, Idle, Message, Item, MessageOn, opening, put, is_idle, item_arc, item_of, one_if, put-at, put-other, one_if-most, head-entry, tail-entry, scatter, placed, busy_out, SetupData, network_of, place_in, IsPlanned, PartData, state_in, token_if, vertex_of, maker_of, IsArc, local_vertices, arcs_out, total, is, outs_weight, part_weight, All, at_place, in_flight, engages, idles, names, LocalInvariant, HoldsShareIn, queue_bound, outbox_bound, Room, Rows, idle_rows, abstraction, AreRowDeficits, RepInvariant, is_first, AreOffsets, first_items, opened_part, sum_at, sum_zero, own_apart, place_below, place_source, arcs_first}
 use Rattle.std.proofs.lemmas.List.{get_or_past, get_or-replicate, length-replicate}
-use Rattle.path_algebra.specs.Algebra.{Algebra}
-use Rattle.scholten_core.specs.declared.token.Token.TheVariants.{Idle, Message}
-use Rattle.scholten_core.specs.declared.item.Item.{Item}
-use Rattle.scholten_core.specs.declared.item.Item.TheVariants.{Message as MessageOn}
-use Rattle.scholten_core.specs.Diffusion.{opening, put, is_idle}
-use Rattle.scholten_core.specs.Items.{item_arc, item_of}
-use Rattle.scholten_core.specs.Sums.{one_if}
-use Rattle.scholten_core.proofs.Basics.{put-at, put-other, one_if-most}
-use Rattle.scholten_core.proofs.Networks.{head-entry, tail-entry}
-use Rattle.shard_store.specs.Tables.{scatter, placed}
-use Rattle.scholten_core.specs.Deficit.{busy_out}
-use Rattle.shard_store.specs.Setup.{SetupData, network_of, place_in, IsPlanned}
-use Rattle.shard_part.specs.PartState.{PartData, state_in, token_if, vertex_of, maker_of, IsArc}
-use Rattle.shard_store.specs.Outgoing.{local_vertices, arcs_out}
-use Rattle.shard_store.specs.Totals.{total, is}
-use Rattle.shard_part.specs.Weights.{outs_weight, part_weight, All, at_place, in_flight}
-use Rattle.shard_part.specs.LocalInvariant.{engages, idles, names, LocalInvariant}
-use Rattle.shard_part.specs.Represents.{HoldsShareIn}
-use Rattle.shard_store.specs.Capacities.{queue_bound, outbox_bound}
-use Rattle.shard_store.specs.Queue.{Room}
-use Rattle.shard_store.specs.Rows.{Rows, idle_rows}
-use Rattle.shard_part.specs.Moves.{abstraction, AreRowDeficits, RepInvariant}
-use Rattle.shard_store.specs.Layout.{is_first, AreOffsets}
-use Rattle.shard_part.specs.Opening.{first_items, opened_part}
-use Rattle.shard_store.proofs.Totals.{sum_at, sum_zero}
-use Rattle.shard_store.proofs.Places.{own_apart}
-use Rattle.shard_store.proofs.Graphs.{place_below, place_source, arcs_first}
 
 module _ {X : Type 0} where
   pub reads_same : (n : ℕ) (x : X) (j : ℕ) → get_or (replicate n x) j x ≡ x

@@ -1,18 +1,5 @@
 -- All parts as they are opened show the opening.
-use Rattle.std.proofs.Common.{◌≡◌, ◌≢◌, ℕ, zero, suc, ◌+◌, ◌<◌, ◌≤◌, true, ◌⊎◌, refl, sym, ap, ◌∙◌, inl, inr, arith, eq-eqb, ne_eqb}
-use Rattle.std.proofs.lemmas.Bool.{cases_eq}
-use Rattle.path_algebra.specs.Algebra.{Algebra}
-use Rattle.scholten_core.specs.declared.item.Item.{Item}
-use Rattle.scholten_core.specs.declared.item.Item.TheVariants.{Message as MessageOn}
-use Rattle.scholten_core.specs.Diffusion.{opening}
-use Rattle.scholten_core.specs.Sums.{one_if}
-use Rattle.shard_store.specs.Setup.{SetupData, network_of, place_in, IsPlanned}
-use Rattle.shard_part.specs.PartState.{PartData}
-use Rattle.shard_store.specs.Totals.{total, is}
-use Rattle.shard_part.specs.Weights.{part_weight, All}
-use Rattle.shard_part.specs.Represents.{HoldsTables, RepresentsIn}
-use Rattle.shard_part.specs.Opening.{first_items, opened_part, opened_parts}
-use Rattle.shard_store.proofs.Graphs.{place_below}
+use Rattle.shard_part.proofs.Words.{◌≡◌, ◌≢◌, ℕ, zero, suc, ◌+◌, ◌<◌, ◌≤◌, true, ◌⊎◌, refl, sym, ap, ◌∙◌, inl, inr, arith, eq-eqb, ne_eqb, cases_eq, Algebra, Item, MessageOn, opening, one_if, SetupData, network_of, place_in, IsPlanned, PartData, total, is, part_weight, All, HoldsTables, RepresentsIn, first_items, opened_part, opened_parts, place_below}
 use Rattle.shard_part.proofs.Opened.{opened_weight, opening_weight, opened_holds}
 
 module _ {S : Type 0} (t : SetupData S) (P : IsPlanned t 0) where

@@ -1,18 +1,8 @@
 -- The arcs out of a vertex are offered its label one after the other.
-use Rattle.std.proofs.Common.{◌≡◌, ◌≢◌, ℕ, ◌+◌, ◌<◌, ◌≤◌, Bool, true, false, cond, Option, Some, None, List, [], ◌∷◌, ◌++◌, length, set, get_or, take, refl, sym, ap, ◌∙◌, subst, arith}
+use Rattle.shard_part.proofs.Words.{◌≡◌, ◌≢◌, ℕ, ◌+◌, ◌<◌, ◌≤◌, Bool, true, false, cond, Option, Some, None, List, [], ◌∷◌, ◌++◌, length, set, get_or, take, refl, sym, ap, ◌∙◌, subst, arith, Algebra, OutRoad, WellFormed, is_due, extend_label, improves, SetupData, network_of, PartData, state_in, IsArc, outgoing, local_vertices, Room, Rows, tail-arc}
 use Rattle.std.proofs.lemmas.List.{get_or_read, take_more, take_all}
-use Rattle.path_algebra.specs.Algebra.{Algebra}
-use Rattle.road_graph.specs.declared.OutRoad.{OutRoad}
 use Rattle.road_graph.specs.GraphData.{HasVertex, IsRank, ListsArcsFrom, ListsRoadsFrom, arc_of, road_of, roads_of}
-use Rattle.scholten_core.specs.Network.{WellFormed}
-use Rattle.scholten_core.specs.Diffusion.{is_due, extend_label, improves}
-use Rattle.shard_store.specs.Setup.{SetupData, network_of}
-use Rattle.shard_part.specs.PartState.{PartData, state_in, IsArc}
-use Rattle.shard_store.specs.Outgoing.{outgoing, local_vertices}
-use Rattle.shard_store.specs.Queue.{Room}
-use Rattle.shard_store.specs.Rows.{Rows}
 use Rattle.shard_part.specs.Moves.{RepInvariant, IsPlace, IsArcRow, IsArcOut, with_message, engaged_or_answered, labelled, offered, offered_all, rested, with_value}
-use Rattle.scholten_core.proofs.Networks.{tail-arc}
 use Rattle.shard_part.proofs.Graphs.{arc_in_graph}
 use Rattle.shard_store.proofs.Graphs.{out_is, roads_are, road_is}
 use Rattle.shard_part.proofs.Moves.{formed}

@@ -1,15 +1,5 @@
 -- What an item leaves offered, and when nothing has to be sent.
-use Rattle.std.proofs.Common.{◌≡◌, ◌≢◌, ℕ, zero, suc, Bool, true, false, Option, Some, None, refl, sym, ap, ◌∙◌, subst, inl, inr}
-use Rattle.std.proofs.lemmas.Bool.{cases_eq}
-use Rattle.scholten_core.specs.declared.token.Token.TheVariants.{Idle}
-use Rattle.scholten_core.specs.declared.item.Item.{Item}
-use Rattle.scholten_core.specs.declared.item.Item.TheVariants.{Message as MessageOn, Signal as SignalOn}
-use Rattle.path_algebra.specs.Algebra.{Algebra}
-use Rattle.path_algebra.specs.Algebra.{IsLawful as Lawful}
-use Rattle.scholten_core.specs.Network.{Network, WellFormed}
-use Rattle.scholten_core.specs.Diffusion.{CoreState, is_due, out_idle, pump, freed, better_of}
-use Rattle.shard_part.specs.Handling.{arrive_here, rest_here, settle_here, settle_tail_here, taken}
-use Rattle.scholten_core.proofs.Basics.{put-same, put-other}
+use Rattle.shard_part.proofs.Words.{◌≡◌, ◌≢◌, ℕ, zero, suc, Bool, true, false, Option, Some, None, refl, sym, ap, ◌∙◌, subst, inl, inr, cases_eq, Idle, Item, MessageOn, SignalOn, Algebra, Lawful, Network, WellFormed, CoreState, is_due, out_idle, pump, freed, better_of, arrive_here, rest_here, settle_here, settle_tail_here, taken, put-same, put-other}
 use Rattle.scholten_core.proofs.CoreInvariant.{pumped}
 use Rattle.scholten_core.proofs.Quick.{HasTold, told_not_due}
 

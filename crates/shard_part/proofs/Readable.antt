@@ -1,20 +1,6 @@
 -- The weights say what is where.
-use Rattle.std.proofs.Common.{◌≡◌, ◌≢◌, ℕ, suc, ◌+◌, ◌<◌, Bool, true, false, cond, eqb, List, [], ◌∷◌, ◌++◌, refl, sym, ap, ◌∙◌, arith, eq-eqb, ne_eqb}
-use Rattle.scholten_core.specs.declared.token.Token.{Token}
-use Rattle.scholten_core.specs.declared.token.Token.TheVariants.{Idle, Message, Held, Signal}
-use Rattle.scholten_core.specs.declared.item.Item.{Item}
-use Rattle.scholten_core.specs.declared.item.Item.TheVariants.{Message as MessageOn, Signal as SignalOn}
-use Rattle.path_algebra.specs.Algebra.{Algebra}
-use Rattle.path_algebra.specs.Algebra.{IsLawful as Lawful}
-use Rattle.scholten_core.specs.Network.{Network}
-use Rattle.scholten_core.specs.Diffusion.{CoreState}
-use Rattle.scholten_core.specs.Items.{item_arc, item_of}
-use Rattle.shard_part.specs.PartState.{PartData}
-use Rattle.shard_store.specs.Totals.{total, is}
-use Rattle.shard_part.specs.Weights.{outs_weight, part_weight, mail_weight, at_place, in_flight}
-use Rattle.shard_part.specs.Represents.{RepresentsIn}
+use Rattle.shard_part.proofs.Words.{◌≡◌, ◌≢◌, ℕ, suc, ◌+◌, ◌<◌, Bool, true, false, cond, eqb, List, [], ◌∷◌, ◌++◌, refl, sym, ap, ◌∙◌, arith, eq-eqb, ne_eqb, Token, Idle, Message, Held, Signal, Item, MessageOn, SignalOn, Algebra, Lawful, Network, CoreState, item_arc, item_of, PartData, total, is, outs_weight, part_weight, mail_weight, at_place, in_flight, RepresentsIn, total_append, sum_at, sum_zero}
 use Rattle.shard_part.specs.ItemPlaces.{with_shard, outs_places, part_places, parts_places, mail_places, on, place_of_token}
-use Rattle.shard_store.proofs.Totals.{total_append, sum_at, sum_zero}
 use Rattle.shard_part.proofs.TakenIsEvent.{marks, marks_self, marks_true}
 
 module _ {V : Type 0} where

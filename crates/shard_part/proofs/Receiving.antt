@@ -1,34 +1,11 @@
 -- An outbox is exchanged, a batch joins the queue, and what is read of both.
-use Rattle.std.proofs.Common.{◌≡◌, ◌≢◌, ℕ, zero, suc, ◌+◌, ◌-◌, ◌<◌, ◌≤◌, Bool, true, false, not, ◌&&◌, eqb, Option, Some, None, List, [], ◌∷◌, ◌++◌, length, set, get_or, map, ◌⊎◌, inl, inr, refl, sym, ap, ◌∙◌, subst, arith, eqb-true, eq-eqb, ne_eqb, length-set, get_or-set_other}
-use Rattle.std.specs.Prelude.{IsTrue, ◌↔◌}
-use Rattle.std.proofs.lemmas.Bool.{cases_eq, false≢true}
-use Rattle.std.proofs.lemmas.List.{length-map, map-set}
-use Rattle.shard_store.specs.Queue.{Room, Line}
-use Rattle.path_algebra.specs.Algebra.{Algebra}
-use Rattle.road_graph.specs.GraphData.{IsGraph, HasArc, arc_of}
-use Rattle.scholten_core.specs.declared.item.Item.{Item}
-use Rattle.scholten_core.specs.declared.item.Item.TheVariants.{Message as MessageOn, Signal as SignalOn}
-use Rattle.scholten_core.specs.Diffusion.{is_idle}
-use Rattle.scholten_core.specs.Items.{item_arc}
-use Rattle.scholten_core.specs.Sums.{one_if}
-use Rattle.scholten_core.proofs.Networks.{tail-arc, head-arc}
-use Rattle.shard_part.specs.PartState.{PartData, state_in, token_if, vertex_of, maker_of, IsArc}
-use Rattle.shard_store.specs.Setup.{network_of, place_in}
-use Rattle.shard_part.specs.LocalInvariant.{LocalInvariant, names, engages, idles}
-use Rattle.shard_store.specs.Capacities.{queue_bound, outbox_bound}
-use Rattle.shard_store.specs.Totals.{counted, is}
-use Rattle.shard_part.specs.Weights.{All}
-use Rattle.shard_store.specs.Rows.{Rows}
-use Rattle.shard_part.specs.Moves.{RepInvariant, IsArcRow}
+use Rattle.shard_part.proofs.Words.{◌≡◌, ◌≢◌, ℕ, zero, suc, ◌+◌, ◌-◌, ◌<◌, ◌≤◌, Bool, true, false, not, ◌&&◌, eqb, Option, Some, None, List, [], ◌∷◌, ◌++◌, length, set, get_or, map, ◌⊎◌, inl, inr, refl, sym, ap, ◌∙◌, subst, arith, eqb-true, eq-eqb, ne_eqb, length-set, get_or-set_other, IsTrue, ◌↔◌, cases_eq, false≢true, length-map, map-set, Room, Line, Algebra, IsGraph, HasArc, arc_of, Item, MessageOn, SignalOn, is_idle, item_arc, one_if, tail-arc, head-arc, PartData, state_in, token_if, vertex_of, maker_of, IsArc, network_of, place_in, LocalInvariant, names, engages, idles, queue_bound, outbox_bound, counted, is, All, Rows, RepInvariant, IsArcRow, has_ended, total_append, arcs_first}
 use Rattle.shard_part.specs.Exchange.{Fits, FitsAlone, MayEngage, Awaits}
-use Rattle.shard_part.specs.Readings.{has_ended}
-use Rattle.shard_store.proofs.Totals.{total_append}
 use Rattle.shard_part.proofs.Routed.{outs_none}
 use Rattle.shard_part.proofs.Showing.{all_append}
 use Rattle.shard_part.proofs.RingsSuffice.{sound_fits}
 use Rattle.shard_part.proofs.Moves.{formed}
 use Rattle.shard_part.proofs.Rings.{map_read, map_kept, with_channels}
-use Rattle.shard_store.proofs.Graphs.{arcs_first}
 
 module _ {S V : Type 0} where
   -- the queue is within its capacity

@@ -1,34 +1,11 @@
 -- An item is put into the queue or a ring, where it has room, or taken from the queue.
-use Rattle.std.proofs.Common.{◌≡◌, ◌≢◌, ◌⊎◌, ℕ, zero, suc, ◌<◌, Option, Some, None, List, [], ◌∷◌, ◌++◌, length, length-append, set, get_or, map, refl, sym, ap, ◌∙◌, subst, arith, eq-eqb, ne_eqb, length-set, get_or-set_same}
-use Rattle.std.specs.Prelude.{IfSome, IfNone}
-use Rattle.std.proofs.lemmas.Bool.{cond-true, cond-false}
-use Rattle.std.proofs.lemmas.List.{length-map, map-set}
-use Rattle.shard_store.specs.Queue.{Room, Line}
-use Rattle.scholten_core.specs.declared.item.Item.{Item}
-use Rattle.path_algebra.specs.Algebra.{Algebra}
-use Rattle.scholten_core.specs.Items.{item_arc}
-use Rattle.shard_part.specs.PartState.{PartData, state_in, vertex_of}
-use Rattle.shard_store.specs.Setup.{network_of, place_in}
-use Rattle.shard_part.specs.Weights.{Channels, channels_of, All}
-use Rattle.shard_store.specs.Totals.{is}
-use Rattle.shard_part.specs.Handling.{route, GoesAtOnce, IsInTurn}
-use Rattle.shard_part.specs.LocalInvariant.{LocalInvariant}
-use Rattle.shard_store.specs.Rows.{Rows}
+use Rattle.shard_part.proofs.Words.{◌≡◌, ◌≢◌, ◌⊎◌, ℕ, zero, suc, ◌<◌, Option, Some, None, List, [], ◌∷◌, ◌++◌, length, length-append, set, get_or, map, refl, sym, ap, ◌∙◌, subst, arith, eq-eqb, ne_eqb, length-set, get_or-set_same, IfSome, IfNone, cond-true, cond-false, length-map, map-set, Room, Line, Item, Algebra, item_arc, PartData, state_in, vertex_of, network_of, place_in, Channels, channels_of, All, is, route, GoesAtOnce, IsInTurn, LocalInvariant, Rows, AllOf, IsPermutation, QueueOrder, Arrival, BestFirst, IsBestMessage, Network, CoreState, All-permutation, IsPermutation-refl, total_permutation}
 use Rattle.shard_part.specs.Moves.{RepInvariant, MaySend, put_item, IsPopped}
 use Rattle.shard_part.proofs.Sound.{put_sound}
 use Rattle.shard_part.proofs.RingsSuffice.{sound_fits, sound_out_fits}
 use Rattle.shard_part.proofs.Showing.{is_self}
 use Rattle.shard_part.proofs.Moves.{formed, rebuilt}
-use Rattle.std.specs.Prelude.{All as AllOf}
-use Rattle.std.specs.List.Sorted.{IsPermutation}
-use Rattle.shard_store.specs.declared.queue_order.QueueOrder.{QueueOrder}
-use Rattle.shard_store.specs.declared.queue_order.QueueOrder.TheVariants.{Arrival, BestFirst}
-use Rattle.shard_store.specs.Queue.{IsBestMessage}
-use Rattle.scholten_core.specs.Network.{Network}
-use Rattle.scholten_core.specs.Diffusion.{CoreState}
-use Rattle.std.proofs.lemmas.List.Sorted.{All-permutation, IsPermutation-refl}
 use Rattle.std.proofs.lemmas.List.Elements.{All-nil, All-cons}
-use Rattle.shard_store.proofs.Totals.{total_permutation}
 
 pub map_read : {X Y : Type 0} (f : X → Y) (rs : List X) (k : ℕ) (d : Y) (x : X) → k < length rs → x ≡ get_or rs k x → get_or (map f rs) k d ≡ f x
 map_read f [] k d x l e = absurd (omega (arith, l))

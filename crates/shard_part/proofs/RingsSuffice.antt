@@ -1,21 +1,8 @@
 -- A part that is sound by itself never outgrows its queue; a part that holds its share is sound.
-use Rattle.std.proofs.Common.{◌≡◌, ℕ, suc, ◌<◌, ◌≤◌, Bool, true, false, ◌||◌, List, [], ◌∷◌, length, get_or, ◌⊎◌, refl, ap, ◌∙◌, inl, inr, arith, eq-eqb, ne_eqb, sym, eqb}
-use Rattle.std.proofs.lemmas.Bool.{cases_eq, and_from, cond-true, cond-false}
-use Rattle.scholten_core.specs.declared.item.Item.{Item}
-use Rattle.scholten_core.specs.declared.item.Item.TheVariants.{Message as MessageOn, Signal as SignalOn}
-use Rattle.path_algebra.specs.Algebra.{Algebra}
-use Rattle.scholten_core.specs.Network.{Network, WellFormed}
-use Rattle.scholten_core.specs.Sums.{sum_below, one_if}
-use Rattle.scholten_core.specs.Items.{item_arc, at}
-use Rattle.shard_part.specs.PartState.{PartData, IsArc, vertex_of, maker_of}
-use Rattle.shard_store.specs.Totals.{total, counted, is}
-use Rattle.shard_part.specs.Weights.{All}
-use Rattle.shard_part.specs.LocalInvariant.{LocalInvariant}
+use Rattle.shard_part.proofs.Words.{◌≡◌, ℕ, suc, ◌<◌, ◌≤◌, Bool, true, false, ◌||◌, List, [], ◌∷◌, length, get_or, ◌⊎◌, refl, ap, ◌∙◌, inl, inr, arith, eq-eqb, ne_eqb, sym, eqb, cases_eq, and_from, cond-true, cond-false, Item, MessageOn, SignalOn, Algebra, Network, WellFormed, sum_below, one_if, item_arc, at, PartData, IsArc, vertex_of, maker_of, total, counted, is, All, LocalInvariant, total_by_arc, sum_most}
 use Rattle.shard_store.specs.Capacities.{touches, queue_bound, joins, outbox_bound}
 use Rattle.scholten_core.proofs.Items.{at-skip, at-nil}
-use Rattle.shard_store.proofs.Totals.{total_by_arc}
 use Rattle.shard_part.proofs.Room.{each_one, outs_member}
-use Rattle.scholten_core.proofs.Basics.{sum_most}
 
 count_at : {V : Type 0} (b : ℕ) (xs : List (Item V)) → counted b xs ≡ length (at b xs)
 unfolding at

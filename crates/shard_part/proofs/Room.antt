@@ -1,23 +1,7 @@
 -- A queue with a place for each arc of its shard, and a ring with one for each arc of its pair of
 -- shards, are never too small.
-use Rattle.std.proofs.Common.{◌≡◌, ◌≢◌, ℕ, zero, suc, ◌+◌, ◌≤◌, Bool, true, false, ◌||◌, eqb, Some, List, [], ◌∷◌, length, get_or, refl, sym, ap, ◌∙◌, inl, inr, arith, ne_eqb}
-use Rattle.std.proofs.lemmas.Bool.{cases_eq}
-use Rattle.scholten_core.specs.declared.token.Token.{Token}
-use Rattle.scholten_core.specs.declared.token.Token.TheVariants.{Idle, Message, Held, Signal}
-use Rattle.scholten_core.specs.declared.item.Item.{Item}
-use Rattle.path_algebra.specs.Algebra.{Algebra}
-use Rattle.scholten_core.specs.Network.{Network}
-use Rattle.scholten_core.specs.Diffusion.{CoreState, is_idle}
-use Rattle.scholten_core.specs.Sums.{sum_below, one_if}
-use Rattle.scholten_core.specs.Items.{item_arc, item_of}
-use Rattle.shard_part.specs.PartState.{PartData, state_in, mine}
-use Rattle.shard_store.specs.Totals.{total, is}
-use Rattle.shard_part.specs.Weights.{outs_weight, part_weight, at_place}
-use Rattle.shard_part.specs.Represents.{HoldsShareIn, HoldsTables}
-use Rattle.shard_store.specs.Capacities.{touches, queue_bound}
-use Rattle.scholten_core.proofs.CoreInvariant.{CoreInvariant}
+use Rattle.shard_part.proofs.Words.{◌≡◌, ◌≢◌, ℕ, zero, suc, ◌+◌, ◌≤◌, Bool, true, false, ◌||◌, eqb, Some, List, [], ◌∷◌, length, get_or, refl, sym, ap, ◌∙◌, inl, inr, arith, ne_eqb, cases_eq, Token, Idle, Message, Held, Signal, Item, Algebra, Network, CoreState, is_idle, sum_below, one_if, item_arc, item_of, PartData, state_in, mine, total, is, outs_weight, part_weight, at_place, HoldsShareIn, HoldsTables, touches, queue_bound, CoreInvariant, sum_most}
 use Rattle.shard_part.proofs.Showing.{is_self}
-use Rattle.scholten_core.proofs.Basics.{sum_most}
 
 pub sum_none_of : (f : ℕ → ℕ) (a n : ℕ) → n ≤ a → ((b : ℕ) → b ≢ a → f b ≡ 0) → sum_below f n ≡ 0
 sum_none_of f a zero l h = refl

@@ -1,13 +1,5 @@
 -- What is routed adds its weight to the part's lists.
-use Rattle.std.proofs.Common.{◌≡◌, ℕ, zero, suc, ◌+◌, ◌<◌, Bool, cond, List, [], ◌∷◌, ◌++◌, length, set, get_or, refl, sym, ap, ◌∙◌, subst, inl, inr, arith, eq-eqb, ne_eqb, length-set}
-use Rattle.std.proofs.lemmas.Bool.{cases_eq}
-use Rattle.scholten_core.specs.declared.item.Item.{Item}
-use Rattle.scholten_core.specs.Network.{Network}
-use Rattle.shard_part.specs.Weights.{Channels, outs_weight, channels_weight, at_place}
-use Rattle.shard_store.specs.Totals.{total}
-use Rattle.shard_part.specs.PartState.{vertex_of}
-use Rattle.shard_part.specs.Handling.{route, routes}
-use Rattle.shard_store.proofs.Totals.{total_append}
+use Rattle.shard_part.proofs.Words.{◌≡◌, ℕ, zero, suc, ◌+◌, ◌<◌, Bool, cond, List, [], ◌∷◌, ◌++◌, length, set, get_or, refl, sym, ap, ◌∙◌, subst, inl, inr, arith, eq-eqb, ne_eqb, length-set, cases_eq, Item, Network, Channels, outs_weight, channels_weight, at_place, total, vertex_of, route, routes, total_append}
 
 module _ {V : Type 0} where
   outs_push : (h : ℕ → Item V → ℕ) (i t : ℕ) (os : List (List (Item V))) (x : Item V) → t < length os → outs_weight h i (set os t (get_or os t [] ++ x ∷ [])) ≡ outs_weight h i os + h (i + t) x

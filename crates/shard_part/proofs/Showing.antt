@@ -1,20 +1,5 @@
 -- Parts and mailboxes show a state: an item is taken, a batch moves.
-use Rattle.std.proofs.Common.{◌≡◌, ◌≢◌, ℕ, ◌+◌, true, List, [], ◌∷◌, ◌++◌, length, set, get_or, refl, sym, ap, ◌∙◌, subst, arith, eq-eqb, length-set}
-use Rattle.scholten_core.specs.declared.item.Item.{Item}
-use Rattle.path_algebra.specs.Algebra.{Algebra}
-use Rattle.path_algebra.specs.Algebra.{IsLawful as Lawful}
-use Rattle.scholten_core.specs.Network.{Network, WellFormed}
-use Rattle.scholten_core.specs.Diffusion.{CoreState, step, is_enabled}
-use Rattle.scholten_core.specs.Sums.{one_if}
-use Rattle.scholten_core.specs.Shares.{Agree}
-use Rattle.shard_store.specs.Setup.{SetupData, network_of, place_in}
-use Rattle.shard_part.specs.PartState.{PartData, state_in, event_of, mine}
-use Rattle.shard_store.specs.Totals.{total, is}
-use Rattle.shard_part.specs.Weights.{part_weight, mail_weight, All}
-use Rattle.shard_part.specs.Handling.{HandledItemIn, HandledItem}
-use Rattle.shard_part.specs.Represents.{HoldsTables, HoldsShareIn, RepresentsIn, Represents}
-use Rattle.scholten_core.proofs.CoreInvariant.{CoreInvariant}
-use Rattle.shard_store.proofs.Totals.{total_append}
+use Rattle.shard_part.proofs.Words.{◌≡◌, ◌≢◌, ℕ, ◌+◌, true, List, [], ◌∷◌, ◌++◌, length, set, get_or, refl, sym, ap, ◌∙◌, subst, arith, eq-eqb, length-set, Item, Algebra, Lawful, Network, WellFormed, CoreState, step, is_enabled, one_if, Agree, SetupData, network_of, place_in, PartData, state_in, event_of, mine, total, is, part_weight, mail_weight, All, HandledItemIn, HandledItem, HoldsTables, HoldsShareIn, RepresentsIn, Represents, CoreInvariant, total_append}
 use Rattle.shard_part.proofs.Routed.{outs_none}
 use Rattle.shard_part.proofs.TakenIsEvent.{handled_event}
 

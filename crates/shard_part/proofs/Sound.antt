@@ -1,16 +1,5 @@
 -- What a part knows by itself stays so with each item.
-use Rattle.std.proofs.Common.{◌≡◌, ℕ, ◌+◌, ◌<◌, cond, [], ◌∷◌, ◌++◌, length, set, get_or, refl, sym, ap, subst, inl, inr, arith, eq-eqb, ne_eqb, get_or-set_same, get_or-set_other}
-use Rattle.std.proofs.lemmas.Bool.{cases_eq}
-use Rattle.scholten_core.specs.declared.item.Item.{Item}
-use Rattle.path_algebra.specs.Algebra.{Algebra}
-use Rattle.scholten_core.specs.Network.{Network, WellFormed}
-use Rattle.scholten_core.specs.Sums.{one_if}
-use Rattle.scholten_core.specs.Items.{item_arc}
-use Rattle.shard_part.specs.PartState.{PartData, state_in, IsArc, vertex_of, maker_of}
-use Rattle.shard_part.specs.Weights.{Channels, channels_of, All, part_weight}
-use Rattle.shard_store.specs.Totals.{is}
-use Rattle.shard_part.specs.LocalInvariant.{engages, idles, LocalInvariant}
-use Rattle.shard_part.specs.Handling.{route}
+use Rattle.shard_part.proofs.Words.{◌≡◌, ℕ, ◌+◌, ◌<◌, cond, [], ◌∷◌, ◌++◌, length, set, get_or, refl, sym, ap, subst, inl, inr, arith, eq-eqb, ne_eqb, get_or-set_same, get_or-set_other, cases_eq, Item, Algebra, Network, WellFormed, one_if, item_arc, PartData, state_in, IsArc, vertex_of, maker_of, Channels, channels_of, All, part_weight, is, engages, idles, LocalInvariant, route}
 use Rattle.shard_part.proofs.Showing.{all_append}
 use Rattle.shard_part.proofs.Routed.{routed}
 

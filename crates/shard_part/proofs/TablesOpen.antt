@@ -1,21 +1,10 @@
 -- What was counted of a shard makes the tables of its opened part.
-use Rattle.std.proofs.Common.{◌≡◌, ℕ, ◌≤◌, ◌^◌, Bool, true, eqb, List, [], ◌∷◌, length, set, get_or, replicate, refl, sym, ap, ◌∙◌, subst, arith, length-set, get_or-set_other, eqb-true}
+use Rattle.shard_part.proofs.Words.{◌≡◌, ℕ, ◌≤◌, ◌^◌, Bool, true, eqb, List, [], ◌∷◌, length, set, get_or, replicate, refl, sym, ap, ◌∙◌, subst, arith, length-set, get_or-set_other, eqb-true, Algebra, Item, sum_below, one_if, placed, SetupData, network_of, place_in, IsPlanned, local_vertices, total, outbox_bound, queue_bound, abstraction, RepInvariant, first_items, opened_part, place_below, place_source}
 use Rattle.shard_store.specs.Queue.{Line, line, room}
-use Rattle.path_algebra.specs.Algebra.{Algebra}
-use Rattle.scholten_core.specs.declared.item.Item.{Item}
-use Rattle.scholten_core.specs.Sums.{sum_below, one_if}
-use Rattle.shard_store.specs.Tables.{placed}
-use Rattle.shard_store.specs.Setup.{SetupData, network_of, place_in, IsPlanned}
-use Rattle.shard_store.specs.Outgoing.{local_vertices}
-use Rattle.shard_store.specs.Totals.{total}
-use Rattle.shard_store.specs.Capacities.{outbox_bound, queue_bound}
 use Rattle.shard_store.specs.Rows.{Rows, idle_rows, AreIdle}
-use Rattle.shard_part.specs.Moves.{abstraction, RepInvariant}
 use Rattle.shard_store.specs.Layout.{ShardLayoutData, is_first, AreOffsets, CountsAll, layout_view}
-use Rattle.shard_part.specs.Opening.{first_items, opened_part}
 use Rattle.shard_store.proofs.Counting.{total_index}
 use Rattle.shard_store.proofs.CapacitiesByVertex.{capacities_sum, queue_bound_most, queue_bound_first}
-use Rattle.shard_store.proofs.Graphs.{place_below, place_source}
 use Rattle.shard_part.proofs.Opened.{opened_seen, opened_stored}
 
 module _ (w : ShardLayoutData) (P : IsPlanned w.setup w.shard) where

@@ -1,28 +1,8 @@
 -- Items that a part takes are events of each state of which it holds its share, and its counters
 -- count what these events do.
-use Rattle.std.proofs.Common.{◌≡◌, ℕ, suc, ◌+◌, ◌≤◌, true, List, [], ◌∷◌, ◌++◌, length, map, refl, sym, ap, ◌∙◌, subst, arith}
-use Rattle.std.proofs.lemmas.Bool.{cond-true}
-use Rattle.scholten_core.specs.declared.token.Token.{Token}
-use Rattle.scholten_core.specs.declared.token.Token.TheVariants.{Idle, Message, Held, Signal}
-use Rattle.scholten_core.specs.declared.item.Item.{Item}
-use Rattle.scholten_core.specs.declared.item.Item.TheVariants.{Message as MessageOn, Signal as SignalOn}
-use Rattle.scholten_core.specs.declared.event.Event.{Event}
-use Rattle.path_algebra.specs.Algebra.{Algebra}
-use Rattle.path_algebra.specs.Algebra.{IsLawful as Lawful}
-use Rattle.scholten_core.specs.Network.{Network, WellFormed}
-use Rattle.scholten_core.specs.Diffusion.{CoreState, step, run_from, opening, state_after, count_enabled, is_enabled, is_message, is_signal}
+use Rattle.shard_part.proofs.Words.{◌≡◌, ℕ, suc, ◌+◌, ◌≤◌, true, List, [], ◌∷◌, ◌++◌, length, map, refl, sym, ap, ◌∙◌, subst, arith, cond-true, Token, Idle, Message, Held, Signal, Item, MessageOn, SignalOn, Event, Algebra, Lawful, Network, WellFormed, CoreState, step, run_from, opening, state_after, count_enabled, is_enabled, is_message, is_signal, sum_below, one_if, item_of, CoreInvariant, step_kept, run_kept, opening_kept, counted_on, top, PartData, state_in, event_of, SetupData, network_of, place_in, total, message_weight, signal_weight, in_flight, part_weight, made, HandledItemIn, HandledAll}
 use Rattle.scholten_core.specs.Accounts.{count_sent, count_signalled, is_delivery, is_acceptance, sent_total, delivered_total, signalled_total, accepted_total}
-use Rattle.scholten_core.specs.Sums.{sum_below, one_if}
-use Rattle.scholten_core.specs.Items.{item_of}
-use Rattle.scholten_core.proofs.CoreInvariant.{CoreInvariant, step_kept, run_kept}
-use Rattle.scholten_core.proofs.Ended.{opening_kept}
 use Rattle.scholten_core.proofs.Counts.{accounts}
-use Rattle.shard_store.specs.Tallies.{counted_on, top}
-use Rattle.shard_part.specs.PartState.{PartData, state_in, event_of}
-use Rattle.shard_store.specs.Setup.{SetupData, network_of, place_in}
-use Rattle.shard_store.specs.Totals.{total}
-use Rattle.shard_part.specs.Weights.{message_weight, signal_weight, in_flight, part_weight}
-use Rattle.shard_part.specs.Handling.{made, HandledItemIn, HandledAll}
 use Rattle.shard_part.specs.Represents.{HoldsShareIn, HoldsShare, core_of}
 use Rattle.shard_part.specs.Moves.{IsTallied}
 use Rattle.shard_part.specs.Part.{HandledMany, IsRunOn}

@@ -1,26 +1,6 @@
 -- One item taken by one part is one enabled event of every state of which the part holds its share.
-use Rattle.std.proofs.Common.{◌≡◌, ◌≢◌, ℕ, zero, suc, ◌+◌, ◌<◌, Bool, true, false, ◌&&◌, eqb, List, [], ◌∷◌, ◌++◌, length, refl, sym, ap, ◌∙◌, subst, arith, eq-eqb, ne_eqb, eqb-true}
+use Rattle.shard_part.proofs.Words.{◌≡◌, ◌≢◌, ℕ, zero, suc, ◌+◌, ◌<◌, Bool, true, false, ◌&&◌, eqb, List, [], ◌∷◌, ◌++◌, length, refl, sym, ap, ◌∙◌, subst, arith, eq-eqb, ne_eqb, eqb-true, IsPermutation, Token, Idle, Message, Held, Signal, Accept, Item, MessageOn, SignalOn, Algebra, same_no_worse, Lawful, Network, WellFormed, CoreState, arrive, freed, step, answer_to, is_enabled, is_message, is_signal, one_if, item_arc, item_of, settle_made, Agree, PartData, state_in, vertex_of, event_of, mine, total, in_flight, at_place, channels_weight, channels_of, part_weight, outgoing, taken, made, arrive_here, HandledItemIn, HoldsTables, HoldsShareIn}
 use Rattle.std.proofs.lemmas.Bool.{false≢true, and_parts, and_from}
-use Rattle.std.specs.List.Sorted.{IsPermutation}
-use Rattle.scholten_core.specs.declared.token.Token.{Token}
-use Rattle.scholten_core.specs.declared.token.Token.TheVariants.{Idle, Message, Held, Signal}
-use Rattle.scholten_core.specs.declared.event.Event.TheVariants.{Accept}
-use Rattle.scholten_core.specs.declared.item.Item.{Item}
-use Rattle.scholten_core.specs.declared.item.Item.TheVariants.{Message as MessageOn, Signal as SignalOn}
-use Rattle.path_algebra.specs.Algebra.{Algebra}
-use Rattle.path_algebra.proofs.Least.{same_no_worse}
-use Rattle.path_algebra.specs.Algebra.{IsLawful as Lawful}
-use Rattle.scholten_core.specs.Network.{Network, WellFormed}
-use Rattle.scholten_core.specs.Diffusion.{CoreState, arrive, freed, step, answer_to, is_enabled, is_message, is_signal}
-use Rattle.scholten_core.specs.Sums.{one_if}
-use Rattle.scholten_core.specs.Items.{item_arc, item_of, settle_made}
-use Rattle.scholten_core.specs.Shares.{Agree}
-use Rattle.shard_part.specs.PartState.{PartData, state_in, vertex_of, event_of, mine}
-use Rattle.shard_store.specs.Totals.{total}
-use Rattle.shard_part.specs.Weights.{in_flight, at_place, channels_weight, channels_of, part_weight}
-use Rattle.shard_store.specs.Outgoing.{outgoing}
-use Rattle.shard_part.specs.Handling.{taken, made, arrive_here, HandledItemIn}
-use Rattle.shard_part.specs.Represents.{HoldsTables, HoldsShareIn}
 use Rattle.scholten_core.proofs.CoreInvariant.{CoreInvariant, head_real}
 use Rattle.scholten_core.proofs.Shares.{agree_then, message_frame, signal_frame, freed_agree}
 use Rattle.shard_part.proofs.Here.{arrive_here_agree, message_here, signal_here}

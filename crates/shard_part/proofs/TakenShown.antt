@@ -1,19 +1,6 @@
 -- Parts and mailboxes show a state: where one part takes items, they show the state after the
 -- events of these.
-use Rattle.std.proofs.Common.{◌≡◌, ℕ, List, [], ◌∷◌, ◌++◌, length, map, refl, sym, ◌∙◌, subst, arith}
-use Rattle.std.proofs.lemmas.Bool.{cond-true}
-use Rattle.std.proofs.lemmas.List.{length-map}
-use Rattle.scholten_core.specs.declared.item.Item.{Item}
-use Rattle.scholten_core.specs.declared.event.Event.{Event}
-use Rattle.path_algebra.specs.Algebra.{Algebra}
-use Rattle.scholten_core.specs.Network.{WellFormed}
-use Rattle.scholten_core.specs.Diffusion.{CoreState, step, run_from, opening, state_after, count_enabled, is_enabled}
-use Rattle.scholten_core.proofs.CoreInvariant.{CoreInvariant, step_kept, run_kept}
-use Rattle.scholten_core.proofs.Ended.{opening_kept}
-use Rattle.shard_part.specs.PartState.{PartData, event_of}
-use Rattle.shard_store.specs.Setup.{SetupData, network_of}
-use Rattle.shard_part.specs.Handling.{HandledAll}
-use Rattle.shard_part.specs.Represents.{Represents, core_of}
+use Rattle.shard_part.proofs.Words.{◌≡◌, ℕ, List, [], ◌∷◌, ◌++◌, length, map, refl, sym, ◌∙◌, subst, arith, cond-true, length-map, Item, Event, Algebra, WellFormed, CoreState, step, run_from, opening, state_after, count_enabled, is_enabled, CoreInvariant, step_kept, run_kept, opening_kept, PartData, event_of, SetupData, network_of, HandledAll, Represents, core_of}
 use Rattle.shard_part.specs.Part.{HandledMany, IsShownOn}
 use Rattle.shard_part.proofs.Showing.{AllLawful, handled_shows}
 use Rattle.shard_part.proofs.TakenCounts.{run_append}

@@ -1,22 +1,10 @@
 -- How a part finds the item whose turn it is: none that is ranked goes before the newest has been
 -- looked at.
-use Rattle.std.proofs.Common.{◌≡◌, ◌⊎◌, ℕ, ◌+◌, ◌-◌, ◌<◌, ◌≤◌, Option, Some, None, List, [], ◌∷◌, ◌++◌, length, get_or, refl, sym, ap, ◌∙◌, subst, arith, inl, inr, Contains, Bool, length-append}
-use Rattle.std.specs.Prelude.{IfSome, IfNone}
-use Rattle.std.specs.List.Sorted.{IsPermutation, IsStrictlyIncreasing}
+use Rattle.shard_part.proofs.Words.{◌≡◌, ◌⊎◌, ℕ, ◌+◌, ◌-◌, ◌<◌, ◌≤◌, Option, Some, None, List, [], ◌∷◌, ◌++◌, length, get_or, refl, sym, ap, ◌∙◌, subst, arith, inl, inr, Contains, Bool, length-append, IfSome, IfNone, IsPermutation, IsStrictlyIncreasing, Algebra, Item, MessageOn, SignalOn, improves, item_arc, Rows, network_of, place_in, BestFirst, PartData, state_in, vertex_of, IsArc, GoesAtOnce}
 use Rattle.std.proofs.lemmas.List.Sorted.{IsPermutation-to_front, IsPermutation-trans}
-use Rattle.path_algebra.specs.Algebra.{Algebra}
-use Rattle.scholten_core.specs.declared.item.Item.{Item}
-use Rattle.scholten_core.specs.declared.item.Item.TheVariants.{Message as MessageOn, Signal as SignalOn}
-use Rattle.scholten_core.specs.Diffusion.{improves}
-use Rattle.scholten_core.specs.Items.{item_arc}
 use Rattle.shard_store.specs.Queue.{Room, Line, IsNewest, IsBestMessage}
-use Rattle.shard_store.specs.Rows.{Rows}
-use Rattle.shard_store.specs.Setup.{network_of, place_in}
 use Rattle.shard_store.proofs.Ranking.{newest_same}
 use Rattle.shard_store.proofs.Totals.{length_permutation}
-use Rattle.shard_store.specs.declared.queue_order.QueueOrder.TheVariants.{BestFirst}
-use Rattle.shard_part.specs.PartState.{PartData, state_in, vertex_of, IsArc}
-use Rattle.shard_part.specs.Handling.{GoesAtOnce}
 use Rattle.shard_part.specs.Moves.{RepInvariant, IsPopped, IsSettledIn}
 use Rattle.shard_part.proofs.Graphs.{arc_within, own_rising, place_leaves}
 use Rattle.shard_part.proofs.ItemIsTaken.{head_within, tail_within}

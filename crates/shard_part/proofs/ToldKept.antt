@@ -1,19 +1,6 @@
 -- Each item that a part takes keeps what was offered on its idle arcs.
-use Rattle.std.proofs.Common.{◌≡◌, ℕ, suc, true, List, length, None, sym, ap, ◌∙◌, subst, eq-eqb}
-use Rattle.scholten_core.specs.declared.item.Item.{Item}
-use Rattle.path_algebra.specs.Algebra.{Algebra}
-use Rattle.path_algebra.specs.Algebra.{IsLawful as Lawful}
-use Rattle.scholten_core.specs.Network.{WellFormed}
-use Rattle.scholten_core.specs.Diffusion.{is_idle}
+use Rattle.shard_part.proofs.Words.{◌≡◌, ℕ, suc, true, List, length, None, sym, ap, ◌∙◌, subst, eq-eqb, Item, Algebra, Lawful, WellFormed, is_idle, PartData, state_in, mine, SetupData, network_of, place_in, IsPlanned, taken, HandledItem, HandledItemIn, Room, Rows, RepInvariant, IsPopped, with_taken, OwnIdleIsTold, opened_part}
 use Rattle.scholten_core.proofs.Basics.{idle-true}
-use Rattle.shard_part.specs.PartState.{PartData, state_in, mine}
-use Rattle.shard_store.specs.Setup.{SetupData, network_of, place_in, IsPlanned}
-use Rattle.shard_part.specs.Handling.{taken, HandledItem, HandledItemIn}
-use Rattle.shard_store.specs.Queue.{Room}
-use Rattle.shard_store.specs.Rows.{Rows}
-use Rattle.shard_part.specs.Moves.{RepInvariant, IsPopped, with_taken}
-use Rattle.shard_part.specs.Part.{OwnIdleIsTold}
-use Rattle.shard_part.specs.Opening.{opened_part}
 use Rattle.shard_part.proofs.Quick.{taken_told}
 use Rattle.shard_part.proofs.ItemIsTaken.{IsFit, stored_fit, has_told, popped_taken}
 use Rattle.shard_part.proofs.Moves.{formed}

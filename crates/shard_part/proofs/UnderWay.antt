@@ -1,35 +1,15 @@
 -- A reached state has ended exactly where no item waits; until then one waits in a queue, an outbox
 -- or a mailbox.
 use Rattle.std.proofs.Common.{◌≡◌, ◌≢◌, ℕ, zero, suc, ◌-◌, ◌<◌, Bool, true, false, List, [], ◌∷◌, ◌++◌, get_or, refl, sym, ap, ◌∙◌, subst, arith, append_assoc, length-append, eq-eqb, ◌≤◌, ◌↔◌, ◌⊎◌, length, inl, inr}
-use Rattle.scholten_core.specs.declared.token.Token.{Token}
-use Rattle.scholten_core.specs.declared.token.Token.TheVariants.{Idle, Message, Held, Signal}
-use Rattle.scholten_core.specs.declared.item.Item.{Item}
-use Rattle.scholten_core.specs.declared.item.Item.TheVariants.{Message as MessageOn, Signal as SignalOn}
-use Rattle.path_algebra.specs.Algebra.{Algebra, IsLawful as Lawful, IsLawful}
-use Rattle.road_graph.specs.GraphData.{HasArc}
-use Rattle.scholten_core.specs.Network.{WellFormed, Network}
+use Rattle.shard_part.proofs.Words.{Token, Idle, Message, Held, Signal, Item, MessageOn, SignalOn, Algebra, Lawful, IsLawful, HasArc, WellFormed, Network, item_arc, item_of, CoreInvariant, PartData, token_if, maker_of, SetupData, network_of, place_in, total, is, All, at_place, in_flight, outs_weight, part_weight, HoldsShareIn, FitsAlone, total_append, cases_lt, false≢true, IsPermutation-refl, Event, Deliver, Accept, here, later}
 use Rattle.scholten_core.specs.Diffusion.{CoreState, is_idle, state_after, is_enabled, is_message, is_signal, HasEnded, IsQuiet}
-use Rattle.scholten_core.specs.Items.{item_arc, item_of}
-use Rattle.scholten_core.proofs.CoreInvariant.{CoreInvariant}
 use Rattle.scholten_core.proofs.Walks.{walk_value_is_value}
-use Rattle.shard_part.specs.PartState.{PartData, token_if, maker_of}
-use Rattle.shard_store.specs.Setup.{SetupData, network_of, place_in}
-use Rattle.shard_store.specs.Totals.{total, is}
-use Rattle.shard_part.specs.Weights.{All, at_place, in_flight, outs_weight, part_weight}
-use Rattle.shard_part.specs.Represents.{HoldsShareIn}
-use Rattle.shard_part.specs.Exchange.{FitsAlone}
-use Rattle.shard_store.proofs.Totals.{total_append}
 use Rattle.shard_part.proofs.Room.{queue_fits, arc_once, message_free, signal_busy}
 use Rattle.shard_part.proofs.TakenIsEvent.{item_stands}
 use Rattle.shard_part.specs.Arriving.{MadeAt, joined, MayReceive}
-use Rattle.std.proofs.lemmas.Bool.{cases_lt, false≢true}
-use Rattle.std.proofs.lemmas.List.Sorted.{IsPermutation-refl}
-use Rattle.scholten_core.specs.declared.event.Event.{Event}
-use Rattle.scholten_core.specs.declared.event.Event.TheVariants.{Deliver, Accept}
 use Rattle.scholten_core.proofs.Ended.{ended, reached_kept}
 use Rattle.scholten_core.proofs.Busy.{never_stuck}
 use Rattle.scholten_core.proofs.Basics.{sum_term, sum_zero}
-use Rattle.road_graph.proofs.Lists.{here, later}
 use Rattle.shard_part.specs.Waiting.{items_waiting, QueueWaits, OutboxWaits, MailWaits}
 use Rattle.shard_part.proofs.InFlight.{past_idle}
 

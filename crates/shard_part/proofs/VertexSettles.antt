@@ -1,21 +1,7 @@
 -- A vertex settles: the arcs offered and the rest that follows are those of the whole state.
 use Rattle.std.proofs.Common.{◌≡◌, ℕ, ◌<◌, ◌≤◌, Bool, true, false, Option, Some, None, List, [], ◌∷◌, ◌++◌, length, set, get_or, append-nil, refl, sym, ap, ◌∙◌, subst, inl, inr, get_or-set_same, get_or-set_other, Contains}
-use Rattle.std.proofs.lemmas.Bool.{cond-false}
-use Rattle.scholten_core.specs.declared.item.Item.{Item}
-use Rattle.scholten_core.specs.declared.item.Item.TheVariants.{Signal as SignalOn}
-use Rattle.path_algebra.specs.Algebra.{Algebra}
-use Rattle.scholten_core.specs.Diffusion.{CoreState, is_idle, is_due, pump, out_idle}
+use Rattle.shard_part.proofs.Words.{cond-false, Item, SignalOn, Algebra, CoreState, is_idle, is_due, pump, out_idle, Agree, put_tells, out_idle_agree, counted_on, top, PartData, state_in, network_of, place_in, channels_of, message_weight, signal_weight, total, routes, rest_here, settle_here, offered_all, rested, rested_by}
 use Rattle.scholten_core.specs.Items.{pump_made, rest_made, settle_made, IsDistinct}
-use Rattle.scholten_core.specs.Shares.{Agree}
-use Rattle.scholten_core.proofs.Basics.{put_tells}
-use Rattle.scholten_core.proofs.Shares.{out_idle_agree}
-use Rattle.shard_store.specs.Tallies.{counted_on, top}
-use Rattle.shard_part.specs.PartState.{PartData, state_in}
-use Rattle.shard_store.specs.Setup.{network_of, place_in}
-use Rattle.shard_part.specs.Weights.{channels_of, message_weight, signal_weight}
-use Rattle.shard_store.specs.Totals.{total}
-use Rattle.shard_part.specs.Handling.{routes, rest_here, settle_here}
-use Rattle.shard_part.specs.Moves.{offered_all, rested, rested_by}
 use Rattle.shard_part.proofs.Routed.{routes-append}
 use Rattle.shard_part.proofs.OffersArePumped.{counted_none, counted_append, counted_top, listed_or, made_no_back, Offers, offers}
 

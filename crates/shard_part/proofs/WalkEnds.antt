@@ -1,13 +1,11 @@
 -- The arcs in which some walk with a value ends are those along which the best value of the tail
 -- extends.
 use Rattle.std.proofs.Common.{◌≡◌, ℕ, Option, Some, None, List, [], ◌∷◌, Bool, is_some, refl, sym, subst}
-use Rattle.std.specs.Prelude.{◌↔◌, IsTrue}
+use Rattle.shard_part.proofs.Words.{◌↔◌, IsTrue, Algebra, IsLawful, extend_label}
 use Rattle.road_graph.specs.GraphData.{GraphData, IsGraph, HasVertex, HasArc, arc_of}
-use Rattle.path_algebra.specs.Algebra.{Algebra, IsLawful}
 use Rattle.path_algebra.specs.Walks.{IsBest, IsBestLabel, IsWalkValue}
 use Rattle.path_algebra.proofs.Walks.{walk_value_is_value}
 use Rattle.scholten_core.specs.BestFirst.{AreMarksOfWalkEnds}
-use Rattle.scholten_core.specs.Diffusion.{extend_label}
 
 module _ {V : Type 0} (A : Algebra V) (L : IsLawful A) (g : GraphData) (R : IsGraph g) (s : ℕ) (labels : ℕ → Option V) (best : (v : ℕ) → HasVertex g v → IsBestLabel A g (s ∷ []) v (labels v)) where
   abbrev pub extends : ℕ → Bool

@@ -1,21 +1,9 @@
 -- Items that are taken under a limit.
-use Rattle.std.proofs.Common.{◌≡◌, ℕ, ◌+◌, Bool, Option, Some, None, List, [], ◌∷◌, ◌++◌, length-append, refl, sym, ap, ◌∙◌, subst, inl, inr}
-use Rattle.std.proofs.lemmas.Bool.{cases_Bool}
-use Rattle.std.proofs.lemmas.List.Elements.{All-cons}
+use Rattle.shard_part.proofs.Words.{◌≡◌, ℕ, ◌+◌, Bool, Option, Some, None, List, [], ◌∷◌, ◌++◌, length-append, refl, sym, ap, ◌∙◌, subst, inl, inr, cases_Bool, All-cons, IsPermutation, Item, MessageOn, SignalOn, Network, CoreState, QueueOrder, Arrival, BestFirst, network_of, PartData, state_in, IsInTurn, HandledItem, HandledAll}
 use Rattle.std.proofs.lemmas.List.Sorted.{All-permutation, IsPermutation-sym}
-use Rattle.std.specs.List.Sorted.{IsPermutation}
 use Rattle.path_algebra.specs.Algebra.{Algebra, IsOrder}
-use Rattle.scholten_core.specs.declared.item.Item.{Item}
-use Rattle.scholten_core.specs.declared.item.Item.TheVariants.{Message as MessageOn, Signal as SignalOn}
-use Rattle.scholten_core.specs.Network.{Network}
-use Rattle.scholten_core.specs.Diffusion.{CoreState}
-use Rattle.shard_store.specs.declared.queue_order.QueueOrder.{QueueOrder}
-use Rattle.shard_store.specs.declared.queue_order.QueueOrder.TheVariants.{Arrival, BestFirst}
 use Rattle.shard_store.specs.Queue.{IsWorseMessage, IsHeldBy}
-use Rattle.shard_store.specs.Setup.{network_of}
 use Rattle.shard_store.proofs.Holding.{all_worse}
-use Rattle.shard_part.specs.PartState.{PartData, state_in}
-use Rattle.shard_part.specs.Handling.{IsInTurn, HandledItem, HandledAll}
 use Rattle.shard_part.specs.Part.{HandledNext, HandledMany, IsHeldBack, IsWithin, HandledAllWithin, HandledWithin}
 use Rattle.shard_part.proofs.Showing.{AllLawful}
 

@@ -1,9 +1,6 @@
 -- An ascending list of just the arcs out of v is the one list.
-use Rattle.std.proofs.Common.{◌≡◌, ◌≢◌, ℕ, zero, suc, ◌+◌, ◌<◌, ◌≤◌, eqb, List, [], ◌∷◌, refl, sym, ap, ◌∙◌, inl, inr, arith, eq-eqb, ne_eqb, Contains}
-use Rattle.std.proofs.lemmas.Bool.{cases_eq, cond-true, cond-false}
-use Rattle.scholten_core.specs.Network.{Network}
+use Rattle.shard_store.proofs.Words.{◌≡◌, ◌≢◌, ℕ, zero, suc, ◌+◌, ◌<◌, ◌≤◌, eqb, List, [], ◌∷◌, refl, sym, ap, ◌∙◌, inl, inr, arith, eq-eqb, ne_eqb, Contains, cases_eq, cond-true, cond-false, Network, arcs_from}
 use Rattle.road_graph.proofs.Lists.{not_in_empty, here, later, head_or_tail, listed_above}
-use Rattle.shard_store.specs.Outgoing.{arcs_from}
 use Rattle.road_graph.specs.GraphData.{IsAscendingFrom}
 
 module _ (N : Network) where

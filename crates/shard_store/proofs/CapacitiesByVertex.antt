@@ -1,13 +1,7 @@
 -- The arcs with an end in a shard, counted at its own vertices.
 use Rattle.std.proofs.Common.{◌≡◌, ◌≢◌, ℕ, zero, suc, ◌+◌, ◌<◌, ◌≤◌, Bool, true, false, cond, ◌&&◌, ◌||◌, eqb, refl, sym, ap, ◌∙◌, inl, inr, arith, eqb-true, eq-eqb, ne_eqb}
-use Rattle.std.proofs.lemmas.Bool.{cases_eq, cases_Bool, cond-true, cond-false, false≢true}
-use Rattle.scholten_core.specs.Network.{Network}
-use Rattle.scholten_core.specs.Sums.{sum_below, one_if}
-use Rattle.shard_store.specs.Tables.{placed}
-use Rattle.shard_store.specs.Totals.{total, is}
-use Rattle.shard_store.specs.Outgoing.{outgoing}
+use Rattle.shard_store.proofs.Words.{cases_eq, cases_Bool, cond-true, cond-false, false≢true, Network, sum_below, one_if, placed, total, is, outgoing, reversed_network, leading_to, coming_from}
 use Rattle.shard_store.specs.Capacities.{touches, joins, queue_bound, outbox_bound}
-use Rattle.shard_store.specs.Layout.{reversed_network, leading_to, coming_from}
 use Rattle.shard_store.proofs.Counting.{total_same, total_both, sum_swap, total_swap, total_out, placed_none, placed_once}
 use Rattle.scholten_core.proofs.Basics.{one_if-most, sum_same, sum_zero, sum_ones, sum_add, sum_most, sum_term, sum_one}
 

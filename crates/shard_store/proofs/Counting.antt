@@ -1,12 +1,5 @@
 -- Arcs counted vertex by vertex, and by the shards of their ends.
-use Rattle.std.proofs.Common.{◌≡◌, ℕ, zero, suc, ◌+◌, ◌<◌, ◌≤◌, Bool, true, false, cond, eqb, List, [], ◌∷◌, ◌++◌, length, length-append, get_or, take, refl, sym, ap, ◌∙◌, inl, inr, arith, eq-eqb, ne_eqb}
-use Rattle.std.proofs.lemmas.Bool.{cases_eq, cases_lt, cases_Bool, cond-true, cond-false}
-use Rattle.scholten_core.specs.Network.{Network}
-use Rattle.scholten_core.specs.Sums.{sum_below}
-use Rattle.shard_store.specs.Tables.{placed}
-use Rattle.shard_store.specs.Totals.{total}
-use Rattle.shard_store.specs.Outgoing.{arcs_from, outgoing, arcs_out}
-use Rattle.scholten_core.proofs.Basics.{sum_zero, sum_ones, sum_add, sum_most}
+use Rattle.shard_store.proofs.Words.{◌≡◌, ℕ, zero, suc, ◌+◌, ◌<◌, ◌≤◌, Bool, true, false, cond, eqb, List, [], ◌∷◌, ◌++◌, length, length-append, get_or, take, refl, sym, ap, ◌∙◌, inl, inr, arith, eq-eqb, ne_eqb, cases_eq, cases_lt, cases_Bool, cond-true, cond-false, Network, sum_below, placed, total, arcs_from, outgoing, arcs_out, sum_zero, sum_ones, sum_add, sum_most}
 
 module _ {X : Type 0} (f : X → ℕ) where
   -- one more of a list

@@ -1,17 +1,11 @@
 -- What the graph and the plan say of the network's arcs and places.
-use Rattle.std.proofs.Common.{◌≡◌, ◌≢◌, ℕ, zero, suc, ◌+◌, ◌-◌, ◌<◌, ◌≤◌, List, [], ◌∷◌, ◌++◌, length, get_or, ◌⊎◌, refl, sym, ap, ◌∙◌, subst, inl, inr, arith, Contains, eqb, eq-eqb, ne_eqb}
-use Rattle.std.proofs.lemmas.Bool.{cases_lt, cond-true, cond-false}
+use Rattle.shard_store.proofs.Words.{◌≡◌, ◌≢◌, ℕ, zero, suc, ◌+◌, ◌-◌, ◌<◌, ◌≤◌, List, [], ◌∷◌, ◌++◌, length, get_or, ◌⊎◌, refl, sym, ap, ◌∙◌, subst, inl, inr, arith, Contains, eqb, eq-eqb, ne_eqb, cases_lt, cond-true, cond-false, element_place, shard_in, placed, SetupData, network_of, place_in, IsPlanned, outgoing, local_vertices, arcs_out, arcs_from}
 use Rattle.std.proofs.lemmas.List.{get_or-map, length-map, get_or_past}
 use Rattle.road_graph.specs.GraphData.{GraphData, IsGraph, ListsArcsFrom, ListsRoadsFrom, arc_of, road_of, roads_of}
 use Rattle.road_graph.specs.declared.OutRoad.{OutRoad}
 use Rattle.scholten_core.specs.Network.{Network, network, tail_of}
 use Rattle.scholten_core.proofs.Networks.{out_of, tail-arc, head-entry, tail-entry}
-use Rattle.road_graph.proofs.Lists.{element_place}
 use Rattle.std.proofs.lemmas.List.Elements.{Contains-get_or}
-use Rattle.shard_store.specs.Plans.{shard_in}
-use Rattle.shard_store.specs.Tables.{placed}
-use Rattle.shard_store.specs.Setup.{SetupData, network_of, place_in, IsPlanned}
-use Rattle.shard_store.specs.Outgoing.{outgoing, local_vertices, arcs_out, arcs_from}
 use Rattle.shard_store.proofs.Ascending.{arcs_are}
 
 -- the graph's list of the arcs out of v is the one list

@@ -1,15 +1,11 @@
 -- What is worse than a limit: all that is no better than something worse, and what is on top of
 -- what is. And what is the best value that waits.
-use Rattle.std.proofs.Common.{◌≡◌, ℕ, ◌<◌, Option, Some, None, List, [], ◌∷◌, ◌++◌, length, map, Bool, true, false, refl, sym, ◌∙◌, subst, inl, inr, arith}
-use Rattle.std.proofs.lemmas.Bool.{cases_Bool, false≢true}
+use Rattle.shard_store.proofs.Words.{◌≡◌, ℕ, ◌<◌, Option, Some, None, List, [], ◌∷◌, ◌++◌, length, map, Bool, true, false, refl, sym, ◌∙◌, subst, inl, inr, arith, cases_Bool, false≢true, Item, here, Ranked}
 use Rattle.path_algebra.specs.Algebra.{IsOrder}
-use Rattle.scholten_core.specs.declared.item.Item.{Item}
 use Rattle.scholten_core.specs.declared.item.Item.TheVariants.{Message as MessageOn, Signal as SignalOn}
 use Rattle.std.specs.Prelude.{All, Contains, IfSome, if◌then◌else◌, slice_index_or}
 use Rattle.path_algebra.specs.Walks.{better_label}
-use Rattle.road_graph.proofs.Lists.{here}
 use Rattle.std.proofs.lemmas.List.Elements.{All-nil, All-cons, All-head, All-tail, All-append, Contains-append_left, Contains-append_right}
-use Rattle.ranked_queue.specs.declared.ranked.Ranked.{Ranked}
 use Rattle.shard_store.specs.Queue.{ranked_item, IsNoWorseOn, IsWorseMessage, IsHeldBy, IsCovered, IsBestWaiting}
 
 module _ {V : Type 0} (no_worse : V → V → Bool) (order : IsOrder no_worse) (a : ℕ) (x limit : V) (worse : no_worse x limit ≡ false) where

@@ -1,3 +1,4 @@
+mod Words
 mod Ascending
 mod Blocks
 mod Increasing

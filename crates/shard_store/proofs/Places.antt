@@ -1,13 +1,7 @@
 -- The vertices of a shard and their arcs, by place.
-use Rattle.std.proofs.Common.{◌≡◌, ℕ, zero, suc, ◌<◌, List, [], ◌∷◌, length, set, get_or, sym, ap, ◌∙◌, arith, length-set, get_or-set_same, get_or-set_other, ◌≢◌, ◌+◌, ◌-◌, ◌≤◌, eqb, ◌++◌, length-append, take, refl, subst, inl, inr, eq-eqb, ne_eqb}
+use Rattle.shard_store.proofs.Words.{◌≡◌, ℕ, zero, suc, ◌<◌, List, [], ◌∷◌, length, set, get_or, sym, ap, ◌∙◌, arith, length-set, get_or-set_same, get_or-set_other, ◌≢◌, ◌+◌, ◌-◌, ◌≤◌, eqb, ◌++◌, length-append, take, refl, subst, inl, inr, eq-eqb, ne_eqb, cases_eq, cases_lt, cond-true, cond-false, Network, IsStrictlyIncreasing, AllPairs-from_increasing, SetupData, place_in, arcs_from, outgoing, local_vertices, arcs_out}
 use Rattle.std.proofs.lemmas.List.{length-replicate, set-set, set_comm, get_or_append_left, get_or-append-add}
 use Rattle.shard_store.specs.Tables.{scatter, IsApart, placed}
-use Rattle.std.proofs.lemmas.Bool.{cases_eq, cases_lt, cond-true, cond-false}
-use Rattle.scholten_core.specs.Network.{Network}
-use Rattle.std.specs.List.Sorted.{IsStrictlyIncreasing}
-use Rattle.std.proofs.lemmas.List.Kept.{AllPairs-from_increasing}
-use Rattle.shard_store.specs.Setup.{SetupData, place_in}
-use Rattle.shard_store.specs.Outgoing.{arcs_from, outgoing, local_vertices, arcs_out}
 
 module _ {X : Type 0} where
   pub spread_long : (keys : List ℕ) (values : List X) (d : X) (n : ℕ) → length (scatter keys values d n) ≡ n

@@ -1,21 +1,15 @@
 -- The lists of a queue as one: the newest item leaves or is ranked, and the best message leaves.
-use Rattle.std.proofs.Common.{◌≡◌, ◌++◌, ◌∷◌, [], List, Bool, true, false, Option, Some, None, refl, sym, subst, ap, ◌∙◌, ℕ, zero, suc, ◌+◌, ◌-◌, ◌<◌, ◌≤◌, length, length-append, append_assoc, arith, map, drop, leb}
+use Rattle.shard_store.proofs.Words.{◌≡◌, ◌++◌, ◌∷◌, [], List, Bool, true, false, Option, Some, None, refl, sym, subst, ap, ◌∙◌, ℕ, zero, suc, ◌+◌, ◌-◌, ◌<◌, ◌≤◌, length, length-append, append_assoc, arith, map, drop, leb, length-map, append-nil, All-nil, All-cons, IsPermutation, Item, Ranked, counted}
 use Rattle.std.specs.Prelude.{IfSome, IsSome, IsOk, OnOk, All, slice_get, Vec, vec_capacity}
 use Rattle.std.specs.Option.{option_to_list}
 use Rattle.std.specs.declared.cmp.Ordering.{Ordering}
 use Rattle.std.specs.BinaryHeap.{IsUpperBound, KeepsHeap}
 use Rattle.std.specs.declared.result.Result.{Result}
 use Rattle.std.specs.declared.result.Result.TheVariants.{Ok, Err}
-use Rattle.std.proofs.lemmas.List.{length-map, append-nil}
-use Rattle.std.proofs.lemmas.List.Elements.{All-nil, All-cons}
-use Rattle.std.specs.List.Sorted.{IsPermutation}
 use Rattle.std.proofs.lemmas.List.Sorted.{IsPermutation-append, IsPermutation-map, IsPermutation-refl, IsPermutation-to_front, IsPermutation-trans}
-use Rattle.scholten_core.specs.declared.item.Item.{Item}
-use Rattle.ranked_queue.specs.declared.ranked.Ranked.{Ranked}
 use Rattle.shard_store.specs.Queue.{Line, line, Room, IsItemQueue, ranked_item, IsNewest, IsNoWorseOn, IsBestMessage}
 use Rattle.ranked_queue.specs.Order.{ranked_cmp, by_number, told}
 use Rattle.ranked_queue.proofs.Bounds.{not_less}
-use Rattle.shard_store.specs.Totals.{counted}
 use Rattle.shard_store.proofs.Totals.{in_one, in_other, length_permutation}
 use Rattle.shard_store.specs.declared.queue_order.QueueOrder.{QueueOrder}
 use Rattle.shard_store.specs.declared.queue_order.QueueOrder.TheVariants.{Arrival, BestFirst}

@@ -1,19 +1,11 @@
 -- What is counted of a shard before its tables are made.
 use Rattle.std.proofs.Common.{◌≡◌, ◌≢◌, ℕ, suc, ◌+◌, ◌-◌, ◌<◌, ◌≤◌, ◌^◌, Bool, true, false, cond, not, eqb, List, ◌∷◌, length, set, get_or, take, refl, sym, ap, ◌∙◌, subst, inl, inr, arith, eq-eqb, ne_eqb, get_or-set_same, get_or-set_other, Contains}
-use Rattle.std.specs.List.{range_with_len}
-use Rattle.std.proofs.lemmas.Bool.{cases_eq, cases_lt, cond-true, cond-false, false≢true}
+use Rattle.shard_store.proofs.Words.{range_with_len, cases_eq, cases_lt, cond-true, cond-false, false≢true, Network, network, one_if, placed, network_of, place_in, IsPlanned, local_vertices, arcs_out, outgoing, total, is, outbox_bound, one_if-most, element_place}
 use Rattle.std.proofs.lemmas.List.{take_all, get_or_default, get_or_read, get_or_past}
 use Rattle.road_graph.specs.GraphData.{GraphData, HasVertex, HasArc, ListsArcsFrom, ListsArcsInto, arc_of}
-use Rattle.scholten_core.specs.Network.{Network, network}
-use Rattle.scholten_core.specs.Sums.{one_if}
 use Rattle.scholten_core.proofs.Networks.{tail-arc, head-arc, tail-entry}
 use Rattle.shard_store.specs.declared.layout.Extent.{Extent}
 use Rattle.shard_store.specs.Plans.{shard_in, HasPlanned}
-use Rattle.shard_store.specs.Tables.{placed}
-use Rattle.shard_store.specs.Setup.{network_of, place_in, IsPlanned}
-use Rattle.shard_store.specs.Outgoing.{local_vertices, arcs_out, outgoing}
-use Rattle.shard_store.specs.Totals.{total, is}
-use Rattle.shard_store.specs.Capacities.{outbox_bound}
 use Rattle.shard_store.specs.Layout.{ShardLayoutData, is_first, IsExtent, reversed_network, leading_to, coming_from, CountsOut, CountsInto, CountsAll}
 use Rattle.shard_store.proofs.Ascending.{arcs_are}
 use Rattle.shard_store.proofs.Increasing.{follow_first}
@@ -21,8 +13,6 @@ use Rattle.shard_store.proofs.Graphs.{out_is, place_vertex, place_entry, entry_a
 use Rattle.shard_store.proofs.Counting.{placed_start, placed_long, arcs_out_more, total_whole, total_take, total_most, total_few, out_most, own_arcs_most}
 use Rattle.shard_store.proofs.Places.{own_below, placed_picked}
 use Rattle.shard_store.proofs.CapacitiesByVertex.{seen_at, seen_all, outbox_bound_most}
-use Rattle.scholten_core.proofs.Basics.{one_if-most}
-use Rattle.road_graph.proofs.Lists.{element_place}
 
 -- the vertices of the shard, without the environment
 abbrev pub own_placed : ShardLayoutData → List ℕ

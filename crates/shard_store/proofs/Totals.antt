@@ -1,15 +1,10 @@
 -- Sums over items, by arcs.
-use Rattle.std.proofs.Common.{◌≡◌, ℕ, zero, suc, ◌+◌, ◌<◌, ◌≤◌, List, [], ◌∷◌, ◌++◌, refl, sym, ap, ◌∙◌, inl, inr, arith, ◌-◌, Bool, true, false, leb, Some, None, length, length-append, drop}
+use Rattle.shard_store.proofs.Words.{◌≡◌, ℕ, zero, suc, ◌+◌, ◌<◌, ◌≤◌, List, [], ◌∷◌, ◌++◌, refl, sym, ap, ◌∙◌, inl, inr, arith, ◌-◌, Bool, true, false, leb, Some, None, length, length-append, drop, Item, Network, sum_below, total, counted, is, IsPermutation}
 use Rattle.std.proofs.lemmas.Bool.{cases_lt, leb-true, le-leb}
-use Rattle.scholten_core.specs.declared.item.Item.{Item}
 use Rattle.path_algebra.specs.Algebra.{Algebra}
-use Rattle.scholten_core.specs.Network.{Network}
-use Rattle.scholten_core.specs.Sums.{sum_below}
 use Rattle.scholten_core.specs.Items.{item_arc, at}
-use Rattle.shard_store.specs.Totals.{total, counted, is}
 use Rattle.scholten_core.proofs.Items.{at-first, at-skip, at-nil}
 use Rattle.std.specs.Prelude.{slice_get, sum_by}
-use Rattle.std.specs.List.Sorted.{IsPermutation}
 use Rattle.std.proofs.lemmas.List.Sums.{sum_by-cons}
 use Rattle.std.proofs.lemmas.List.Sorted.{sum_by-IsPermutation}
 use Rattle.std.proofs.lemmas.Bool.Decides.{leb_tells}

@@ -1,14 +1,5 @@
 -- Batches that came in and outboxes that went off, one after the other.
-use Rattle.std.proofs.Common.{◌≡◌, ◌≢◌, ℕ, ◌+◌, Bool, true, false, List, [], ◌∷◌, ◌++◌, get_or, refl, sym, ap, ◌∙◌, subst, arith, length-append}
-use Rattle.std.proofs.lemmas.List.{append-nil}
-use Rattle.std.specs.Int.{from_bool}
-use Rattle.path_algebra.specs.Algebra.{Algebra}
-use Rattle.scholten_core.specs.declared.item.Item.{Item}
-use Rattle.shard_part.specs.PartState.{PartData}
-use Rattle.post_floor.specs.Plays.{HoldsReachedShare, published_to}
-use Rattle.shard_part.specs.Arriving.{joined}
-use Rattle.station.specs.Turn.{received, SentOff}
-use Rattle.station.specs.Tries.{if_found}
+use Rattle.station.proofs.Words.{◌≡◌, ◌≢◌, ℕ, ◌+◌, Bool, true, false, List, [], ◌∷◌, ◌++◌, get_or, refl, sym, ap, ◌∙◌, subst, arith, length-append, append-nil, from_bool, Algebra, Item, PartData, HoldsReachedShare, published_to, joined, received, SentOff, if_found}
 use Rattle.station.specs.Steps.{CameIn, AllCameIn, WentOff}
 
 module _ {S V : Type 0} where

@@ -1,14 +1,9 @@
 -- What a limit holds back is worse than the value that the limit extends.
-use Rattle.std.proofs.Common.{◌≡◌, ◌⊎◌, ◌<◌, ◌≤◌, ℕ, Bool, Option, Some, List, [], ◌∷◌, length, refl, sym, ◌∙◌, subst, inl, inr, arith}
+use Rattle.station.proofs.Words.{◌≡◌, ◌⊎◌, ◌<◌, ◌≤◌, ℕ, Bool, Option, Some, List, [], ◌∷◌, length, refl, sym, ◌∙◌, subst, inl, inr, arith, Item, MessageOn, SignalOn, PartData, IsHeldBack, RunsAhead, SetupData}
 use Rattle.std.specs.Prelude.{⊤, IsTrue, slice_index_or}
 use Rattle.std.proofs.lemmas.Bool.{cases_Bool, cases_lt, false≢true}
 use Rattle.path_algebra.specs.Algebra.{Algebra, IsOrder}
-use Rattle.scholten_core.specs.declared.item.Item.{Item}
-use Rattle.scholten_core.specs.declared.item.Item.TheVariants.{Message as MessageOn, Signal as SignalOn}
 use Rattle.shard_store.specs.Queue.{IsWorseMessage, IsHeldBy}
-use Rattle.shard_part.specs.PartState.{PartData}
-use Rattle.shard_part.specs.Part.{IsHeldBack, RunsAhead}
-use Rattle.shard_store.specs.Setup.{SetupData}
 use Rattle.post_floor.specs.declared.hints.Limit.{Limit}
 use Rattle.post_floor.specs.Hints.{IsBestShown, IsLimit}
 use Rattle.station.specs.Turn.{IsBehindOthers, IsAsFar}

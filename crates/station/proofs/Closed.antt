@@ -1,26 +1,12 @@
 -- What the seats of an ended diffusion show when its floor is closed.
-use Rattle.std.proofs.Common.{◌≡◌, ℕ, ◌+◌, ◌<◌, true, Option, List, [], ◌∷◌, ap, ◌∙◌, arith}
+use Rattle.station.proofs.Words.{◌≡◌, ℕ, ◌+◌, ◌<◌, true, Option, List, [], ◌∷◌, ap, ◌∙◌, arith, Algebra, AreBest, totals_of, Tally, IsPlanned, SetupData, network_of, All, total, tally_of, AllLawful, View, SeatData, AreHanded, StationData, TableId}
 use mathlib.Core.Option as opt
-use Rattle.path_algebra.specs.Algebra.{Algebra}
-use Rattle.path_algebra.specs.Walks.{AreBest}
-use Rattle.scholten_core.specs.Accounts.{totals_of}
 use Rattle.scholten_core.proofs.EveryRun.{totals_are_equal, ended_is_quiet}
-use Rattle.shard_store.specs.declared.tally.Tally.{Tally}
-use Rattle.shard_store.specs.Setup.{IsPlanned, SetupData, network_of}
-use Rattle.shard_part.specs.Weights.{All}
-use Rattle.shard_store.specs.Totals.{total}
-use Rattle.shard_store.specs.Tallies.{tally_of}
-use Rattle.shard_part.proofs.Showing.{AllLawful}
-use Rattle.post_floor.specs.declared.view.View.{View}
 use Rattle.post_floor.specs.Closing.{AllSeated, AreJoined}
-use Rattle.post_floor.specs.Data.{SeatData}
 use Rattle.post_floor.specs.Floor.{Slot, FinalView}
 use Rattle.post_floor.specs.Seats.{spent}
 use Rattle.station.specs.Gather.{counts_in, counts_of, IsGathered, IsThere}
-use Rattle.station.specs.Handing.{AreHanded}
-use Rattle.station.specs.Station.{StationData}
 use Rattle.station.proofs.Places.{counts_there}
-use Rattle.atomic_table.specs.Seated.{TableId}
 
 module _ {S V : Type 0} where
   -- all shards have a seat where all stations were there

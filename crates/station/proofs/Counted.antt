@@ -1,7 +1,5 @@
 -- Steps of the words of all shards but the own.
-use Rattle.std.proofs.Common.{◌≡◌, ℕ, Bool, true, false, ◌+◌, ◌*◌, ◌<◌, ◌≤◌, inl, inr, arith}
-use Rattle.std.specs.Int.{from_bool}
-use Rattle.std.proofs.lemmas.Bool.{cases_eq}
+use Rattle.station.proofs.Words.{◌≡◌, ℕ, Bool, true, false, ◌+◌, ◌*◌, ◌<◌, ◌≤◌, inl, inr, arith, from_bool, cases_eq}
 
 pub before_own : (own from start s t : ℕ) → (from ≤ own → s ≤ start + 2 * from) → t ≤ s + 2 → from + 1 ≤ own → t ≤ start + 2 * (from + 1)
 before_own own from start s t b l m = let c = b (omega (arith, m)) in omega (arith, c, l)

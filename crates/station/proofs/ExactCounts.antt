@@ -1,16 +1,12 @@
 -- What is counted where all walks have one value, and where one part takes its items best first.
-use Rattle.std.proofs.Common.{◌≡◌, ℕ, suc, ◌+◌, ◌<◌, ◌≤◌, Bool, false, ◌||◌, leb, min, length, sym, ◌∙◌, arith}
+use Rattle.station.proofs.Words.{◌≡◌, ℕ, suc, ◌+◌, ◌<◌, ◌≤◌, Bool, false, ◌||◌, leb, min, length, sym, ◌∙◌, arith, Algebra, IsLawful, one_if, SetupData, network_of, top, tally_of}
 use Rattle.std.proofs.lemmas.Bool.{lt-leb}
-use Rattle.path_algebra.specs.Algebra.{Algebra, IsLawful}
 use Rattle.path_algebra.specs.Given.{reach}
 use Rattle.road_graph.specs.GraphData.{GraphData}
 use Rattle.scholten_core.specs.Accounts.{Totals, totals_of, AreEqualTotals, AreMarksOfReached, count_marked}
 use Rattle.scholten_core.specs.BestFirst.{AreMarksOfWalkEnds}
-use Rattle.scholten_core.specs.Sums.{one_if}
 use Rattle.scholten_core.proofs.EveryRun.{best_first_ended, reach_sends_once}
 use Rattle.scholten_core.proofs.Basics.{one_if-most, sum_most, sum_ones}
-use Rattle.shard_store.specs.Setup.{SetupData, network_of}
-use Rattle.shard_store.specs.Tallies.{top, tally_of}
 use Rattle.shard_part.specs.OnePart.{HasOneBestFirstPart}
 use Rattle.station.specs.declared.gathering.Gathered.{Gathered}
 use Rattle.station.specs.Gather.{IsGathered, each_shows}

@@ -1,19 +1,8 @@
 -- A label stays or improves, whatever items are taken.
-use Rattle.std.proofs.Common.{◌≡◌, ℕ, zero, suc, Bool, true, false, Option, Some, None, List, [], ◌∷◌, refl, sym, ap, ◌∙◌, subst, inl, inr, eq-eqb}
-use Rattle.path_algebra.specs.Algebra.{Algebra, IsLawful}
-use Rattle.path_algebra.proofs.Least.{same_no_worse}
-use Rattle.scholten_core.specs.declared.item.Item.{Item}
-use Rattle.scholten_core.specs.declared.item.Item.TheVariants.{Message as MessageOn, Signal as SignalOn}
-use Rattle.scholten_core.specs.Network.{Network}
+use Rattle.station.proofs.Words.{◌≡◌, ℕ, zero, suc, Bool, true, false, Option, Some, None, List, [], ◌∷◌, refl, sym, ap, ◌∙◌, subst, inl, inr, eq-eqb, Algebra, IsLawful, same_no_worse, Item, MessageOn, SignalOn, Network, joined, PartData, state_in, SetupData, network_of, place_in, HandledMany, AllLawful, published_to}
 use Rattle.scholten_core.specs.Diffusion.{CoreState, better_of, pump, out_idle, freed}
 use Rattle.scholten_core.proofs.Basics.{better_tells, put_tells}
-use Rattle.shard_part.specs.Arriving.{joined}
-use Rattle.shard_part.specs.PartState.{PartData, state_in}
-use Rattle.shard_store.specs.Setup.{SetupData, network_of, place_in}
 use Rattle.shard_part.specs.Handling.{arrive_here, rest_here, settle_here, settle_tail_here, taken, HandledAll}
-use Rattle.shard_part.specs.Part.{HandledMany}
-use Rattle.shard_part.proofs.Showing.{AllLawful}
-use Rattle.post_floor.specs.Plays.{published_to}
 use Rattle.station.specs.Turn.{StaysOrImproves, received, SentOff}
 
 module _ {V : Type 0} (A : Algebra V) where

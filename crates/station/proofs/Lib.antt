@@ -1,3 +1,4 @@
+mod Words
 mod Batches
 mod Behind
 mod Counted

@@ -1,46 +1,23 @@
 -- With one shard each turn before the end goes on.
-use Rattle.std.proofs.Common.{◌≡◌, ◌≢◌, ℕ, zero, suc, ◌+◌, ◌<◌, ◌⊎◌, Bool, true, false, cond, List, map, [], ◌∷◌, ◌++◌, length, get_or, refl, sym, ap, ◌∙◌, subst, inl, inr, arith, length-append}
-use Rattle.std.specs.Prelude.{Contains}
-use Rattle.std.proofs.lemmas.List.{length-map, nil_from_length}
-use Rattle.path_algebra.specs.Algebra.{Algebra, IsLawful}
-use Rattle.scholten_core.specs.declared.event.Event.{Event}
+use Rattle.station.proofs.Words.{◌≡◌, ◌≢◌, ℕ, zero, suc, ◌+◌, ◌<◌, ◌⊎◌, Bool, true, false, cond, List, map, [], ◌∷◌, ◌++◌, length, get_or, refl, sym, ap, ◌∙◌, subst, inl, inr, arith, length-append, Contains, length-map, nil_from_length, Algebra, IsLawful, Event, Item, one_if, sum_ones, SetupData, network_of, place_in, IsPlanned, is, place_below, opened_part, opened_parts, IsRunOn, RunsOn, has_ended, in_flight, part_weight, AllLawful, TableId, FloorData, read_box, HoldsReachedShare, Report, station_of, StationData, AreTries, Turned, Tried, Worked, SentOff, received}
 use Rattle.scholten_core.specs.declared.event.Event.TheVariants.{Deliver, Accept}
-use Rattle.scholten_core.specs.declared.item.Item.{Item}
 use Rattle.scholten_core.specs.Network.{Network, WellFormed}
-use Rattle.scholten_core.specs.Sums.{one_if}
 use Rattle.scholten_core.specs.Accounts.{is_delivery, is_acceptance, delivered_total, accepted_total}
 use Rattle.scholten_core.specs.BestFirst.{IsBestFirst}
 use Rattle.scholten_core.specs.Diffusion.{CoreState, opening, step, run_from, is_enabled, is_message, is_signal, count_enabled, HasEnded}
-use Rattle.scholten_core.proofs.Basics.{sum_ones}
 use Rattle.scholten_core.proofs.Counts.{never_more}
 use Rattle.scholten_core.proofs.Ended.{opening_kept}
 use Rattle.scholten_core.proofs.EveryRun.{best_first_most}
 use Rattle.scholten_core.proofs.CoreInvariant.{run_kept}
 use Rattle.scholten_core.proofs.Networks.{well_formed}
-use Rattle.shard_store.specs.Setup.{SetupData, network_of, place_in, IsPlanned}
-use Rattle.shard_store.specs.Totals.{is}
-use Rattle.shard_store.proofs.Graphs.{place_below}
 use Rattle.shard_part.specs.PartState.{PartData, event_of}
 use Rattle.shard_part.specs.OnePart.{AreBestFirstIfOne, OwnOutboxIsEmpty}
-use Rattle.shard_part.specs.Opening.{opened_part, opened_parts}
-use Rattle.shard_part.specs.Part.{IsRunOn, RunsOn}
-use Rattle.shard_part.specs.Readings.{has_ended}
 use Rattle.shard_part.specs.Represents.{HoldsShare, HoldsShareIn, Represents, core_of}
-use Rattle.shard_part.specs.Weights.{in_flight, part_weight}
 use Rattle.shard_part.specs.Waiting.{QueueWaits, OutboxWaits, MailWaits}
 use Rattle.shard_part.proofs.OnePartTakesTheBest.{all_best, best_first_more, own_stays}
 use Rattle.shard_part.proofs.OpenedAll.{opened_show, opened_same}
-use Rattle.shard_part.proofs.Showing.{AllLawful}
 use Rattle.shard_part.proofs.TakenCounts.{handled_same}
-use Rattle.atomic_table.specs.Seated.{TableId}
-use Rattle.post_floor.specs.Data.{FloorData, read_box}
-use Rattle.post_floor.specs.Plays.{HoldsReachedShare}
 use Rattle.post_floor.proofs.Done.{knows_over}
-use Rattle.station.specs.declared.turn.Report.{Report}
-use Rattle.station.specs.Opened.{station_of}
-use Rattle.station.specs.Station.{StationData}
-use Rattle.station.specs.Tries.{AreTries}
-use Rattle.station.specs.Turn.{Turned, Tried, Worked, SentOff, received}
 use Rattle.station.specs.OneShard.{HasOneShard, best_first_turns_suffice, HasAll, WentOn}
 use Rattle.station.proofs.QuietRound.{none_beyond}
 

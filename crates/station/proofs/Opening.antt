@@ -1,19 +1,10 @@
 -- Parts and seats as they are opened, and the stations of both.
-use Rattle.std.proofs.Common.{◌≡◌, None, ℕ, zero, suc, ◌+◌, ◌≤◌, List, [], ◌∷◌, ◌++◌, length, map, refl, sym, ap, ◌∙◌, subst, arith}
+use Rattle.station.proofs.Words.{◌≡◌, None, ℕ, zero, suc, ◌+◌, ◌≤◌, List, [], ◌∷◌, ◌++◌, length, map, refl, sym, ap, ◌∙◌, subst, arith, Algebra, opened_part, opened_parts, PartData, SetupData, All, HoldsShare, core_of, FloorData, HoldsReachedShare, StationData, BelongsTo}
 use Rattle.std.specs.List.{All as Each}
 use Rattle.std.proofs.lemmas.List.{length-map, length_push}
 use Rattle.std.proofs.lemmas.List.Elements.{All-map, All-weaker}
-use Rattle.path_algebra.specs.Algebra.{Algebra}
-use Rattle.shard_part.specs.Opening.{opened_part, opened_parts}
-use Rattle.shard_part.specs.PartState.{PartData}
-use Rattle.shard_store.specs.Setup.{SetupData}
-use Rattle.shard_part.specs.Weights.{All}
-use Rattle.shard_part.specs.Represents.{HoldsShare, core_of}
-use Rattle.post_floor.specs.Data.{FloorData}
-use Rattle.post_floor.specs.Plays.{HoldsReachedShare}
 use Rattle.post_floor.proofs.Opened.{opened_shows}
 use Rattle.station.specs.Opened.{IsFreshPart, station_of, AreOpened}
-use Rattle.station.specs.Station.{StationData, BelongsTo}
 
 -- the next part is opened
 pub one_more : {S V : Type 0} (A : Algebra V) (t : SetupData S) (k n : ℕ) → opened_parts A t k n ++ opened_part A t (k + n) ∷ [] ≡ opened_parts A t k (suc n)

@@ -1,21 +1,8 @@
 -- A part that holds its share of an ended state.
-use Rattle.std.proofs.Common.{◌≡◌, ℕ, suc, ◌+◌, false, [], ◌∷◌, get_or, refl, sym, ap, ◌∙◌, subst, arith, eq-eqb}
-use Rattle.std.proofs.lemmas.List.{nil_from_length}
-use Rattle.path_algebra.specs.Algebra.{Algebra, IsLawful}
-use Rattle.path_algebra.specs.Walks.{IsBestLabel}
-use Rattle.scholten_core.specs.declared.item.Item.{Item}
+use Rattle.station.proofs.Words.{◌≡◌, ℕ, suc, ◌+◌, false, [], ◌∷◌, get_or, refl, sym, ap, ◌∙◌, subst, arith, eq-eqb, nil_from_length, Algebra, IsLawful, IsBestLabel, Item, item_of, PartData, network_of, place_in, IsPlanned, total, in_flight, at_place, core_of, sum_zero, each_one, outs_member, HoldsEndedShare}
 use Rattle.scholten_core.specs.declared.token.Token.{Token}
 use Rattle.scholten_core.specs.Diffusion.{CoreState, is_idle}
-use Rattle.scholten_core.specs.Items.{item_of}
 use Rattle.scholten_core.proofs.EveryRun.{ended_is_best}
-use Rattle.shard_part.specs.PartState.{PartData}
-use Rattle.shard_store.specs.Setup.{network_of, place_in, IsPlanned}
-use Rattle.shard_store.specs.Totals.{total}
-use Rattle.shard_part.specs.Weights.{in_flight, at_place}
-use Rattle.shard_part.specs.Represents.{core_of}
-use Rattle.shard_store.proofs.Totals.{sum_zero}
-use Rattle.shard_part.proofs.Room.{each_one, outs_member}
-use Rattle.post_floor.specs.Plays.{HoldsEndedShare}
 use Rattle.post_floor.proofs.Done.{idle_not}
 use Rattle.station.specs.Station.{IsOverPart}
 

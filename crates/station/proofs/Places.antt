@@ -1,16 +1,9 @@
 -- The places of stations, and the labels at them.
 use Rattle.std.proofs.Common.{◌≡◌, ℕ, zero, suc, ◌+◌, ◌-◌, ◌<◌, ◌≤◌, Option, None, List, [], ◌∷◌, ◌++◌, length, get_or, set, refl, sym, ap, ◌∙◌, subst, inl, inr, arith, length-append, get_or-set_same, get_or-set_other}
-use Rattle.std.proofs.lemmas.Bool.{cases_eq}
+use Rattle.station.proofs.Words.{cases_eq, IsPlanned, SetupData, PartData, total, is, HasPlanned, shard_in, IsOwn, is_self, StationData}
 use Rattle.std.proofs.lemmas.List.{get_or_append_left, get_or_push}
-use Rattle.shard_store.specs.Setup.{IsPlanned, SetupData}
-use Rattle.shard_part.specs.PartState.{PartData}
-use Rattle.shard_store.specs.Totals.{total, is}
-use Rattle.shard_store.specs.Plans.{HasPlanned, shard_in}
-use Rattle.shard_part.specs.Readings.{IsOwn}
 use Rattle.shard_store.proofs.Graphs.{place_vertex}
-use Rattle.shard_part.proofs.Showing.{is_self}
 use Rattle.station.specs.Gather.{IsAtPlace, ArePlaces, AreOf}
-use Rattle.station.specs.Station.{StationData}
 
 module _ {S V : Type 0} where
   -- a vertex is its shard's own

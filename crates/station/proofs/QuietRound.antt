@@ -1,41 +1,17 @@
 -- A quiet round leaves the floor still.
-use Rattle.std.proofs.Common.{◌≡◌, ◌≢◌, ◌⊎◌, ℕ, zero, suc, ◌+◌, ◌<◌, ◌≤◌, Bool, true, false, List, [], ◌∷◌, ◌++◌, map, length, get_or, refl, sym, ap, ◌∙◌, subst, inl, inr, arith, append_assoc}
-use Rattle.std.specs.Prelude.{Contains}
-use Rattle.std.proofs.lemmas.Bool.{cases_eq, cases_lt, false≢true}
+use Rattle.station.proofs.Words.{◌≡◌, ◌≢◌, ◌⊎◌, ℕ, zero, suc, ◌+◌, ◌<◌, ◌≤◌, Bool, true, false, List, [], ◌∷◌, ◌++◌, map, length, get_or, refl, sym, ap, ◌∙◌, subst, inl, inr, arith, append_assoc, Contains, cases_eq, cases_lt, false≢true, Algebra, Item, Network, CoreState, item_of, SetupData, network_of, place_in, IsPlanned, total, is, place_below, sum_zero, All, at_place, in_flight, HandledAll, OwnOutboxIsEmpty, has_ended, core_of, each_one, outs_member, View, WordStep, FloorData, fill_box, read_box, HoldsReachedShare, ReportedEnd, at, AreTries, used, HoldsNothingBack, SentOff, Tried, Worked, received}
 use Rattle.std.proofs.lemmas.List.{append_cancel_left, nil_from_length}
 use mathlib.Core.Option.{some, some-injective, some-ne-none}
 use lib.ListN.{get_elem?}
 use Rattle.atomic_table.specs.Table.{State}
-use Rattle.path_algebra.specs.Algebra.{Algebra}
-use Rattle.scholten_core.specs.declared.item.Item.{Item}
-use Rattle.scholten_core.specs.Network.{Network}
-use Rattle.scholten_core.specs.Diffusion.{CoreState}
-use Rattle.scholten_core.specs.Items.{item_of}
-use Rattle.shard_store.specs.Setup.{SetupData, network_of, place_in, IsPlanned}
-use Rattle.shard_store.specs.Totals.{total, is}
-use Rattle.shard_store.proofs.Graphs.{place_below}
-use Rattle.shard_store.proofs.Totals.{sum_zero}
 use Rattle.shard_part.specs.PartState.{PartData, vertex_of}
-use Rattle.shard_part.specs.Weights.{All, at_place, in_flight}
-use Rattle.shard_part.specs.Handling.{HandledAll}
-use Rattle.shard_part.specs.OnePart.{OwnOutboxIsEmpty}
-use Rattle.shard_part.specs.Readings.{has_ended}
-use Rattle.shard_part.specs.Represents.{core_of}
-use Rattle.shard_part.proofs.Room.{each_one, outs_member}
 use Rattle.shard_part.proofs.Showing.{all_parts, is_self}
-use Rattle.post_floor.specs.declared.view.View.{View}
-use Rattle.post_floor.specs.declared.view.WordStep.{WordStep}
 use Rattle.post_floor.specs.Boxes.{empty, full, box_count}
-use Rattle.post_floor.specs.Data.{FloorData, fill_box, read_box}
 use Rattle.post_floor.specs.Floor.{Slot, fill_claims, read_claims, words_between, FloorInvariant, Rests, IsStill}
-use Rattle.post_floor.specs.Plays.{HoldsReachedShare}
 use Rattle.post_floor.proofs.Ordering.{box_below}
 use Rattle.post_floor.proofs.Parts.{flat_at}
 use Rattle.post_floor.proofs.Still.{Found, find}
 use Rattle.post_floor.proofs.Totals.{is_else, total_none}
-use Rattle.station.specs.Station.{ReportedEnd}
-use Rattle.station.specs.Tries.{at, AreTries, used}
-use Rattle.station.specs.Turn.{HoldsNothingBack, SentOff, Tried, Worked, received}
 use Rattle.station.specs.Round.{nothing_done, AreFound, IsSameMail, HasNoClaim, TurnAt, IsQuietTurn, AreQuietTurns, IsQuietRound}
 use Rattle.station.proofs.QuietTries.{Missed, AllMissed, all_missed}
 

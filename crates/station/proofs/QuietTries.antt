@@ -1,8 +1,6 @@
 -- Tries of which none found what it wanted.
 use Rattle.std.proofs.Common.{◌≡◌, ◌≢◌, ℕ, zero, suc, ◌<◌, Bool, true, false, List, [], ◌∷◌, ◌++◌, refl, sym, ap, ◌∙◌, subst, inl, inr, arith, append-nil, append_assoc}
-use Rattle.std.proofs.lemmas.Bool.{cases_eq}
-use Rattle.post_floor.specs.declared.view.WordStep.{WordStep}
-use Rattle.station.specs.Tries.{at, if_found, IsTry, AreTries}
+use Rattle.station.proofs.Words.{cases_eq, WordStep, at, if_found, IsTry, AreTries}
 
 none_before : (xs : List ℕ) (b : Bool) (j : ℕ) → [] ≡ xs ++ if_found b j → (xs ≡ []) × (b ≡ false)
 none_before [] true j e = absurd cc

@@ -1,13 +1,7 @@
 -- A seat and its part through the steps of a turn.
-use Rattle.std.proofs.Common.{◌≡◌, ℕ, Bool, true, false, cond, List, [], ◌∷◌, get_or, refl, sym, ap, ◌∙◌, eq-eqb}
-use Rattle.path_algebra.specs.Algebra.{Algebra}
-use Rattle.shard_part.specs.PartState.{PartData}
-use Rattle.shard_part.specs.Part.{HandledMany}
-use Rattle.post_floor.specs.declared.view.View.{View}
+use Rattle.station.proofs.Words.{◌≡◌, ℕ, Bool, true, false, cond, List, [], ◌∷◌, get_or, refl, sym, ap, ◌∙◌, eq-eqb, Algebra, PartData, HandledMany, View, mailbox, AreReady, AreBehind}
 use Rattle.post_floor.specs.Data.{FloorData, SeatData, IsAt, IsSameSeat, fill_box}
-use Rattle.post_floor.specs.Boxes.{mailbox}
 use Rattle.post_floor.specs.Plays.{without, IsViewOf, StepsTo, at_word, end_fill, published_to, ViewLags, HoldsEndedShare, FillOutcome, ReadOutcome, LookOutcome}
-use Rattle.station.specs.Steps.{AreReady, AreBehind}
 
 without_own : (k : ℕ) → without k (k ∷ []) ≡ []
 without_own k = ap (λ (b : Bool). cond b [] (k ∷ [])) (eq-eqb k k refl)

@@ -1,23 +1,10 @@
 -- What parts have counted together, and the events that it counts.
 use Rattle.std.proofs.Common.{◌≡◌, ℕ, ◌+◌, Bool, true, false, ◌||◌, leb, min, List, [], ◌∷◌, ◌++◌, refl, sym, ap, ◌∙◌, subst, arith, le-leb, leb-true}
 use Rattle.std.proofs.lemmas.Bool.{leb-false}
-use Rattle.atomic_table.specs.Seated.{TableId}
-use Rattle.scholten_core.specs.Accounts.{Totals}
-use Rattle.shard_store.specs.declared.tally.Tally.{Tally}
-use Rattle.shard_part.specs.PartState.{PartData}
-use Rattle.shard_part.specs.Weights.{All}
-use Rattle.shard_store.specs.Totals.{total, is}
+use Rattle.station.proofs.Words.{TableId, Totals, Tally, PartData, All, total, is, top, tally_of, together, all_append, View, SeatData, IsViewOf, counts_of, AreHanded, StationData}
 use Rattle.shard_part.specs.Readings.{tally_in}
-use Rattle.shard_store.specs.Tallies.{top, tally_of, together}
 use Rattle.shard_store.proofs.Totals.{total_append}
-use Rattle.shard_part.proofs.Showing.{all_append}
-use Rattle.post_floor.specs.declared.view.View.{View}
-use Rattle.post_floor.specs.Data.{SeatData}
-use Rattle.post_floor.specs.Plays.{IsViewOf}
 use Rattle.post_floor.proofs.Seats.{total_snoc}
-use Rattle.station.specs.Gather.{counts_of}
-use Rattle.station.specs.Handing.{AreHanded}
-use Rattle.station.specs.Station.{StationData}
 
 -- a tally is full where a total is at the top: what was full before makes no difference
 full_same : (a l m n o b : Bool) → (a ≡ true → l || m || n || o ≡ true) → (b ≡ true → l || m || n || o ≡ true) → (a || l || m || n || o || b) ≡ (l || m || n || o)

@@ -1,13 +1,6 @@
 -- The mailboxes of all other shards, one after the other.
 use Rattle.std.proofs.Common.{◌≡◌, ◌≢◌, ℕ, suc, ◌+◌, Bool, true, false, List, [], ◌∷◌, ◌++◌, length, get_or, refl, sym, ap, ◌∙◌, subst, arith, length-append, ne_eqb}
-use Rattle.std.specs.Int.{from_bool}
-use Rattle.path_algebra.specs.Algebra.{Algebra}
-use Rattle.scholten_core.specs.declared.item.Item.{Item}
-use Rattle.shard_part.specs.PartState.{PartData}
-use Rattle.post_floor.specs.Boxes.{box_count, mailbox}
-use Rattle.post_floor.specs.Data.{FloorData, SeatData, fill_box, read_box}
-use Rattle.post_floor.specs.Plays.{LookOutcome}
-use Rattle.station.specs.Tries.{if_found, IsTry, AreTries, used}
+use Rattle.station.proofs.Words.{from_bool, Algebra, Item, PartData, box_count, mailbox, FloorData, SeatData, fill_box, read_box, LookOutcome, if_found, IsTry, AreTries, used}
 use Rattle.station.specs.Steps.{TriedFrom, AllTriedFrom, WentOff, TriedTo, AllTriedTo, Looked}
 use Rattle.station.proofs.Batches.{went_off}
 use Rattle.station.proofs.Trying.{used_more, used_other, sent_other, tries_below}

@@ -1,13 +1,8 @@
 -- Mailboxes that are tried one after the other.
-use Rattle.std.proofs.Common.{◌≡◌, ℕ, zero, suc, ◌+◌, ◌-◌, ◌*◌, ◌<◌, ◌≤◌, Bool, true, false, List, [], ◌∷◌, ◌++◌, length, set, get_or, refl, sym, ap, ◌∙◌, subst, inl, inr, arith, length-append}
+use Rattle.station.proofs.Words.{◌≡◌, ℕ, zero, suc, ◌+◌, ◌-◌, ◌*◌, ◌<◌, ◌≤◌, Bool, true, false, List, [], ◌∷◌, ◌++◌, length, set, get_or, refl, sym, ap, ◌∙◌, subst, inl, inr, arith, length-append, published_to, PartData, SentOff, WordStep, at, if_found, IsTry, AreTries, used}
 use Rattle.std.proofs.lemmas.List.{get_or-set_other}
 use Rattle.post_floor.specs.Boxes.{next_slot}
-use Rattle.post_floor.specs.Plays.{published_to}
-use Rattle.shard_part.specs.PartState.{PartData}
-use Rattle.station.specs.Turn.{SentOff}
 use Rattle.station.proofs.Counted.{before_own, after_own}
-use Rattle.post_floor.specs.declared.view.WordStep.{WordStep}
-use Rattle.station.specs.Tries.{at, if_found, IsTry, AreTries, used}
 
 -- all these are below n
 abbrev pub AreBelow : ℕ → List ℕ → Type 0

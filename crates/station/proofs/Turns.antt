@@ -1,32 +1,9 @@
 -- What a whole turn does, of what its steps do.
-use Rattle.std.proofs.Common.{◌≡◌, ◌≢◌, ℕ, ◌+◌, ◌-◌, ◌*◌, ◌<◌, ◌≤◌, Bool, true, false, Option, Some, None, IfSome, List, [], ◌∷◌, length, get_or, min, refl, sym, ap, ◌∙◌, subst, ◌⊎◌, inl, inr, arith, eq-eqb, length-append}
-use Rattle.std.specs.Prelude.{IsTrue}
-use Rattle.std.proofs.lemmas.List.{append-nil}
-use Rattle.path_algebra.specs.Algebra.{Algebra}
-use Rattle.path_algebra.proofs.Least.{same_no_worse}
-use Rattle.path_algebra.specs.Walks.{IsWalkValue}
-use Rattle.scholten_core.specs.declared.event.Event.{Event}
-use Rattle.scholten_core.specs.declared.item.Item.{Item}
+use Rattle.station.proofs.Words.{◌≡◌, ◌≢◌, ℕ, ◌+◌, ◌-◌, ◌*◌, ◌<◌, ◌≤◌, Bool, true, false, Option, Some, None, IfSome, List, [], ◌∷◌, length, get_or, min, refl, sym, ap, ◌∙◌, subst, ◌⊎◌, inl, inr, arith, eq-eqb, length-append, IsTrue, append-nil, Algebra, same_no_worse, IsWalkValue, Event, Item, SetupData, IsPlanned, network_of, place_in, PartData, state_in, in_flight, part_weight, HoldsShare, core_of, IsOwn, has_ended, top, AllLawful, View, box_count, mailbox, FloorData, SeatData, fill_box, read_box, IsViewOf, HoldsReachedShare, Report, AreReady, AllCameIn, AllTriedFrom, AllTriedTo, Looked, WordStep, at, AreTries, used, HoldsNothingBack, IsAsFar, Turned, Tried}
 use Rattle.scholten_core.specs.Diffusion.{state_after}
 use Rattle.scholten_core.proofs.EveryRun.{labels_are_walk_values}
-use Rattle.shard_store.specs.Setup.{SetupData, IsPlanned, network_of, place_in}
-use Rattle.shard_part.specs.PartState.{PartData, state_in}
-use Rattle.shard_part.specs.Weights.{in_flight, part_weight}
-use Rattle.shard_part.specs.Represents.{HoldsShare, core_of}
 use Rattle.shard_part.specs.Part.{HandledMany, HandledWithin, IsRunOn, RunsOn}
-use Rattle.shard_part.specs.Readings.{IsOwn, has_ended}
-use Rattle.shard_store.specs.Tallies.{top}
-use Rattle.shard_part.proofs.Showing.{AllLawful}
-use Rattle.post_floor.specs.declared.view.View.{View}
-use Rattle.post_floor.specs.Boxes.{box_count, mailbox}
-use Rattle.post_floor.specs.Data.{FloorData, SeatData, fill_box, read_box}
-use Rattle.post_floor.specs.Plays.{IsViewOf, HoldsReachedShare}
 use Rattle.station.specs.Station.{StationData, BelongsTo, ReportedEnd, IsStation}
-use Rattle.station.specs.declared.turn.Report.{Report}
-use Rattle.station.specs.Steps.{AreReady, AllCameIn, AllTriedFrom, AllTriedTo, Looked}
-use Rattle.post_floor.specs.declared.view.WordStep.{WordStep}
-use Rattle.station.specs.Tries.{at, AreTries, used}
-use Rattle.station.specs.Turn.{HoldsNothingBack, IsAsFar, Turned, Tried}
 use Rattle.station.proofs.Trying.{few_tries}
 use Rattle.station.proofs.Labels.{IsLike, received_like, sent_like, sent_queue, labels_stay}
 

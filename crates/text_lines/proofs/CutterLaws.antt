@@ -1,10 +1,5 @@
 -- A cutter, as it goes on through a piece of bytes.
-use Rattle.std.proofs.Common.{◌≡◌, ℕ, ◌+◌, ◌-◌, ◌<◌, List, [], ◌∷◌, ◌++◌, length, take, drop, get_or, sym, ap, ◌∙◌, subst, append_assoc}
-use Rattle.std.proofs.lemmas.List.{take_more, take_rest}
-use Rattle.std.specs.Str.Lines.{strip_carriage_return}
-use lib.Seq.{take-add}
-use Rattle.text_lines.specs.declared.line_cutter.LineCutter.{LineCutter}
-use Rattle.text_lines.specs.Cuts.{IsPresent, IsLine, EndsLine}
+use Rattle.text_lines.proofs.Words.{◌≡◌, ℕ, ◌+◌, ◌-◌, ◌<◌, List, [], ◌∷◌, ◌++◌, length, take, drop, get_or, sym, ap, ◌∙◌, subst, append_assoc, take_more, take_rest, strip_carriage_return, take-add, LineCutter, IsPresent, IsLine, EndsLine}
 
 module _ {T : Type 0} (so_far : T → List (List ℕ) → Type 0) (s : LineCutter T) (xs : List ℕ) where
   abbrev pub HasPresent : LineCutter T → ℕ → Type 0

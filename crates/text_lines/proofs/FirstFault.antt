@@ -1,9 +1,6 @@
 -- A fault of a text is the first one: that of the least line that breaks a rule, else that of the
 -- end.
-use Rattle.std.proofs.Common.{◌≡◌, ℕ, ◌+◌, ◌≤◌, List, [], ◌∷◌, ◌++◌, length, take, Bool, true, false, cond, nat_lt, Ok, Err, Result, inl, inr, refl, sym, ap, ◌∙◌, subst, arith}
-use Rattle.std.specs.Bool.{MatchBool}
-use Rattle.text_lines.specs.declared.faults.ReadFault.{ReadFault}
-use Rattle.text_lines.specs.Lines.{lines, fields}
+use Rattle.text_lines.proofs.Words.{◌≡◌, ℕ, ◌+◌, ◌≤◌, List, [], ◌∷◌, ◌++◌, length, take, Bool, true, false, cond, nat_lt, Ok, Err, Result, inl, inr, refl, sym, ap, ◌∙◌, subst, arith, MatchBool, ReadFault, lines, fields}
 use Rattle.text_lines.specs.Rules.{Rules, value_of_lines, text_read, FaultIn, FirstFault, EndsIn, state_after, at_line, fault_at, too_long, ◌>>=◌}
 
 fault_parts : {V : Type 0} (n at : ℕ) (f : ReadFault) → ◌≡◌ {A = Result V ReadFault} (Err (fault_at at n)) (Err f) → (n ≡ f.number) × (at ≡ f.line)

@@ -1,15 +1,9 @@
 -- The digits at the prefix of some bytes, and the number that they write.
 use Rattle.std.proofs.Common.{◌≡◌, ℕ, suc, ◌+◌, ◌*◌, ◌^◌, ◌-◌, ◌%◌, ◌<◌, ◌≤◌, List, [], ◌∷◌, length, take, Bool, true, false, cond, All, Some, min, refl, ap, sym, ◌∙◌, arith}
 use Rattle.std.specs.Prelude.{option_map, slice_range}
-use Rattle.std.specs.List.{prefix_len}
-use Rattle.std.specs.Char.{is_ascii_digit}
-use Rattle.std.specs.Str.{all_ascii_digits}
-use Rattle.std.specs.Str.Parse.{digits_value}
+use Rattle.text_lines.proofs.Words.{prefix_len, is_ascii_digit, all_ascii_digits, digits_value, length-take-le, number, number_with}
 use Rattle.std.proofs.lemmas.List.Elements.{All-nil, All-cons}
-use Rattle.std.proofs.lemmas.List.{length-take-le}
 use Rattle.std.proofs.lemmas.Str.Parse.{digits_value_short}
-use Rattle.text_lines.specs.Lines.{number}
-use Rattle.text_lines.specs.Scans.{number_with}
 use Rattle.text_lines.proofs.RoundTrip.{own}
 use Rattle.text_lines.proofs.ScanLaws.{number_with_held}
 

@@ -1,3 +1,4 @@
+mod Words
 pub mod Splits
 mod ScanLaws
 mod ScannerLaws

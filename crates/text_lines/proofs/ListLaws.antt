@@ -1,12 +1,7 @@
 -- Lines of a word and numbers, and the numbers of their fields.
 use Rattle.std.proofs.Common.{◌≡◌, ℕ, ◌<◌, List, [], ◌∷◌, ◌++◌, length, drop, map, Ok, Err, Result, refl, arith, ◌+◌, get_or, decimal, sym, ap, ◌∙◌, append_assoc, drop-cons, add-one, subst}
-use Rattle.std.proofs.lemmas.List.{map-append}
-use Rattle.text_lines.specs.Rules.{◌>>=◌}
-use Rattle.text_lines.specs.Words.{Word, word_of}
-use Rattle.std.specs.List.{join_with_byte}
+use Rattle.text_lines.proofs.Words.{map-append, ◌>>=◌, Word, word_of, join_with_byte, Output, WrotePrefix, FailedAfterPrefix, WritesText}
 use Rattle.text_lines.specs.Texts.{spelled, list_words, spaced}
-use Rattle.text_lines.specs.Streams.{Output}
-use Rattle.text_lines.specs.Written.{WrotePrefix, FailedAfterPrefix, WritesText}
 use Rattle.text_lines.proofs.WriteLaws.{wrote_then, left_step, fell_step, fell_first}
 
 -- what words give from left to right, where `one` is what each gives, and `all` what they give

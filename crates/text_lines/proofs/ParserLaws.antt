@@ -3,20 +3,15 @@ use Rattle.std.proofs.Common.{◌≡◌, ℕ, ◌+◌, List, [], ◌∷◌, Bool
 use Rattle.std.specs.Result.{OnOk, IfOk}
 use Rattle.text_lines.specs.declared.faults.LineFault.{LineFault}
 use Rattle.text_lines.specs.declared.faults.LineFault.TheVariants.{Broken}
-use Rattle.text_lines.specs.declared.faults.ReadFault.{ReadFault}
+use Rattle.text_lines.proofs.Words.{ReadFault, fields, lines, number_up_to, MatchBool, IfOk-weaker, IfErr-weaker, Meaning}
 use Rattle.text_lines.specs.declared.faults.Rule.{Rule}
-use Rattle.text_lines.specs.Lines.{fields, lines}
 use Rattle.text_lines.specs.Rules.{Rules, fault_at, ◌>>=◌, unless, at_line, value_of_lines, text_read, too_long}
 use Rattle.text_lines.specs.Takes.{Breaks, GivesBy, Leaves}
 use Rattle.text_lines.specs.Streams.{Input}
 use Rattle.text_lines.specs.Reads.{IsNumberFrom, IsReadNumber, ReadsSomeFault, ReadsText, ReadsValue, ReadsSome, ReadsFault, FailsAfter, RunsOutAfter, BreaksNone, FailsUnbroken, RunsOutUnbroken}
-use Rattle.text_lines.specs.Words.{number_up_to}
-use Rattle.std.specs.Bool.{MatchBool}
 use Rattle.std.proofs.lemmas.Option.{IfSome_then}
-use Rattle.std.proofs.lemmas.Result.{IfOk-weaker, IfErr-weaker}
 use Rattle.text_lines.proofs.FirstFault.{breaks_none}
 use Rattle.text_lines.specs.Reading.{TextGives, SomeTextGives, IsUnbroken, ReadsWhole}
-use Rattle.text_lines.specs.Meaning.{Meaning}
 
 -- what code leaves where it gives a value
 pub on_ok : {A B P : Type 0} (r : Result B LineFault) (rule : Result A ℕ) (state : A) → Leaves rule r state → (rule ≡ Ok state → P) → OnOk r P

@@ -1,17 +1,6 @@
 -- What a reader of lines makes of a piece of bytes, and of the end of a text.
 use Rattle.std.proofs.Common.{◌≡◌, ℕ, Bool, List, [], ◌∷◌, ◌++◌, true, false, Result, Ok, Err, refl, sym, ap, ◌+◌, ◌-◌, ◌<◌, ◌≤◌, length, drop, arith, take, ◌∙◌, subst, append_assoc, append-nil, take-append-drop, length-append, length-drop}
-use Rattle.std.proofs.lemmas.List.{length-take-le, take_all}
-use Rattle.std.specs.Str.Lines.{strip_carriage_return}
-use Rattle.text_lines.specs.Rules.{too_long}
-use Rattle.text_lines.specs.declared.faults.ReadFault.{ReadFault}
-use Rattle.text_lines.specs.declared.faults.Halt.{Halt}
-use Rattle.text_lines.specs.declared.faults.Halt.TheVariants.{Read, TooLong, Memory, Broken}
-use Rattle.text_lines.specs.declared.fields_of.FieldsOf.{FieldsOf}
-use Rattle.text_lines.specs.declared.line_cutter.LineCutter.{LineCutter}
-use Rattle.text_lines.specs.declared.reader.LineReader.{LineReader}
-use Rattle.text_lines.specs.Cuts.{IsPresent, IsLine, EndsLine, StaysInLine}
-use Rattle.text_lines.specs.Lines.{lines, has_bytes}
-use Rattle.text_lines.specs.Meaning.{Meaning}
+use Rattle.text_lines.proofs.Words.{length-take-le, take_all, strip_carriage_return, too_long, ReadFault, Halt, Read, TooLong, Memory, Broken, FieldsOf, LineCutter, LineReader, IsPresent, IsLine, EndsLine, StaysInLine, lines, has_bytes, Meaning}
 use Rattle.text_lines.specs.Reading.{RestGives, SoFarOf, KeepsGiven, LineGoes, IsOfLine, Halts, HaltsAtEnd, EndHalts, CutShort}
 use Rattle.text_lines.proofs.Splits.{take_further}
 use Rattle.text_lines.proofs.TextLaws.{lines_cut, lines_first, lines_of_last, lines_of_none}

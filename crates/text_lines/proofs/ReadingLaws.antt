@@ -1,19 +1,7 @@
 -- What a reader of lines has read, from the first byte to the last.
-use Rattle.std.proofs.Common.{◌≡◌, ℕ, ◌+◌, ◌-◌, ◌<◌, ◌≤◌, List, [], ◌++◌, length, take, Bool, true, false, Option, Some, None, Result, Ok, Err, IfSome, refl, sym, ap, ◌∙◌, arith, length-append, append-nil, append_assoc, nat_lt}
-use Rattle.std.specs.Bool.{MatchBool}
-use Rattle.std.specs.Io.KnownBytes.{Consumes, Keeps, IsAtEnd}
-use Rattle.std.proofs.lemmas.Bool.{lt-ltb, le-ltb}
-use Rattle.std.proofs.Math.Seq.{take-append_seam}
+use Rattle.text_lines.proofs.Words.{◌≡◌, ℕ, ◌+◌, ◌-◌, ◌<◌, ◌≤◌, List, [], ◌++◌, length, take, Bool, true, false, Option, Some, None, Result, Ok, Err, IfSome, refl, sym, ap, ◌∙◌, arith, length-append, append-nil, append_assoc, nat_lt, MatchBool, Consumes, Keeps, IsAtEnd, lt-ltb, le-ltb, take-append_seam, ReadFault, Halt, Read, TooLong, Memory, Broken, LineReader, FailsAfter, RunsOutAfter, too_long, Meaning, lines}
 use Rattle.text_lines.proofs.Splits.{take-append_past}
-use Rattle.text_lines.specs.declared.faults.ReadFault.{ReadFault}
-use Rattle.text_lines.specs.declared.faults.Halt.{Halt}
-use Rattle.text_lines.specs.declared.faults.Halt.TheVariants.{Read, TooLong, Memory, Broken}
-use Rattle.text_lines.specs.declared.reader.LineReader.{LineReader}
-use Rattle.text_lines.specs.Reads.{FailsAfter, RunsOutAfter}
-use Rattle.text_lines.specs.Rules.{too_long}
 use Rattle.text_lines.proofs.ReaderLaws.{cut_here}
-use Rattle.text_lines.specs.Meaning.{Meaning}
-use Rattle.text_lines.specs.Lines.{lines}
 use Rattle.text_lines.specs.Reading.{RestGives, Halts, HaltsAtEnd, CutShort, BreaksOff, TextGives, SomeTextGives, HasTaken, HasRead, Stops, SomeTextStops, IsUnbroken, StopsAfter}
 
 module _ {T V : Type 0} (meaning : Meaning T V) (parser : T) where

@@ -1,19 +1,12 @@
 -- What is written is read again.
-use Rattle.std.proofs.Common.{◌≡◌, ℕ, zero, suc, map, ◌-◌, ◌+◌, ◌<◌, ◌≤◌, ◌^◌, List, [], ◌∷◌, ◌++◌, length, get_or, Bool, true, false, ◌&&◌, nat_lt, inl, inr, Some, Result, Ok, Err, refl, sym, ap, ◌∙◌, arith, append_assoc}
+use Rattle.text_lines.proofs.Words.{◌≡◌, ℕ, zero, suc, map, ◌-◌, ◌+◌, ◌<◌, ◌≤◌, ◌^◌, List, [], ◌∷◌, ◌++◌, length, get_or, Bool, true, false, ◌&&◌, nat_lt, inl, inr, Some, Result, Ok, Err, refl, sym, ap, ◌∙◌, arith, append_assoc, all_ascii_digits, strip_carriage_return, digits_value, ne_eqb, cases_lt, lt-ltb, le-ltb, All-append, slice_split_at, slice_split_none, lines, fields, number, is_gap, is_line_end, has_bytes}
 use Rattle.std.specs.List.{All, AllByRecursion, join_with_byte}
 use Rattle.std.specs.Fmt.{decimal}
-use Rattle.std.specs.Str.{all_ascii_digits}
-use Rattle.std.specs.Str.Lines.{strip_carriage_return}
-use Rattle.std.specs.Str.Parse.{digits_value}
 use Rattle.std.proofs.lemmas.Str.Parse.{digit_at, IsNumeralModel, numerals_by_value, tells_all_ascii_digits}
 use Rattle.std.proofs.lemmas.Fmt.{digits_decimal, digits_value-decimal, decimal_nonempty}
-use Rattle.std.proofs.lemmas.Bool.{ne_eqb, cases_lt, lt-ltb, le-ltb}
-use Rattle.std.proofs.lemmas.List.Elements.{All-append}
 use Rattle.std.proofs.lemmas.List.{get_or_default}
 use Rattle.std.specs.Int.{IsInRange}
 use Rattle.text_lines.proofs.TextLaws.{lines_first, lines_none}
-use Rattle.std.proofs.lemmas.List.Splits.{slice_split_at, slice_split_none}
-use Rattle.text_lines.specs.Lines.{lines, fields, number, is_gap, is_line_end, has_bytes}
 use Rattle.text_lines.specs.Rules.{◌>>=◌, Rules, value_of_lines, at_line, text_value, text_read}
 use Rattle.text_lines.specs.Texts.{spelled, text_of, IsWord, AreLines}
 

@@ -1,20 +1,12 @@
 -- What a record of fixed size shows of a line.
-use Rattle.std.specs.List.{slice_split}
+use Rattle.text_lines.proofs.Words.{slice_split, cases_lt, lt-ltb, le-ltb, ne_eqb, all_ascii_digits, digits_value, map-append, common_steps, fields, number, is_gap, has_bytes, Shows, number_on, number_with, word_on, word_with, Scan, past, scan_on, Word, held_word, no_word}
 use Rattle.std.proofs.Common.{◌≡◌, ℕ, ◌+◌, ◌*◌, ◌-◌, ◌<◌, min, List, [], ◌∷◌, ◌++◌, length, take, map, filter, Bool, true, false, cond, not, ◌&&◌, ◌||◌, ◌==◌, Option, Some, None, option_map, refl, sym, ap, ◌∙◌, arith, append-nil, nat_lt, inl, inr, subst, suc, append_assoc, All, get_or}
 use Rattle.std.specs.Option.{option_and_then}
 use Rattle.std.proofs.lemmas.Str.{digit_value_digit}
-use Rattle.std.proofs.lemmas.Bool.{cases_lt, lt-ltb, le-ltb, ne_eqb}
 use Rattle.std.proofs.lemmas.List.{take_all, take_more, length-take-le, take-append-le, length-append}
 use Rattle.std.specs.Char.{is_ascii_digit, digit_value}
-use Rattle.std.specs.Str.{all_ascii_digits}
-use Rattle.std.specs.Str.Parse.{digits_value}
 use Rattle.std.proofs.lemmas.Int.Digits.{digits_value_push}
-use Rattle.std.proofs.lemmas.List.{map-append}
 use Rattle.std.proofs.lemmas.List.Elements.{filter-append}
-use Rattle.std.proofs.lemmas.Grind.{common_steps}
-use Rattle.text_lines.specs.Lines.{fields, number, is_gap, has_bytes}
-use Rattle.text_lines.specs.Scans.{Shows, number_on, number_with, word_on, word_with, Scan, past, scan_on}
-use Rattle.text_lines.specs.Words.{Word, held_word, no_word}
 use Rattle.text_lines.proofs.Splits.{take-append_past, onto_last, onto_last-append, slice_split-separator, slice_split-other}
 
 and-true : (a : Bool) → (a && true) ≡ a

@@ -2,9 +2,7 @@
 use Rattle.std.proofs.Common.{◌≡◌, ℕ, ◌+◌, ◌<◌, ◌≤◌, List, [], ◌∷◌, ◌++◌, length, take, map, get_or, set, refl, arith}
 use Rattle.std.proofs.lemmas.List.{map-set, take-set, get_or-set_same, take_more, length-map, length-take-le}
 use Rattle.text_lines.specs.declared.slots.Slot.{Slot}
-use Rattle.text_lines.specs.Scans.{Scan}
-use Rattle.text_lines.specs.Slots.{word_in}
-use Rattle.text_lines.specs.Words.{no_word}
+use Rattle.text_lines.proofs.Words.{Scan, word_in, no_word}
 
 -- the scan that the first k slots and the one after them show
 abbrev pub scan_at : List Slot → ℕ → Scan

@@ -1,19 +1,7 @@
 -- A line of a letter and three numbers, as it is read in one go.
-use Rattle.std.proofs.Common.{◌≡◌, ℕ, ◌+◌, ◌-◌, ◌≤◌, List, [], ◌∷◌, ◌++◌, length, take, drop, filter, get_or, Bool, false, Some, Result, refl, sym, ap, ◌∙◌, subst, arith, append_assoc, append-nil}
+use Rattle.text_lines.proofs.Words.{◌≡◌, ℕ, ◌+◌, ◌-◌, ◌≤◌, List, [], ◌∷◌, ◌++◌, length, take, drop, filter, get_or, Bool, false, Some, Result, refl, sym, ap, ◌∙◌, subst, arith, append_assoc, append-nil, slice_split, join_with_byte, ReadFault, FieldsOf, LineCutter, LineReader, lines, is_gap, has_bytes, Scan, Shows, scan_of, number_with, word_with, IsPresent, RestGives, SoFarOf, spelled, IsWord, Meaning, Word, held_word}
 use Rattle.std.proofs.lemmas.List.{length-append}
-use Rattle.std.specs.List.{slice_split, join_with_byte}
-use Rattle.text_lines.specs.declared.faults.ReadFault.{ReadFault}
-use Rattle.text_lines.specs.declared.fields_of.FieldsOf.{FieldsOf}
-use Rattle.text_lines.specs.declared.line_cutter.LineCutter.{LineCutter}
-use Rattle.text_lines.specs.declared.reader.LineReader.{LineReader}
-use Rattle.text_lines.specs.Lines.{lines, is_gap, has_bytes}
-use Rattle.text_lines.specs.Scans.{Scan, Shows, scan_of, number_with, word_with}
 use Rattle.text_lines.specs.ShortLines.{IsNumberThen, IsShortLine, HasShortFields}
-use Rattle.text_lines.specs.Cuts.{IsPresent}
-use Rattle.text_lines.specs.Reading.{RestGives, SoFarOf}
-use Rattle.text_lines.specs.Texts.{spelled, IsWord}
-use Rattle.text_lines.specs.Meaning.{Meaning}
-use Rattle.text_lines.specs.Words.{Word, held_word}
 use Rattle.text_lines.proofs.RoundTrip.{fields_join, line_again}
 use Rattle.text_lines.proofs.ScanLaws.{held_word-with, no_word_is}
 use Rattle.text_lines.proofs.Splits.{take_further}

@@ -1,12 +1,7 @@
 -- The parts of a text that grows at its end.
-use Rattle.std.proofs.lemmas.List.{take_rest}
-use lib.Seq.{take-add}
+use Rattle.text_lines.proofs.Words.{take_rest, take-add, ◌≡◌, ◌<◌, List, [], ◌∷◌, ◌++◌, length, Bool, true, false, cond, refl, ap, arith, ℕ, ◌-◌, take, ◌≤◌, ◌∙◌, All, zero, suc, drop, ◌+◌, append_assoc, is_ascii_digit, is_plain, length-slice_split}
 use Rattle.std.proofs.Math.Seq.{take-append-add}
-use Rattle.std.proofs.Common.{◌≡◌, ◌<◌, List, [], ◌∷◌, ◌++◌, length, Bool, true, false, cond, refl, ap, arith, ℕ, ◌-◌, take, ◌≤◌, ◌∙◌, All, zero, suc, drop, ◌+◌, append_assoc}
 use Rattle.std.specs.List.{slice_split, onto_first}
-use Rattle.std.specs.Char.{is_ascii_digit}
-use Rattle.text_lines.specs.Scans.{is_plain}
-use Rattle.std.proofs.lemmas.List.Splits.{length-slice_split}
 
 -- y at the end of the last part
 abbrev pub onto_last : {X : Type 0} → X → List (List X) → List (List X)

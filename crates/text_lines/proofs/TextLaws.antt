@@ -1,15 +1,10 @@
 -- The lines of a text, as its bytes come.
-use Rattle.std.proofs.Common.{◌≡◌, ◌≢◌, ℕ, suc, ◌-◌, ◌<◌, List, [], ◌∷◌, ◌++◌, length, take, get_or, Bool, true, false, cond, eqb, ◌||◌, ◌==◌, ◌+◌, refl, sym, ap, ◌∙◌, subst, arith, length-append}
+use Rattle.text_lines.proofs.Words.{◌≡◌, ◌≢◌, ℕ, suc, ◌-◌, ◌<◌, List, [], ◌∷◌, ◌++◌, length, take, get_or, Bool, true, false, cond, eqb, ◌||◌, ◌==◌, ◌+◌, refl, sym, ap, ◌∙◌, subst, arith, length-append, strip_carriage_return, slice_split_at, slice_split_none, length-slice_split, All-append, Shows, Scan, scan_on, word_with, is_plain, no_word}
 use Rattle.std.specs.List.{slice_split, All}
-use Rattle.std.specs.Str.Lines.{strip_carriage_return}
-use Rattle.std.proofs.lemmas.List.Splits.{slice_split_at, slice_split_none, length-slice_split}
-use Rattle.std.proofs.lemmas.List.Elements.{All-append}
 use Rattle.std.proofs.Math.Seq.{take-append_seam, get_or-append_seam, take-suc, take-length}
 use Rattle.std.proofs.lemmas.Bool.{ne_eqb, eqb-true, eqb-false, not-true}
 use Rattle.std.proofs.lemmas.List.{get_or-append-add}
 use Rattle.text_lines.specs.Lines.{lines, lines_of_parts, is_line_end, has_bytes, is_gap}
-use Rattle.text_lines.specs.Scans.{Shows, Scan, scan_on, word_with, is_plain}
-use Rattle.text_lines.specs.Words.{no_word}
 use Rattle.text_lines.specs.Cuts.{Holds, ends_in_return}
 use Rattle.text_lines.proofs.Splits.{All-one}
 use Rattle.text_lines.proofs.ScanLaws.{shows_start, shows_on, shows_run}

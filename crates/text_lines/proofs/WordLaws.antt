@@ -1,11 +1,8 @@
 -- What is kept of a field, and of a line, is enough for rules that look at short words and at
 -- numbers with limits.
-use Rattle.std.proofs.Common.{◌≡◌, ℕ, zero, suc, ◌<◌, min, List, [], ◌∷◌, length, take, map, Bool, false, eqb, nat_lt, Option, Some, None, option_map, refl, sym, ap, ◌∙◌, subst, arith, inl, inr, get_or}
-use Rattle.std.proofs.lemmas.Grind.{common_steps}
-use Rattle.std.proofs.lemmas.Bool.{cases_lt, ne_eqb, lt-ltb}
+use Rattle.text_lines.proofs.Words.{◌≡◌, ℕ, zero, suc, ◌<◌, min, List, [], ◌∷◌, length, take, map, Bool, false, eqb, nat_lt, Option, Some, None, option_map, refl, sym, ap, ◌∙◌, subst, arith, inl, inr, get_or, common_steps, cases_lt, ne_eqb, lt-ltb, take_all, length-take-le}
 use Rattle.std.specs.Bool.{Decides}
 use Rattle.std.proofs.lemmas.Slice.Eq.{bytes_eq-Decides}
-use Rattle.std.proofs.lemmas.List.{take_all, length-take-le}
 use Rattle.std.specs.Str.{bytes_eq}
 use Rattle.text_lines.specs.Words.{Word, word_of, word_at, held_word, number_up_to}
 

@@ -1,13 +1,9 @@
 -- A text that is written in pieces.
-use Rattle.std.proofs.Common.{◌≡◌, ℕ, ◌<◌, ◌≤◌, List, [], ◌++◌, length, map, get_or, take, drop, Result, Ok, Err, refl, sym, ap, ◌∙◌, append_assoc, take-append-drop, ◌+◌, append-nil, subst, ◌⊎◌, inl, inr, drop-cons, drop_of_length-le, add-one, arith}
+use Rattle.text_lines.proofs.Words.{◌≡◌, ℕ, ◌<◌, ◌≤◌, List, [], ◌++◌, length, map, get_or, take, drop, Result, Ok, Err, refl, sym, ap, ◌∙◌, append_assoc, take-append-drop, ◌+◌, append-nil, subst, ◌⊎◌, inl, inr, drop-cons, drop_of_length-le, add-one, arith, Appends, Keeps, text_of, spelled, Output, WrotePrefix, FailedAfterPrefix, WritesText}
 use Rattle.std.proofs.lemmas.List.{length-map, get_or-map}
-use Rattle.std.specs.Io.KnownBytes.{Appends, Keeps}
 use Rattle.std.specs.Result.{IsErrAnd}
 use Rattle.std.proofs.KnownBytes.{Appends-trans, Appends-nil, Appends-kept}
 use Rattle.text_lines.specs.declared.ends.WriteFault.{WriteFault}
-use Rattle.text_lines.specs.Texts.{text_of, spelled}
-use Rattle.text_lines.specs.Streams.{Output}
-use Rattle.text_lines.specs.Written.{WrotePrefix, FailedAfterPrefix, WritesText}
 
 -- nothing was written yet
 pub left_start : {X : Type 0} (old : Output X) (text : List ℕ) → WrotePrefix old old text text

@@ -1,26 +1,11 @@
 -- At the end of the search the values are best, and hops and parents are their tree.
-use Rattle.std.proofs.Common.{◌≡◌, ℕ, zero, suc, ◌+◌, ◌-◌, ◌≤◌, inl, inr, Bool, true, false, cond, List, [], ◌∷◌, get_or, refl, ap, sym, ◌∙◌, subst, arith, Option, Some, None}
-use Rattle.std.proofs.Math.ListN.{get_or-map}
-use Rattle.std.proofs.lemmas.List.{length-map}
-use Rattle.std.proofs.lemmas.Bool.{cases_Bool, ne_eqb}
-use Rattle.std.proofs.lemmas.Bool.Decides.{eqb_tells}
-use Rattle.std.specs.Prelude.{IsTrue, All, option_map}
-use Rattle.road_graph.specs.GraphData.{GraphData, IsGraph, HasArc, HasVertex, arc_of}
-use Rattle.road_graph.proofs.Lists.{not_in_empty, same_some}
-use Rattle.path_algebra.specs.Algebra.{Algebra, IsLawful}
+use Rattle.tree_search.proofs.Words.{◌≡◌, ℕ, zero, suc, ◌+◌, ◌-◌, ◌≤◌, inl, inr, Bool, true, false, cond, List, [], ◌∷◌, get_or, refl, ap, sym, ◌∙◌, subst, arith, Option, Some, None, get_or-map, length-map, cases_Bool, ne_eqb, eqb_tells, IsTrue, All, option_map, GraphData, IsGraph, HasArc, HasVertex, arc_of, not_in_empty, same_some, Algebra, IsLawful, AnswersBestOpen, all_inside, same_no_worse, IsSettled, IsLinked, IsTree, by_number, Mark}
 use Rattle.path_algebra.specs.Walks.{AreBest, label_of, is_tight, is_tight_between, is_reached_by}
-use Rattle.path_algebra.specs.Open.{AnswersBestOpen}
-use Rattle.path_algebra.proofs.Walks.{all_inside}
-use Rattle.path_algebra.proofs.Least.{same_no_worse}
-use Rattle.path_plain.proofs.Known.{IsSettled}
 use Rattle.path_plain.proofs.Rounds as plain
 use Rattle.route_tree.specs.Levels.{IsWalkOf, Visiting}
-use Rattle.route_tree.specs.Tree.{IsLinked, IsTree}
 use Rattle.route_tree.proofs.LevelsAreLeast.{IsWalkOf-snoc, IsWalkOf-nil, search_ends}
 use Rattle.route_tree.proofs.Trees.{linked, tree_is}
 use Rattle.tree_search.specs.Marks.{key_of, values_in, keys_in, hops_in, parents_in, parent_in, parent_or_none}
-use Rattle.ranked_queue.specs.Order.{by_number}
-use Rattle.tree_search.specs.declared.mark.Mark.{Mark}
 use Rattle.tree_search.proofs.Reading.{read, read_none, found, is_some}
 use Rattle.tree_search.proofs.Hopping.{Hopping}
 

@@ -1,21 +1,12 @@
 -- The search with hops and parents: what holds between its steps, its start, one arc, all arcs of a
 -- vertex, and the choice of a vertex.
-use Rattle.std.proofs.Common.{◌≡◌, ℕ, suc, ◌+◌, ◌-◌, ◌<◌, ◌≤◌, ◌⊎◌, inl, inr, Bool, false, List, [], ◌∷◌, length, get_or, refl, ap, sym, ◌∙◌, subst, arith, Option, Some, None, get_or-set_same, get_or-set_other}
-use Rattle.std.proofs.lemmas.List.{length-map}
-use Rattle.std.proofs.lemmas.Bool.{cases_eq}
-use Rattle.std.specs.Prelude.{IsTrue, All, Contains, option_map}
-use Rattle.road_graph.specs.GraphData.{GraphData, IsGraph, HasArc, HasVertex, arc_of}
+use Rattle.tree_search.proofs.Words.{◌≡◌, ℕ, suc, ◌+◌, ◌-◌, ◌<◌, ◌≤◌, ◌⊎◌, inl, inr, Bool, false, List, [], ◌∷◌, length, get_or, refl, ap, sym, ◌∙◌, subst, arith, Option, Some, None, get_or-set_same, get_or-set_other, length-map, cases_eq, IsTrue, All, Contains, option_map, GraphData, IsGraph, HasArc, HasVertex, arc_of, Algebra, IsLawful, same_no_worse, key_of, values_in, marked, marked_if, relaxed_marks, by_number, told, tells, Mark}
 use Rattle.road_graph.proofs.Lists.{head_or_tail, same_some}
-use Rattle.path_algebra.specs.Algebra.{Algebra, IsLawful}
 use Rattle.path_algebra.specs.Walks.{IsNotImproving, label_of}
 use Rattle.path_algebra.proofs.Walks.{walk_value_is_value, all_inside}
 use Rattle.path_algebra.proofs.Tight.{never_better_along}
-use Rattle.path_algebra.proofs.Least.{same_no_worse}
 use Rattle.path_plain.proofs.Known.{IsSettled, Search}
 use Rattle.path_plain.proofs.Offering.{search_arc}
-use Rattle.tree_search.specs.Marks.{key_of, values_in, marked, marked_if, relaxed_marks}
-use Rattle.ranked_queue.specs.Order.{by_number, told, tells}
-use Rattle.tree_search.specs.declared.mark.Mark.{Mark}
 use Rattle.tree_search.proofs.Reading.{read, found, IsKept, IsTaken, outcome, values_marked}
 
 -- an arc from a settled vertex gave v its mark

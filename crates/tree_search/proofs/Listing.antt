@@ -1,28 +1,11 @@
 -- The list of the settled vertices, in the order in which they were settled.
-use Rattle.std.proofs.Common.{◌≡◌, ℕ, ◌+◌, ◌-◌, ◌<◌, inl, inr, Bool, true, false, List, [], ◌∷◌, ◌++◌, length, get_or, set, replicate, refl, ap, sym, ◌∙◌, subst, arith, Option, Some, None}
-use Rattle.std.proofs.Math.ListN.{get_or-map}
-use Rattle.std.proofs.lemmas.Bool.{cases_Bool}
-use Rattle.std.proofs.lemmas.List.{get_or_default}
-use Rattle.std.proofs.lemmas.List.Elements.{Contains-append_left, Contains-push, Contains-push_cases}
+use Rattle.tree_search.proofs.Words.{◌≡◌, ℕ, ◌+◌, ◌-◌, ◌<◌, inl, inr, Bool, true, false, List, [], ◌∷◌, ◌++◌, length, get_or, set, replicate, refl, ap, sym, ◌∙◌, subst, arith, Option, Some, None, get_or-map, cases_Bool, get_or_default, Contains-append_left, Contains-push, Contains-push_cases, GraphData, IsGraph, HasVertex, not_in_empty, Algebra, IsLawful, AnswersBestOpen, IsTree, AreNoted, IsSettled, none_settled, by_number, values_in, keys_in, hops_in, parents_in, Mark, AreOpening, Step, Settled, Dropped, Ended}
 use Rattle.std.proofs.lemmas.List.Quantifiers.{all_pairs_push}
 use Rattle.std.specs.Prelude.{IsTrue, All, AllPairs, Contains, option_map}
-use Rattle.road_graph.specs.GraphData.{GraphData, IsGraph, HasVertex}
-use Rattle.road_graph.proofs.Lists.{not_in_empty}
-use Rattle.path_algebra.specs.Algebra.{Algebra, IsLawful}
 use Rattle.path_algebra.specs.Walks.{AreBest, IsBest, label_of}
-use Rattle.path_algebra.specs.Open.{AnswersBestOpen}
 use Rattle.path_algebra.proofs.Tight.{labelled, best_is_label}
-use Rattle.route_tree.specs.Tree.{IsTree}
-use Rattle.path_plain.specs.Noting.{AreNoted}
-use Rattle.path_plain.proofs.Known.{IsSettled, none_settled}
-use Rattle.ranked_queue.specs.Order.{by_number}
-use Rattle.tree_search.specs.Marks.{values_in, keys_in, hops_in, parents_in}
 use Rattle.tree_search.specs.Nearest.{AreNearest}
 use Rattle.tree_search.specs.Searching.{SearchState, IsBlank, IsSameSearch, Relaxes, Settles, Drops, Proceeds, is_end, listed_after}
-use Rattle.tree_search.specs.declared.mark.Mark.{Mark}
-use Rattle.tree_search.specs.Opening.{AreOpening}
-use Rattle.tree_search.specs.declared.step.Step.{Step}
-use Rattle.tree_search.specs.declared.step.Step.TheVariants.{Settled, Dropped, Ended}
 use Rattle.tree_search.proofs.Reading.{found, is_some}
 use Rattle.tree_search.proofs.Rounds.{Between, starting, keys_count, round_stays, round_inside, round_value, round_open, round_still, round_now, round_settled, round_no_better}
 use Rattle.tree_search.proofs.Ending.{values_are_best, all_settled}

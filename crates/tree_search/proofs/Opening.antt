@@ -1,15 +1,7 @@
 -- The marks at the start of a search, source by source.
-use Rattle.std.proofs.Common.{◌≡◌, ℕ, zero, suc, ◌+◌, ◌-◌, ◌<◌, ◌≤◌, inl, inr, Bool, List, [], ◌∷◌, length, get_or, set, replicate, take, map, refl, ap, sym, ◌∙◌, subst, arith, Option, Some, None, get_or-set_same, get_or-set_other}
-use Rattle.std.proofs.lemmas.Bool.{cases_eq}
-use Rattle.std.proofs.lemmas.List.{length-map}
-use Rattle.std.specs.Prelude.{option_map}
-use Rattle.path_algebra.specs.Algebra.{IsOrder}
-use Rattle.path_algebra.specs.Walks.{label_of}
+use Rattle.tree_search.proofs.Words.{◌≡◌, ℕ, zero, suc, ◌+◌, ◌-◌, ◌<◌, ◌≤◌, inl, inr, Bool, List, [], ◌∷◌, length, get_or, set, replicate, take, map, refl, ap, sym, ◌∙◌, subst, arith, Option, Some, None, get_or-set_same, get_or-set_other, cases_eq, length-map, option_map, IsOrder, label_of, values_in, marked, source_mark, AreOpening, Mark}
 use Rattle.path_plain.proofs.Known as plain
 use Rattle.path_plain.specs.Opening as labels
-use Rattle.tree_search.specs.Marks.{values_in, marked, source_mark}
-use Rattle.tree_search.specs.Opening.{AreOpening}
-use Rattle.tree_search.specs.declared.mark.Mark.{Mark}
 use Rattle.tree_search.proofs.Reading.{outcome, values_marked}
 use Rattle.tree_search.proofs.Steps.{none_there}
 

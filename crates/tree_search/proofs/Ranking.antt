@@ -1,8 +1,5 @@
 -- One number for hops and a place orders entries as first the hops do, and then the places.
-use Rattle.std.proofs.Common.{ℕ, ◌+◌, ◌*◌, ◌<◌, ◌≤◌, Bool, List, arith}
-use Rattle.std.specs.Prelude.{Contains}
-use Rattle.std.specs.BinaryHeap.{IsUpperBound}
-use Rattle.ranked_queue.specs.Order.{ranked_cmp, by_number, told, tells}
+use Rattle.tree_search.proofs.Words.{ℕ, ◌+◌, ◌*◌, ◌<◌, ◌≤◌, Bool, List, arith, Contains, IsUpperBound, ranked_cmp, by_number, told, tells}
 use Rattle.ranked_queue.proofs.Bounds.{ahead_is_bound, bound_is_ahead}
 
 no_more_hops : (h h' p p' : ℕ) → h * 4294967296 + p ≤ h' * 4294967296 + p' → p' < 4294967296 → h ≤ h'

@@ -1,16 +1,9 @@
 -- Reading the marks of vertices, and what an offer does to one.
 use Rattle.std.proofs.Common.{◌≡◌, ℕ, ◌-◌, ◌≤◌, ◌⊎◌, inl, inr, Bool, true, false, cond, not, leb, List, map, set, refl, ap, sym, ◌∙◌, subst, arith, Option, Some, None}
-use Rattle.std.proofs.Math.ListN.{get_or-map}
+use Rattle.tree_search.proofs.Words.{get_or-map, cases_Bool, IsTrue, option_map, IsOrder, other_no_worse, key_of, values_in, is_better, is_lesser, marked, by_number, told, by_number_order, Mark}
 use Rattle.std.proofs.lemmas.List.{map-set, set-get_or}
-use Rattle.std.proofs.lemmas.Bool.{cases_Bool}
 use Rattle.std.proofs.lemmas.Bool.Decides.{leb_tells}
-use Rattle.std.specs.Prelude.{IsTrue, option_map}
-use Rattle.path_algebra.specs.Algebra.{IsOrder}
 use Rattle.path_algebra.specs.Walks.{label_of, improved, offered}
-use Rattle.path_algebra.proofs.Least.{other_no_worse}
-use Rattle.tree_search.specs.Marks.{key_of, values_in, is_better, is_lesser, marked}
-use Rattle.ranked_queue.specs.Order.{by_number, told, by_number_order}
-use Rattle.tree_search.specs.declared.mark.Mark.{Mark}
 
 -- an option is empty or holds something
 pub is_some : {X : Type 0} (o : Option X) → (o ≡ None) ⊎ ((m : X) × (o ≡ Some m))

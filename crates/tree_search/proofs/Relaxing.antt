@@ -1,10 +1,7 @@
 -- Relaxing by heads and weights is relaxing by arc numbers.
-use Rattle.std.proofs.Common.{◌≡◌, ℕ, ◌+◌, List, [], ◌∷◌, refl, Option}
+use Rattle.tree_search.proofs.Words.{◌≡◌, ℕ, ◌+◌, List, [], ◌∷◌, refl, Option, Algebra, marked_if, relaxed_marks, Mark}
 use Rattle.road_graph.specs.GraphData.{GraphData, arc_of, roads_of}
 use Rattle.road_graph.specs.declared.OutRoad.{OutRoad}
-use Rattle.path_algebra.specs.Algebra.{Algebra}
-use Rattle.tree_search.specs.Marks.{marked_if, relaxed_marks}
-use Rattle.tree_search.specs.declared.mark.Mark.{Mark}
 
 -- the marks after u was extended along each road of a list
 abbrev pub relaxed_by_roads : {V : Type 0} → Algebra V → ℕ → V → ℕ → List (Option (Mark V)) → List OutRoad → List (Option (Mark V))

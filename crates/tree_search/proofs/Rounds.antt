@@ -1,20 +1,8 @@
 -- The search with hops and parents: its start, the choice of a vertex, and one round after the
 -- other.
-use Rattle.std.proofs.Common.{◌≡◌, ℕ, ◌+◌, ◌-◌, ◌<◌, ◌≤◌, ◌⊎◌, inl, inr, Bool, true, false, List, [], length, get_or, set, replicate, ap, sym, ◌∙◌, subst, arith, Option, Some, None, get_or-set_same, get_or-set_other}
-use Rattle.std.proofs.lemmas.List.{length-map}
-use Rattle.std.proofs.lemmas.Bool.{cases_eq}
-use Rattle.std.specs.Prelude.{IsTrue, All, option_map}
+use Rattle.tree_search.proofs.Words.{◌≡◌, ℕ, ◌+◌, ◌-◌, ◌<◌, ◌≤◌, ◌⊎◌, inl, inr, Bool, true, false, List, [], length, get_or, set, replicate, ap, sym, ◌∙◌, subst, arith, Option, Some, None, get_or-set_same, get_or-set_other, length-map, cases_eq, IsTrue, All, option_map, not_in_empty, same_some, Algebra, IsLawful, label_of, IsBestOpen, key_of, values_in, keys_in, by_number, told, AreOpening, Relaxes, Mark}
 use Rattle.road_graph.specs.GraphData.{GraphData, IsGraph, HasVertex, arc_of, ListsArcsFrom}
-use Rattle.road_graph.proofs.Lists.{not_in_empty, same_some}
-use Rattle.path_algebra.specs.Algebra.{Algebra, IsLawful}
-use Rattle.path_algebra.specs.Walks.{label_of}
-use Rattle.path_algebra.specs.Open.{IsBestOpen}
 use Rattle.path_plain.proofs.Known.{IsSettled, none_settled, search_start, search_pick, picked, not_picked}
-use Rattle.tree_search.specs.Marks.{key_of, values_in, keys_in}
-use Rattle.ranked_queue.specs.Order.{by_number, told}
-use Rattle.tree_search.specs.Opening.{AreOpening}
-use Rattle.tree_search.specs.Searching.{Relaxes}
-use Rattle.tree_search.specs.declared.mark.Mark.{Mark}
 use Rattle.tree_search.proofs.Reading.{read, found}
 use Rattle.tree_search.proofs.Hopping.{Hopping, again, hopping_relaxed, stays_relaxed}
 

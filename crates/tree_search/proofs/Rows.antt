@@ -1,10 +1,6 @@
 -- The three lists and the marks that they hold.
-use Rattle.std.proofs.Common.{◌≡◌, ℕ, zero, suc, ◌<◌, ◌≤◌, inl, inr, Bool, cond, List, [], ◌∷◌, length, get_or, set, replicate, refl, ap, sym, ◌∙◌, subst, arith, Option, Some, None}
-use Rattle.std.proofs.lemmas.Bool.{ne_eqb}
-use Rattle.std.proofs.lemmas.Bool.Decides.{eqb_tells}
-use Rattle.tree_search.specs.Marks.{values_in, hops_in, parents_in, parent_or_none}
+use Rattle.tree_search.proofs.Words.{◌≡◌, ℕ, zero, suc, ◌<◌, ◌≤◌, inl, inr, Bool, cond, List, [], ◌∷◌, length, get_or, set, replicate, refl, ap, sym, ◌∙◌, subst, arith, Option, Some, None, ne_eqb, eqb_tells, values_in, hops_in, parents_in, parent_or_none, Mark}
 use Rattle.tree_search.specs.Rows.{number_of, mark_in, marks_of, IsMarkRow, AreMarkRows}
-use Rattle.tree_search.specs.declared.mark.Mark.{Mark}
 
 -- no value, no hops and no parent anywhere: no marks
 pub empty_rows : (V : Type 0) (n : ℕ) → AreMarkRows {V = V} (replicate n None) (replicate n None) (replicate n None)

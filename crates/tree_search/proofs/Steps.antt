@@ -1,30 +1,14 @@
 -- The steps of a search: each keeps its queue, leads from one round to the next, and comes nearer
 -- to the end.
-use Rattle.std.proofs.Common.{◌≡◌, ℕ, zero, suc, ◌+◌, ◌-◌, ◌*◌, ◌<◌, ◌≤◌, inl, inr, Bool, true, false, cond, not, List, [], ◌∷◌, length, get_or, set, replicate, refl, ap, sym, ◌∙◌, subst, arith, Option, Some, None, length-set, get_or-set_same, get_or-set_other}
-use Rattle.std.proofs.lemmas.Bool.{cases_eq}
+use Rattle.tree_search.proofs.Words.{◌≡◌, ℕ, zero, suc, ◌+◌, ◌-◌, ◌*◌, ◌<◌, ◌≤◌, inl, inr, Bool, true, false, cond, not, List, [], ◌∷◌, length, get_or, set, replicate, refl, ap, sym, ◌∙◌, subst, arith, Option, Some, None, length-set, get_or-set_same, get_or-set_other, cases_eq, get_or-map, IsTrue, All, option_map, IsUpperBound, GraphData, IsGraph, HasVertex, not_in_empty, Algebra, IsOrder, IsLawful, AreBest, IsBestOpen, other_no_worse, ranked_cmp, by_number, by_number_order, IsLinked, IsTree, key_of, values_in, keys_in, hops_in, parents_in, is_better, is_lesser, unsettled, Step, Settled, Dropped, Ended, Mark}
 use Rattle.std.proofs.lemmas.List.{length-map, map-set, length-replicate, get_or_default}
-use Rattle.std.proofs.Math.ListN.{get_or-map}
 use Rattle.std.proofs.Math.Seq.{map-set_same}
 use Rattle.std.proofs.lemmas.List.Sums.{sum_by-set}
 use Rattle.std.proofs.lemmas.List.Sorted.{Contains-permutation, IsPermutation-sym}
-use Rattle.std.specs.Prelude.{IsTrue, All, option_map}
 use Rattle.std.specs.List.Sorted.{IsPermutation}
-use Rattle.std.specs.BinaryHeap.{IsUpperBound}
-use Rattle.road_graph.specs.GraphData.{GraphData, IsGraph, HasVertex}
-use Rattle.road_graph.proofs.Lists.{not_in_empty}
-use Rattle.path_algebra.specs.Algebra.{Algebra, IsOrder, IsLawful}
-use Rattle.path_algebra.specs.Walks.{AreBest}
-use Rattle.path_algebra.specs.Open.{IsBestOpen}
-use Rattle.path_algebra.proofs.Least.{other_no_worse}
-use Rattle.ranked_queue.specs.Order.{ranked_cmp, by_number, by_number_order}
 use Rattle.path_plain.specs.Queue.{IsQueue}
 use Rattle.path_plain.proofs.Waiting.{queue_offer, queue_skip, queue_settle, queue_best}
-use Rattle.route_tree.specs.Tree.{IsLinked, IsTree}
-use Rattle.tree_search.specs.Marks.{key_of, values_in, keys_in, hops_in, parents_in, is_better, is_lesser, unsettled}
 use Rattle.tree_search.specs.Searching.{SearchState, HaveFewHops, IsSearch, IsSameSearch, Relaxes, Settles, Drops, Proceeds, is_end}
-use Rattle.tree_search.specs.declared.step.Step.{Step}
-use Rattle.tree_search.specs.declared.step.Step.TheVariants.{Settled, Dropped, Ended}
-use Rattle.tree_search.specs.declared.mark.Mark.{Mark}
 use Rattle.tree_search.proofs.Reading.{found}
 use Rattle.tree_search.proofs.Ranking.{first_of_key}
 use Rattle.tree_search.proofs.Rounds.{Between, round, keys_count}

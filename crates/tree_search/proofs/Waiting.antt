@@ -1,20 +1,7 @@
 -- The vertices that wait when a search gives up: they are settled and listed as they are.
-use Rattle.std.proofs.Common.{◌≡◌, ℕ, ◌-◌, inl, inr, Bool, true, false, List, ◌∷◌, [], ◌++◌, length, get_or, set, sym, ◌∙◌, subst, arith, Some, None, get_or-set_other}
+use Rattle.tree_search.proofs.Words.{◌≡◌, ℕ, ◌-◌, inl, inr, Bool, true, false, List, ◌∷◌, [], ◌++◌, length, get_or, set, sym, ◌∙◌, subst, arith, Some, None, get_or-set_other, Contains-append_left, Contains-push, Contains-push_cases, Contains, GraphData, HasVertex, Algebra, label_of, AnswersBestOpen, AreNoted, by_number, keys_in, key_of, SearchState, AreSettledOn, Forgoes, is_end, listed_after, Mark, Step, Settled, Dropped, Ended}
 use Rattle.std.proofs.lemmas.Bool.{cases_eq, cases_lt, cases_Bool}
 use Rattle.std.proofs.lemmas.List.{get_or_past}
-use Rattle.std.proofs.lemmas.List.Elements.{Contains-append_left, Contains-push, Contains-push_cases}
-use Rattle.std.specs.Prelude.{Contains}
-use Rattle.road_graph.specs.GraphData.{GraphData, HasVertex}
-use Rattle.path_algebra.specs.Algebra.{Algebra}
-use Rattle.path_algebra.specs.Walks.{label_of}
-use Rattle.path_algebra.specs.Open.{AnswersBestOpen}
-use Rattle.path_plain.specs.Noting.{AreNoted}
-use Rattle.ranked_queue.specs.Order.{by_number}
-use Rattle.tree_search.specs.Marks.{keys_in, key_of}
-use Rattle.tree_search.specs.Searching.{SearchState, AreSettledOn, Forgoes, is_end, listed_after}
-use Rattle.tree_search.specs.declared.mark.Mark.{Mark}
-use Rattle.tree_search.specs.declared.step.Step.{Step}
-use Rattle.tree_search.specs.declared.step.Step.TheVariants.{Settled, Dropped, Ended}
 use Rattle.tree_search.proofs.Reading.{is_some, read}
 
 module _ {C V : Type 0} (order : V → V → Bool) (A : Algebra V) (g : GraphData) (old new : SearchState C V) (in_graph : old.roads ≡ g) (list : List ℕ) (listed : AreSettledOn g old.settled list) where

@@ -1,8 +1,7 @@
 -- What the answers of all workers are, from what each was started with.
-use Rattle.std.proofs.Common.{ℕ}
+use Rattle.worker_fleet.proofs.Words.{ℕ, IsAssigned}
 use Rattle.std.specs.Prelude.{Result, Ok, Err, IfOk}
 use Rattle.worker_fleet.specs.declared.fleet.Assigned.{Assigned}
-use Rattle.worker_fleet.specs.Assigned.{IsAssigned}
 
 pub answers_assigned : {J K T : Type 0} (answers : K → ℕ → J → T → Type 0) (assignment : K) (worker : ℕ) (job : J) (p : Assigned J K) (r : T)
     → IsAssigned assignment worker job p → answers p.assignment.now p.worker p.job.value r → answers assignment worker job r

@@ -1,14 +1,7 @@
 -- What a worker's stations keep while they are moved, beside the places of their floors.
 use Rattle.std.proofs.Common.{◌≡◌, List, ◌∷◌, subst, ℕ, [], inl, inr, Fits, w64, set, length-set, ◌+◌, ◌≤◌, ◌<◌, length, get_or, arith, true, false}
-use Rattle.std.specs.List.{All, HoldsAt}
-use Rattle.std.proofs.lemmas.List.Elements.{All-head, All-tail, All-cons}
-use Rattle.worker_fleet.specs.Groups.{Some_of}
-use Rattle.worker_fleet.specs.Moves.{Steps, still, then, MovesEach}
-use Rattle.path_algebra.specs.Algebra.{Algebra}
-use Rattle.post_floor.specs.Data.{FloorData}
-use Rattle.station.specs.Station.{StationData}
+use Rattle.worker_fleet.proofs.Words.{All, HoldsAt, All-head, All-tail, All-cons, Some_of, Steps, still, then, MovesEach, Algebra, FloorData, StationData, NextOn, IsOnItsFloor, StationHasEnded, StationIsOpen}
 use Rattle.worker_fleet.proofs.Moved.{MovesEach-by}
-use Rattle.worker_fleet.specs.Turns.{NextOn, IsOnItsFloor, StationHasEnded, StationIsOpen}
 
 module _ {X : Type 0} (P : X → Type 0) (xs ys : List X) (x : X) (e : xs ≡ x ∷ ys) (h : All P xs) where
   pub All-first : P x

@@ -1,15 +1,8 @@
 -- What the stations of a diffusion keep while they are dealt, moved, and put together.
 use Rattle.std.proofs.Common.{zero, suc, ◌≡◌, ℕ, ◌<◌, ◌+◌, List, [], ◌∷◌, ◌++◌, length, get_or, refl, ap, subst, append_assoc, arith, inl, inr, Bool, true, false, if◌then◌else◌, nat_eq, nat_lt, Vec}
-use Rattle.std.specs.List.{All}
+use Rattle.worker_fleet.proofs.Words.{All, common_steps, nil_from_length, StationData, Driven, Dealing, begins_at, following, dealt, share_of, of_group, gathered, Some_of}
 use Rattle.std.proofs.lemmas.List.Elements.{All-nil, All-cons, All-head, All-tail, All-append}
-use Rattle.std.proofs.lemmas.Grind.{common_steps}
-use Rattle.std.proofs.lemmas.List.{nil_from_length}
-use Rattle.station.specs.Station.{StationData}
-use Rattle.worker_fleet.specs.declared.driving.Driven.{Driven}
-use Rattle.batch_settings.specs.declared.dealing.Dealing.{Dealing}
 use Rattle.batch_settings.specs.declared.dealing.Dealing.TheVariants.{Shards, Questions}
-use Rattle.worker_fleet.specs.Dealt.{begins_at, following, dealt, share_of, of_group}
-use Rattle.worker_fleet.specs.Groups.{gathered, Some_of}
 
 pub Some_of-left : {X : Type 0} (P : X → Type 0) (xs ys : List X) → Some_of P xs → Some_of P (xs ++ ys)
 unfolding Some_of

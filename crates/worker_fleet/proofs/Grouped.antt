@@ -1,19 +1,8 @@
 -- What a group comes to, from what each worker did with its share.
-use Rattle.std.proofs.Common.{◌≡◌, ℕ, ◌<◌, ◌+◌, ◌∙◌, Bool, List, [], ◌∷◌, length, get_or, arith, true, Vec}
-use Rattle.std.specs.List.{All}
+use Rattle.worker_fleet.proofs.Words.{◌≡◌, ℕ, ◌<◌, ◌+◌, ◌∙◌, Bool, List, [], ◌∷◌, length, get_or, arith, true, Vec, All, Algebra, FloorData, StationData, Driven, Ended, Dealing, share_of, Drives, GroupFault, NextOn, IsOnItsFloor, StationHasEnded}
 use Rattle.std.proofs.lemmas.Option.{slice_get_within}
-use Rattle.path_algebra.specs.Algebra.{Algebra}
-use Rattle.post_floor.specs.Data.{FloorData}
-use Rattle.station.specs.Station.{StationData}
-use Rattle.worker_fleet.specs.declared.driving.Driven.{Driven}
-use Rattle.worker_fleet.specs.declared.driving.Outcome.TheVariants.{Ended}
-use Rattle.batch_settings.specs.declared.dealing.Dealing.{Dealing}
-use Rattle.worker_fleet.specs.Dealt.{share_of}
-use Rattle.worker_fleet.specs.Drives.{Drives}
-use Rattle.worker_fleet.specs.declared.group.GroupFault.{GroupFault}
 use Rattle.worker_fleet.specs.Groups.{gathered, Some_of, HasShard, IsDone}
 use Rattle.worker_fleet.specs.Stops.{IsFirstStop, IsStop}
-use Rattle.worker_fleet.specs.Turns.{NextOn, IsOnItsFloor, StationHasEnded}
 use Rattle.worker_fleet.proofs.Carried.{MovesEach-some, MovesEach-all, IsOnItsFloor-next}
 use Rattle.worker_fleet.proofs.Gathered.{share_all, share_some, gathered_all, gathered_some}
 

@@ -1,3 +1,4 @@
+mod Words
 mod NextOpen
 mod Moved
 mod Rounds

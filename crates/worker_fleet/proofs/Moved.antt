@@ -1,10 +1,7 @@
 -- One more step of one of the things that are moved.
-use Rattle.std.proofs.Common.{◌≡◌, ◌≢◌, ℕ, zero, suc, ◌+◌, ◌<◌, List, [], ◌∷◌, length, get_or, set, refl, ap, arith, add-one, length-set}
+use Rattle.worker_fleet.proofs.Words.{◌≡◌, ◌≢◌, ℕ, zero, suc, ◌+◌, ◌<◌, List, [], ◌∷◌, length, get_or, set, refl, ap, arith, add-one, length-set, common_steps, slice_get_read, Steps, still, then, MovesEach}
 use Rattle.std.specs.Prelude.{sum, slice_get, Some, None}
 use Rattle.std.proofs.lemmas.List.Sums.{sum_by-set, sum_by-cons}
-use Rattle.std.proofs.lemmas.Grind.{common_steps}
-use Rattle.std.proofs.lemmas.Option.{slice_get_read}
-use Rattle.worker_fleet.specs.Moves.{Steps, still, then, MovesEach}
 
 pub zeros : {X : Type 0} → List X → List ℕ
 zeros [] = []

@@ -2,10 +2,7 @@
 -- it.
 use Rattle.std.proofs.Common.{ℕ, ◌<◌, ◌≤◌, Option, Some, None, IfSome, List, length, inl, inr, arith}
 use Rattle.std.specs.Prelude.{IfNone}
-use Rattle.std.specs.List.{All, AllWithin, HoldsAt}
-use Rattle.std.proofs.lemmas.Bool.{cases_lt}
-use Rattle.station.specs.Station.{StationData}
-use Rattle.worker_fleet.specs.Turns.{StationHasEnded, StationIsOpen, IsNextOpen}
+use Rattle.worker_fleet.proofs.Words.{All, AllWithin, HoldsAt, cases_lt, StationData, StationHasEnded, StationIsOpen, IsNextOpen}
 
 module _ {A V : Type 0} (stations : List (ℕ × StationData A V)) (at : ℕ) (low : at ≤ length stations) (past : AllWithin StationHasEnded stations at (length stations)) where
   pub all_ended : (found : Option ℕ) → IfNone found (AllWithin StationHasEnded stations 0 at) → IfNone found (All StationHasEnded stations)

@@ -1,28 +1,14 @@
 -- Stations that have their whole diffusion are not turned more often than it has events, and once.
-use Rattle.std.proofs.Common.{◌≡◌, ◌≢◌, ℕ, zero, suc, ◌+◌, ◌*◌, ◌<◌, ◌≤◌, Bool, true, false, List, [], ◌∷◌, ◌++◌, length, get_or, refl, sym, ap, ◌∙◌, subst, inl, inr, arith, length-append}
+use Rattle.worker_fleet.proofs.Words.{◌≡◌, ◌≢◌, ℕ, zero, suc, ◌+◌, ◌*◌, ◌<◌, ◌≤◌, Bool, true, false, List, [], ◌∷◌, ◌++◌, length, get_or, refl, sym, ap, ◌∙◌, subst, inl, inr, arith, length-append, All, HoldsAt, cases_eq, Algebra, SetupData, FloorData, opened_part, station_of, StationData, Driven, Ended, Stalled, Drives, Steps, still, then, MovesEach, IsWhole, NextOn, StationHasEnded, StationIsOpen}
 use Rattle.std.specs.Prelude.{sum, slice_get, Some}
-use Rattle.std.specs.List.{All, HoldsAt}
-use Rattle.std.proofs.lemmas.Bool.{cases_eq}
 use Rattle.std.proofs.lemmas.List.Elements.{All-head, All-tail, All-cons, All-from_get_or}
 use Rattle.std.proofs.lemmas.List.Sums.{sum_by-le}
-use Rattle.path_algebra.specs.Algebra.{Algebra}
 use Rattle.scholten_core.specs.declared.event.Event.{Event}
 use Rattle.shard_store.specs.declared.queue_order.QueueOrder.TheVariants.{BestFirst}
-use Rattle.shard_store.specs.Setup.{SetupData}
-use Rattle.post_floor.specs.Data.{FloorData}
 use Rattle.atomic_table.specs.Seated.{TableId}
-use Rattle.shard_part.specs.Opening.{opened_part}
 use Rattle.station.specs.declared.turn.Report.{Report}
-use Rattle.station.specs.Opened.{station_of}
 use Rattle.station.specs.OneShard.{HasOneShard, turns_suffice, best_first_turns_suffice, AreEnoughTurns, HasAll, WentOn}
-use Rattle.station.specs.Station.{StationData}
 use Rattle.station.specs.Turn.{Turned}
-use Rattle.worker_fleet.specs.declared.driving.Driven.{Driven}
-use Rattle.worker_fleet.specs.declared.driving.Outcome.TheVariants.{Ended, Stalled}
-use Rattle.worker_fleet.specs.Drives.{Drives}
-use Rattle.worker_fleet.specs.Moves.{Steps, still, then, MovesEach}
-use Rattle.worker_fleet.specs.OneShard.{IsWhole}
-use Rattle.worker_fleet.specs.Turns.{NextOn, StationHasEnded, StationIsOpen}
 use Rattle.worker_fleet.proofs.Moved.{more_at, more-length, more-here, more-there, sum-more, MovesEach-length}
 
 -- numbers of which none is above another, and one is below it

@@ -1,25 +1,10 @@
 -- Diffusions with one shard each, dealt to workers: none of these stalls if its limit is enough.
-use Rattle.std.proofs.Common.{◌≡◌, Option, ℕ, suc, ◌+◌, ◌*◌, ◌<◌, ◌≤◌, Bool, true, false, List, [], ◌∷◌, map, length, get_or, refl, sym, ap, ◌∙◌, subst, arith, if◌then◌else◌, nat_eq, length-append, Vec}
-use Rattle.std.specs.List.{All}
+use Rattle.worker_fleet.proofs.Words.{◌≡◌, Option, ℕ, suc, ◌+◌, ◌*◌, ◌<◌, ◌≤◌, Bool, true, false, List, [], ◌∷◌, map, length, get_or, refl, sym, ap, ◌∙◌, subst, arith, if◌then◌else◌, nat_eq, length-append, Vec, All, get_or_default, All-nil, All-cons, slice_get_read, Algebra, SetupData, opened_part, HasOneShard, StationData, Dealing, Driven, Stalled, begins_at, following, dealt, share_of, Drives, StopsGroup}
 use Rattle.std.proofs.Math.Nat.{mul-le-mul_right}
-use Rattle.std.proofs.lemmas.List.{get_or_default}
-use Rattle.std.proofs.lemmas.List.Elements.{All-nil, All-cons}
-use Rattle.std.proofs.lemmas.Option.{slice_get_read}
-use Rattle.path_algebra.specs.Algebra.{Algebra}
-use Rattle.shard_store.specs.Setup.{SetupData}
-use Rattle.shard_part.specs.Opening.{opened_part}
 use Rattle.post_floor.specs.Data.{FloorData, first_parts}
-use Rattle.station.specs.OneShard.{HasOneShard}
 use Rattle.station.specs.Opened.{AreOpened, station_of}
-use Rattle.station.specs.Station.{StationData}
-use Rattle.batch_settings.specs.declared.dealing.Dealing.{Dealing}
-use Rattle.worker_fleet.specs.declared.driving.Driven.{Driven}
 use Rattle.worker_fleet.specs.declared.group.GroupFault.TheVariants as faults
-use Rattle.worker_fleet.specs.declared.driving.Outcome.TheVariants.{Stalled}
-use Rattle.worker_fleet.specs.Dealt.{begins_at, following, dealt, share_of}
-use Rattle.worker_fleet.specs.Drives.{Drives}
 use Rattle.worker_fleet.specs.OneShard.{IsBrief, IsWhole}
-use Rattle.worker_fleet.specs.Stops.{StopsGroup}
 use Rattle.worker_fleet.proofs.Gathered.{share_all}
 use Rattle.worker_fleet.proofs.Grouped.{one_of}
 

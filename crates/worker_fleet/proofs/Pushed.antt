@@ -1,7 +1,5 @@
 -- One more pair of two lists side by side.
-use Rattle.std.proofs.Common.{arith, ◌≡◌, ℕ, ◌<◌, ◌+◌, List, [], ◌∷◌, ◌++◌, length, get_or, inl, inr}
-use Rattle.std.proofs.lemmas.Bool.{cases_lt}
-use Rattle.std.proofs.lemmas.Grind.{common_steps}
+use Rattle.worker_fleet.proofs.Words.{arith, ◌≡◌, ℕ, ◌<◌, ◌+◌, List, [], ◌∷◌, ◌++◌, length, get_or, inl, inr, cases_lt, common_steps}
 
 pub AllPairs-push : {S H : Type 0} (R : ℕ → S → H → Type 0) (ss : List S) (hs all : List H) (s : S) (h : H) → all ≡ hs ++ h ∷ [] → ((d : S) → get_or ss (length hs) d ≡ s) → R (length hs) s h
     → ((k : ℕ) (d : H) (e : S) → k < length hs → R k (get_or ss k e) (get_or hs k d))

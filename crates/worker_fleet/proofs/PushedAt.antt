@@ -1,9 +1,5 @@
 -- One more thing at the back of one list of many, while things are dealt and put together.
-use Rattle.std.proofs.Common.{◌≡◌, ◌≢◌, ℕ, ◌<◌, suc, List, [], ◌∷◌, ◌++◌, length, get_or, set, refl, ap, append_assoc, add-one, arith, inl, inr, true, false, if◌then◌else◌, nat_eq, Vec, ◌+◌}
-use Rattle.std.proofs.lemmas.Bool.{cases_eq}
-use Rattle.std.proofs.lemmas.Grind.{common_steps}
-use Rattle.std.proofs.lemmas.List.{nil_from_length}
-use Rattle.batch_settings.specs.declared.dealing.Dealing.{Dealing}
+use Rattle.worker_fleet.proofs.Words.{◌≡◌, ◌≢◌, ℕ, ◌<◌, suc, List, [], ◌∷◌, ◌++◌, length, get_or, set, refl, ap, append_assoc, add-one, arith, inl, inr, true, false, if◌then◌else◌, nat_eq, Vec, ◌+◌, cases_eq, common_steps, nil_from_length, Dealing}
 use Rattle.worker_fleet.specs.Dealt.{begins_at, following, dealt, share_of, of_group, PushesAt}
 
 module _ {X Z : Type 0} (i : ℕ) (x : X) (old new : List (Vec X Z)) (low : i < length old) (p : PushesAt i x old new) where

@@ -1,11 +1,5 @@
 -- Stations that take turns round and round, in the order of their list.
-use Rattle.std.proofs.Common.{◌≡◌, ◌≢◌, inl, inr, ℕ, ◌+◌, ◌<◌, ◌≤◌, List, length, get_or, set, ap, ◌∙◌, arith, true, false}
-use Rattle.std.specs.Prelude.{sum}
-use Rattle.std.specs.List.{AllWithin, HoldsAt}
-use Rattle.std.proofs.lemmas.Bool.{cases_eq, cases_lt}
-use Rattle.std.proofs.lemmas.Grind.{common_steps}
-use Rattle.station.specs.Station.{StationData}
-use Rattle.worker_fleet.specs.Moves.{MovesEach}
+use Rattle.worker_fleet.proofs.Words.{◌≡◌, ◌≢◌, inl, inr, ℕ, ◌+◌, ◌<◌, ◌≤◌, List, length, get_or, set, ap, ◌∙◌, arith, true, false, sum, AllWithin, HoldsAt, cases_eq, cases_lt, common_steps, StationData, MovesEach}
 use Rattle.worker_fleet.specs.Turns.{StationHasEnded, StationIsOpen, IsNextOpen, TookTurns}
 use Rattle.worker_fleet.proofs.Moved.{zeros, zeros-at, more_at, more-here, more-there, MovesEach-none, MovesEach-read, MovesEach-length, sum-zeros, sum-more}
 

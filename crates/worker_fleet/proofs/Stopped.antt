@@ -1,13 +1,6 @@
 -- What the fault of a group says of its workers and their gate.
-use Rattle.std.proofs.Common.{ℕ, ◌<◌, Bool, List, get_or, subst, Vec, arith}
-use Rattle.path_algebra.specs.Algebra.{Algebra}
-use Rattle.shard_store.specs.Setup.{SetupData}
-use Rattle.post_floor.specs.Data.{FloorData}
-use Rattle.station.specs.Station.{StationData}
-use Rattle.batch_settings.specs.declared.dealing.Dealing.{Dealing}
-use Rattle.worker_fleet.specs.declared.group.GroupFault.{GroupFault}
+use Rattle.worker_fleet.proofs.Words.{ℕ, ◌<◌, Bool, List, get_or, subst, Vec, arith, Algebra, SetupData, FloorData, StationData, Dealing, GroupFault, LetsTurn}
 use Rattle.worker_fleet.specs.declared.group.GroupFault.TheVariants.{Memory, Stalled, Gated}
-use Rattle.worker_fleet.specs.Drives.{LetsTurn}
 use Rattle.worker_fleet.specs.Stops.{IsStop, StopsGroup, Says}
 use Rattle.worker_fleet.proofs.Grouped.{one_of}
 

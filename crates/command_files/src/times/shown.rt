@@ -5,7 +5,7 @@ ghost use Rattle.command_files.specs.Times.{ShowsTimes, seconds_text, times_text
 ghost use Rattle.command_files.specs.Added.{IsAdded};
 
 use crate::files::FileSystem;
-use crate::host::Host;
+use crate::host::{Host, Streams};
 use text_lines::{Line, RoadWrite, push_number, write_bytes};
 
 /// How long a command read, solved and wrote, in milliseconds.
@@ -64,13 +64,9 @@ fn write_times<E: RoadWrite>(errors: &mut E, times: Times)
 
 /// Shows on the error output how long a command took that has ended with this status, if that is
 /// wanted, it was measured, and there was no fault.
-pub fn show_times<P: FileSystem, W: RoadWrite, E: RoadWrite>(
-    host: &mut Host<P, W, E>,
-    wanted: bool,
-    status: u8,
-)
-    ensures { ShowsTimes wanted status (moment W.seen E.seen host.old) (moment W.seen E.seen
-        host.new) }
+pub fn show_times<S: Streams>(host: &mut Host<S>, wanted: bool, status: u8)
+    ensures { ShowsTimes wanted status (moment S.Out.seen S.Errors.seen host.old)
+        (moment S.Out.seen S.Errors.seen host.new) }
 {
     if !wanted || status != 0 {
         return;

@@ -1,5 +1,4 @@
-use Rattle.std.proofs.Common.{◌≡◌, ℕ, List, ap, ◌∙◌}
-use Rattle.road_files.specs.Asked.{FromSource, BetweenPair, FromSources, of_source, of_pair, of_list}
+use Rattle.answer_check.proofs.Words.{◌≡◌, ℕ, List, ap, ◌∙◌, FromSource, BetweenPair, FromSources, of_source, of_pair, of_list}
 use Rattle.answer_check.proofs.FirstWrong.{mapped_is}
 use Rattle.answer_check.proofs.answers.judge.Goals as goal
 

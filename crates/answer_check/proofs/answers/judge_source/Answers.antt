@@ -1,5 +1,4 @@
-use Rattle.std.proofs.Common.{rules, ◌≡◌, length, arith}
-use Rattle.rayon.proofs.ListFacts.{IfOk-then}
+use Rattle.answer_check.proofs.Words.{rules, ◌≡◌, length, arith, IfOk-then}
 use Rattle.answer_check.proofs.FirstWrong.{source_judged}
 use Rattle.answer_check.proofs.answers.judge_source.Goals as goal
 

@@ -1,5 +1,4 @@
-use Rattle.std.proofs.Common.{rules, ◌≡◌, length, sym, ◌∙◌, true}
-use Rattle.rayon.proofs.ListFacts.{IfOk-then}
+use Rattle.answer_check.proofs.Words.{rules, ◌≡◌, length, sym, ◌∙◌, true, IfOk-then}
 use Rattle.answer_check.proofs.FirstWrong.{sources_judged}
 use Rattle.answer_check.proofs.answers.judge_sources.Goals as goal
 

@@ -1,8 +1,6 @@
 use Rattle.std.proofs.Common.{rules, ◌≡◌, ◌<◌, ◌≤◌, length, arith, sym, ap, ◌∙◌, true, false, Option, Some, None, Ok}
-use Rattle.answer_check.proofs.Words.{common_steps, length-map, asked_of, answer_data, answer_list}
-use Rattle.answer_check.proofs.Words.{Place, Invalid}
-use Rattle.answer_check.specs.declared.verdict.Reason.TheVariants.{Mismatch}
-use Rattle.answer_check.specs.Verdicts.{HasHeader}
+use Rattle.answer_check.proofs.Words.{common_steps, length-map, asked_of, Place, Invalid, Mismatch, HasHeader}
+use Rattle.answer_text.specs.AnswerData.{answer_data, answer_list}
 use Rattle.answer_check.proofs.FirstWrong.{asks_of, question_at, mapped_read, one_right_more, list_is_right, both_clauses, header_first, answer_first}
 use Rattle.answer_check.proofs.checking.check.Goals as goal
 

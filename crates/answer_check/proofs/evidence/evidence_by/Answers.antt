@@ -1,6 +1,5 @@
 -- A must-fail edit breaks this goal: with an answer it is refused at once.
-use Rattle.std.proofs.Common.{arith}
-use Rattle.std.proofs.lemmas.Grind.{common_steps}
+use Rattle.answer_check.proofs.Words.{arith, common_steps}
 use Rattle.answer_check.proofs.evidence.evidence_by.Goals as goal
 
 pub returns-else-same-4 : goal.returns-else-same-4

@@ -1,5 +1,4 @@
-use Rattle.std.proofs.Common.{rules, ◌≡◌, ◌<◌, ◌∙◌, length, sym, ap, take, Option}
-use Rattle.answer_check.proofs.Words.{Reached, Evidence}
+use Rattle.answer_check.proofs.Words.{rules, ◌≡◌, ◌<◌, ◌∙◌, length, sym, ap, take, Option, Reached, Evidence}
 use Rattle.answer_check.specs.Evidence.{candidate_from, evidence_by, evidence_of, all_evidence, either}
 use Rattle.answer_check.proofs.EvidenceAdds.{all_evidence_more}
 use Rattle.answer_check.proofs.evidence.evidence_of.Goals as goal

@@ -1,5 +1,4 @@
-use Rattle.std.proofs.Common.{◌≡◌, take}
-use Rattle.answer_check.specs.Evidence.{all_evidence}
+use Rattle.answer_check.proofs.Words.{◌≡◌, take, all_evidence}
 use Rattle.answer_check.proofs.evidence.evidence_of.Given as goal
 
 abbrev pub invariant-loop-road : goal.invariant-loop-road

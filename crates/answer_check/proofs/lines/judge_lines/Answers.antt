@@ -1,5 +1,4 @@
-use Rattle.std.proofs.Common.{ℕ, ◌≤◌, ◌↔◌, Contains, IsTrue, arith}
-use Rattle.answer_check.proofs.Words.{is_marked, all_inside}
+use Rattle.answer_check.proofs.Words.{ℕ, ◌≤◌, ◌↔◌, Contains, IsTrue, arith, is_marked, all_inside}
 use Rattle.answer_check.proofs.FirstPlaces.{lines_judged}
 use Rattle.answer_check.proofs.lines.judge_lines.Goals as goal
 

@@ -1,5 +1,4 @@
-use Rattle.std.proofs.Common.{subst}
-use Rattle.path_algebra.specs.Algebra.{IsLawful}
+use Rattle.answer_check.proofs.Words.{subst, IsLawful}
 use Rattle.route_tree.specs.Found.{IsPairFound, found_of}
 use Rattle.answer_check.proofs.PairsJudged.{told_without_walk, pair_judged}
 use Rattle.answer_check.proofs.pairs.reason_of_pair.Goals as goal

@@ -1,5 +1,4 @@
-use Rattle.std.proofs.Common.{ℕ, ◌+◌, ◌<◌}
-use Rattle.answer_check.proofs.Words.{is_marked, IsMarkedRight}
+use Rattle.answer_check.proofs.Words.{ℕ, ◌+◌, ◌<◌, is_marked, IsMarkedRight}
 use Rattle.answer_check.proofs.pass.first_place.Given as goal
 
 abbrev pub invariant-loop-i : goal.invariant-loop-i

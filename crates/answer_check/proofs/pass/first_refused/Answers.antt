@@ -1,7 +1,4 @@
-use Rattle.std.proofs.Common.{rules, ◌≡◌, ℕ, ◌<◌, ◌-◌, ◌+◌, ◌^◌, ◌∙◌, Bool, length, arith, subst}
-use Rattle.answer_check.proofs.Words.{crosses, nat_range, first_true, nat_range-All, TellsRefused}
-use Rattle.answer_check.proofs.Words.{IsFirstNumber}
-use denote.Param.Send.{sendable}
+use Rattle.answer_check.proofs.Words.{rules, ◌≡◌, ℕ, ◌<◌, ◌-◌, ◌+◌, ◌^◌, ◌∙◌, Bool, length, arith, subst, crosses, nat_range, first_true, nat_range-All, TellsRefused, IsFirstNumber, sendable}
 use Rattle.answer_check.proofs.FirstPlaces.{first_number}
 use Rattle.answer_check.proofs.pass.first_refused.Goals as goal
 

@@ -1,5 +1,4 @@
-use Rattle.std.proofs.Common.{◌∙◌, Bool, false, subst}
-use Rattle.answer_check.proofs.Words.{asked_of, answer_list, TellsSuspect}
+use Rattle.answer_check.proofs.Words.{◌∙◌, Bool, false, subst, asked_of, answer_list, TellsSuspect}
 use Rattle.answer_check.proofs.ChunksAreRight.{told_more}
 use Rattle.answer_check.proofs.suspects.first_suspect.Goals as goal
 

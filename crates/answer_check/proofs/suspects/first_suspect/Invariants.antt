@@ -1,5 +1,4 @@
-use Rattle.std.proofs.Common.{◌≡◌, false}
-use Rattle.answer_check.proofs.Words.{asked_of, answer_list, TellsSuspectIn}
+use Rattle.answer_check.proofs.Words.{◌≡◌, false, asked_of, answer_list, TellsSuspectIn}
 use Rattle.answer_check.proofs.suspects.first_suspect.Given as goal
 
 -- the searcher is of the graph, by the algebra, and the answers before this one are right

@@ -1,9 +1,5 @@
-use Rattle.std.proofs.Common.{rules, ℕ, ◌+◌, ◌-◌, ◌<◌, ◌≤◌, ◌^◌, ◌∙◌, Bool, length}
-use Rattle.answer_check.proofs.Words.{crosses, nat_range, nat_range-All, asked_of, answer_list}
-use Rattle.answer_check.proofs.Words.{TellsSuspectIn, chunk_start}
+use Rattle.answer_check.proofs.Words.{rules, ℕ, ◌+◌, ◌-◌, ◌<◌, ◌≤◌, ◌^◌, ◌∙◌, Bool, length, crosses, nat_range, nat_range-All, asked_of, answer_list, TellsSuspectIn, chunk_start, IsSync, sendable, NamedLft}
 use denote.Param.{copied}
-use denote.Param.Send.{IsSync, sendable}
-use denote.Ref.{NamedLft}
 use Rattle.answer_check.specs.contracts.case.Case as Case
 use Rattle.answer_check.proofs.FirstPlaces.{first_number}
 use Rattle.answer_check.proofs.Sharing.{Case-sync}

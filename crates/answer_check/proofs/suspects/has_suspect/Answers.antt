@@ -1,5 +1,4 @@
-use Rattle.std.proofs.Common.{ℕ, ◌+◌, nat_lt, refl, subst}
-use Rattle.answer_check.proofs.Words.{asked_of, answer_list, TellsSuspectIn, chunk_start}
+use Rattle.answer_check.proofs.Words.{ℕ, ◌+◌, nat_lt, refl, subst, asked_of, answer_list, TellsSuspectIn, chunk_start}
 use Rattle.answer_check.proofs.ChunksAreRight.{told_before}
 use Rattle.answer_check.proofs.suspects.has_suspect.Goals as goal
 

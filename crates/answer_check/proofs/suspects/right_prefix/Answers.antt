@@ -1,6 +1,4 @@
-use Rattle.std.proofs.Common.{rules, ℕ, ◌+◌, ◌<◌, ◌≡◌, ◌∙◌, Bool, false, arith, Option, ap, subst, sym}
-use Rattle.answer_check.proofs.Words.{asked_of, answer_list, TellsSuspect, TellsSuspectIn}
-use Rattle.answer_check.proofs.Words.{IsFirstNumber, chunk_start}
+use Rattle.answer_check.proofs.Words.{rules, ℕ, ◌+◌, ◌<◌, ◌≡◌, ◌∙◌, Bool, false, arith, Option, ap, subst, sym, asked_of, answer_list, TellsSuspect, TellsSuspectIn, IsFirstNumber, chunk_start}
 use Rattle.answer_check.proofs.ChunksAreRight.{before_and_from, right_up_to}
 use Rattle.answer_check.proofs.suspects.right_prefix.Goals as goal
 

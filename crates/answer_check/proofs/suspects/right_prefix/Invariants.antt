@@ -1,5 +1,4 @@
-use Rattle.std.proofs.Common.{◌-◌, ℕ, ◌<◌, ◌≤◌, false}
-use Rattle.answer_check.proofs.Words.{asked_of, answer_list, TellsSuspect}
+use Rattle.answer_check.proofs.Words.{◌-◌, ℕ, ◌<◌, ◌≤◌, false, asked_of, answer_list, TellsSuspect}
 use Rattle.answer_check.proofs.suspects.right_prefix.Given as goal
 
 -- the answers before the next chunks are right

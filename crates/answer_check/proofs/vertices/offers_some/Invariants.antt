@@ -1,6 +1,4 @@
-use Rattle.std.proofs.Common.{◌≡◌, take, false}
-use Rattle.std.specs.List.{list_any}
-use Rattle.answer_check.specs.Evidence.{candidate, is_there}
+use Rattle.answer_check.proofs.Words.{◌≡◌, take, false, list_any, candidate, is_there}
 use Rattle.answer_check.proofs.vertices.offers_some.Given as goal
 
 abbrev pub invariant-loop-road : goal.invariant-loop-road

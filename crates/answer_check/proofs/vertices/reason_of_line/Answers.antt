@@ -1,6 +1,4 @@
-use Rattle.std.proofs.Common.{rules, ◌≡◌, Some, None, sym, ◌∙◌, arith}
-use Rattle.answer_check.proofs.Words.{common_steps, label_of}
-use Rattle.answer_check.specs.Evidence.{decoded}
+use Rattle.answer_check.proofs.Words.{rules, ◌≡◌, Some, None, sym, ◌∙◌, arith, common_steps, label_of, decoded}
 use Rattle.answer_check.proofs.Entering.{ends_inside}
 use Rattle.answer_check.proofs.EvidenceMeans.{evidence_judges, walk_judged, walk_missed, decoded_is}
 use Rattle.answer_check.proofs.vertices.reason_of_line.Goals as goal

@@ -1,6 +1,4 @@
-use Rattle.std.proofs.Common.{◌≡◌, length, take, drop}
-use Rattle.std.specs.Prelude.{map}
-use Rattle.answer_lists.specs.Near.{code_at}
+use Rattle.answer_lists.proofs.Words.{◌≡◌, length, take, drop, map, code_at}
 use Rattle.answer_lists.proofs.near_lists.write_codes.Given as goal
 
 abbrev pub invariant-loop-i : goal.invariant-loop-i

@@ -1,12 +1,7 @@
-use Rattle.std.proofs.Common.{rules, ◌≡◌, ◌∙◌, ℕ, ap, inl, inr, refl, subst, true}
-use Rattle.std.specs.Prelude.{pos}
-use Rattle.road_graph.specs.GraphData.{GraphData}
-use Rattle.path_algebra.specs.Counted.{cost_of, CountsFit}
-use Rattle.path_algebra.specs.declared.counted_sums.Cost.{Cost}
+use Rattle.answer_lists.proofs.Words.{rules, ◌≡◌, ◌∙◌, ℕ, ap, inl, inr, refl, subst, true, pos, GraphData, cost_of, CountsFit, Cost, Shared, is_factored}
 use Rattle.path_factors.specs.Reweighing.{JoinsNoOthers}
 use Rattle.factor_routes.specs.Reweighing.{IsCause}
 use Rattle.factor_routes.specs.declared.reweighed.Unweighed.{Unweighed}
-use Rattle.answer_lists.specs.Sharing.{Shared, is_factored}
 use Rattle.answer_lists.proofs.reweigh.reweigh_for.Goals as goal
 
 pub returns-in-Err-Heavy-clause-refusal : goal.returns-in-Err-Heavy-clause-refusal

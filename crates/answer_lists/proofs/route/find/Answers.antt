@@ -1,5 +1,4 @@
-use Rattle.std.proofs.Common.{◌≡◌, ◌+◌, ◌∙◌, ap, subst, length, Some}
-use Rattle.path_algebra.specs.Choices.{Under}
+use Rattle.answer_lists.proofs.Words.{◌≡◌, ◌+◌, ◌∙◌, ap, subst, length, Some, Under}
 use Rattle.path_algebra.proofs.Chosen.{under_any}
 use Rattle.route_tree.specs.Found.{IsPairFound, IsFoundIfNear, found_of}
 use Rattle.route_tree.specs.declared.found.Nearby.{Nearby}

@@ -1,10 +1,4 @@
-use Rattle.std.proofs.Common.{◌≡◌, ℕ, ◌+◌, ◌∙◌, List, [], ◌∷◌, length, take, ap, sym, subst}
-use Rattle.road_graph.specs.GraphData.{GraphData}
-use Rattle.path_algebra.specs.Choices.{Under}
-use Rattle.path_algebra.specs.Walks.{IsBestCode}
-use Rattle.route_tree.specs.Found.{IsRouteBetween, found_of}
-use Rattle.arc_numbers.specs.RouteArcs.{AreRouteArcs}
-use Rattle.answer_lists.specs.Sharing.{Shared}
+use Rattle.answer_lists.proofs.Words.{◌≡◌, ℕ, ◌+◌, ◌∙◌, List, [], ◌∷◌, length, take, ap, sym, subst, GraphData, Under, IsBestCode, IsRouteBetween, found_of, AreRouteArcs, Shared}
 use Rattle.answer_lists.proofs.RouteArcs.{arcs_there, route_there, told_else}
 use Rattle.answer_lists.proofs.route_arcs.answer_arcs.Goals as goal
 

@@ -1,9 +1,5 @@
-use Rattle.std.proofs.Common.{◌≡◌, ◌+◌, ◌++◌, ◌∷◌, [], ℕ, List, ◌∙◌, take, drop, sym, subst}
+use Rattle.answer_lists.proofs.Words.{◌≡◌, ◌+◌, ◌++◌, ◌∷◌, [], ℕ, List, ◌∙◌, take, drop, sym, subst, Under, IsBestCode, IsRouteBetween, AreRouteArcs}
 use Rattle.std.proofs.lemmas.List.{length-take-le, take_at}
-use Rattle.path_algebra.specs.Choices.{Under}
-use Rattle.path_algebra.specs.Walks.{IsBestCode}
-use Rattle.route_tree.specs.Found.{IsRouteBetween}
-use Rattle.arc_numbers.specs.RouteArcs.{AreRouteArcs}
 use Rattle.answer_lists.proofs.route_arcs.write_first_arcs.Goals as goal
 
 pub returns-clause-arcs : goal.returns-clause-arcs

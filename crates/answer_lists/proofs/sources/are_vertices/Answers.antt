@@ -1,8 +1,7 @@
-use Rattle.std.proofs.Common.{rules, ◌≡◌, ℕ, ◌<◌, List, length, take, refl, ap, ◌∙◌, subst, arith}
+use Rattle.answer_lists.proofs.Words.{rules, ◌≡◌, ℕ, ◌<◌, List, length, take, refl, ap, ◌∙◌, subst, arith, HasVertex}
 use Rattle.std.specs.List.{All}
 use Rattle.std.proofs.Math.Seq.{take-length}
 use Rattle.std.proofs.lemmas.List.Elements.{All-more}
-use Rattle.road_graph.specs.GraphData.{HasVertex}
 use Rattle.answer_lists.proofs.sources.are_vertices.Goals as goal
 
 pub loop-number-preserved : goal.loop-number-preserved

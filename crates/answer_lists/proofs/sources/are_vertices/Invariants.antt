@@ -1,6 +1,5 @@
-use Rattle.std.proofs.Common.{take}
+use Rattle.answer_lists.proofs.Words.{take, HasVertex}
 use Rattle.std.specs.List.{All}
-use Rattle.road_graph.specs.GraphData.{HasVertex}
 use Rattle.answer_lists.proofs.sources.are_vertices.Given as goal
 
 abbrev pub invariant-loop-number : goal.invariant-loop-number

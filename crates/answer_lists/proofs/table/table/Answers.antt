@@ -1,9 +1,4 @@
-use Rattle.std.proofs.Common.{rules, ◌≡◌, ◌+◌, ◌++◌, ◌<◌, List, ℕ, length, get_or, take, refl, ap, ◌∙◌, subst, sym}
-use Rattle.std.specs.Prelude.{IfSome}
-use Rattle.road_graph.specs.GraphData.{GraphData}
-use Rattle.route_tree.specs.Searchers.{IsSearcherOf}
-use Rattle.answer_lists.specs.Sharing.{Shared}
-use Rattle.answer_lists.specs.Table.{AreTableCodes}
+use Rattle.answer_lists.proofs.Words.{rules, ◌≡◌, ◌+◌, ◌++◌, ◌<◌, List, ℕ, length, get_or, take, refl, ap, ◌∙◌, subst, sym, IfSome, GraphData, IsSearcherOf, Shared, AreTableCodes}
 use Rattle.answer_lists.proofs.Tabling.{table_more}
 use Rattle.answer_lists.proofs.table.table.Goals as goal
 

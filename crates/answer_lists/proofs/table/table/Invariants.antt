@@ -1,7 +1,4 @@
-use Rattle.std.proofs.Common.{take, ◌≡◌}
-use Rattle.std.specs.Prelude.{IfSome}
-use Rattle.route_tree.specs.Searchers.{IsSearcherOf}
-use Rattle.answer_lists.specs.Table.{AreTableCodes}
+use Rattle.answer_lists.proofs.Words.{take, ◌≡◌, IfSome, IsSearcherOf, AreTableCodes}
 use Rattle.answer_lists.proofs.table.table.Given as goal
 
 abbrev pub invariant-loop-source : goal.invariant-loop-source

@@ -1,8 +1,4 @@
-use Rattle.std.proofs.Common.{◌≡◌, ◌∙◌, [], ◌∷◌, List, Option, ap, sym, subst}
-use Rattle.path_algebra.specs.Algebra.{IsLawful}
-use Rattle.path_algebra.specs.Walks.{IsBestLabel, label_of}
-use Rattle.answer_lists.specs.Table.{IsTableCode}
-use Rattle.answer_lists.specs.Tree.{code_for}
+use Rattle.answer_lists.proofs.Words.{◌≡◌, ◌∙◌, [], ◌∷◌, List, Option, ap, sym, subst, IsLawful, IsBestLabel, label_of, IsTableCode, code_for}
 use Rattle.answer_lists.proofs.Tabling.{label_coded}
 use Rattle.answer_lists.proofs.table_rows.searched_code.Goals as goal
 

@@ -1,6 +1,4 @@
-use Rattle.std.proofs.Common.{rules, ◌<◌, ◌∙◌, length, get_or, refl, sym, subst}
-use Rattle.road_graph.specs.GraphData.{GraphData}
-use Rattle.answer_lists.specs.Table.{IsTableCode, AreRowCodes}
+use Rattle.answer_lists.proofs.Words.{rules, ◌<◌, ◌∙◌, length, get_or, refl, sym, subst, GraphData, IsTableCode, AreRowCodes}
 use Rattle.answer_lists.proofs.Tabling.{zipped_next}
 use Rattle.answer_lists.proofs.table_rows.searched_row.Goals as goal
 

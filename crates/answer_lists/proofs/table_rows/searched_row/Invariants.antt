@@ -1,6 +1,4 @@
-use Rattle.std.proofs.Common.{take}
-use Rattle.route_tree.specs.Searchers.{IsSearcherOf}
-use Rattle.answer_lists.specs.Table.{AreRowCodes}
+use Rattle.answer_lists.proofs.Words.{take, IsSearcherOf, AreRowCodes}
 use Rattle.answer_lists.proofs.table_rows.searched_row.Given as goal
 
 abbrev pub invariant-loop-target : goal.invariant-loop-target

@@ -1,7 +1,4 @@
-use Rattle.std.proofs.Common.{ap, ◌∙◌}
-use Rattle.path_algebra.specs.Walks.{label_of}
-use Rattle.route_tree.specs.Tree.{hops_of, parent_of}
-use Rattle.answer_lists.specs.Tree.{code_for, number_for}
+use Rattle.answer_lists.proofs.Words.{ap, ◌∙◌, label_of, hops_of, parent_of, code_for, number_for}
 use Rattle.answer_lists.proofs.Telling.{told_at}
 use Rattle.answer_lists.proofs.tree_lists.numbers_of.Goals as goal
 

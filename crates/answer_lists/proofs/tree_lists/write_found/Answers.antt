@@ -1,6 +1,4 @@
-use Rattle.std.proofs.Common.{◌+◌, arith, refl}
-use Rattle.answer_text.specs.IsAnswer.{IsVertexLine}
-use Rattle.answer_lists.specs.Tree.{line_of}
+use Rattle.answer_lists.proofs.Words.{◌+◌, arith, refl, IsVertexLine, line_of}
 use Rattle.answer_lists.proofs.Filling.{none_written, next_written, all_written}
 use Rattle.answer_lists.proofs.tree_lists.write_found.Goals as goal
 

@@ -1,6 +1,4 @@
-use Rattle.std.proofs.Common.{arith}
-use Rattle.std.proofs.lemmas.Grind.{common_steps}
-use Rattle.answer_text.specs.AnswerFiles.{reached_line}
+use Rattle.answer_text.proofs.Words.{arith, common_steps, reached_line}
 use Rattle.answer_text.proofs.answer_lines.reached_in.Goals as goal
 
 pub returns-then-from-next : goal.returns-then-from-next

@@ -1,6 +1,4 @@
-use Rattle.road_graph.specs.GraphData.{GraphData}
-use Rattle.road_files.specs.declared.questions.Questions.{Questions}
-use Rattle.answer_text.specs.AnswerData.{AnswerList}
+use Rattle.answer_text.proofs.Words.{GraphData, Questions, AnswerList}
 use Rattle.answer_text.proofs.RightIsWritable.{right_again}
 use Rattle.answer_text.proofs.laws.right_answers_are_read_again.Goals as goal
 

@@ -1,6 +1,5 @@
 use Rattle.text_lines.proofs.ParserLaws.{reads_text}
-use Rattle.answer_text.specs.AnswerData.{answer_list}
-use Rattle.answer_text.specs.AnswerFiles.{answer_rules}
+use Rattle.answer_text.proofs.Words.{answer_list, answer_rules}
 use Rattle.answer_text.specs.AnswerTakes.{answer_meaning}
 use Rattle.answer_text.proofs.AnswerParserLaws.{by_value, by_fault}
 use Rattle.answer_text.proofs.AnswerNumbers.{answers_line, answers_end}

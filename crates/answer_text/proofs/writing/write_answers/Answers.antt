@@ -1,5 +1,4 @@
-use Rattle.std.proofs.Common.{arith}
-use Rattle.text_lines.proofs.WriteLaws.{fell_out}
+use Rattle.answer_text.proofs.Words.{arith, fell_out}
 use Rattle.answer_text.proofs.Blocks.{header_then, header_fell}
 use Rattle.answer_text.proofs.writing.write_answers.Goals as goal
 

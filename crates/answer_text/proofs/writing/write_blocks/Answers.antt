@@ -1,8 +1,5 @@
-use Rattle.std.proofs.Common.{ap}
-use Rattle.answer_text.specs.AnswerText.{answer_text}
-use Rattle.answer_text.specs.AnswerData.{answer_data}
+use Rattle.answer_text.proofs.Words.{ap, answer_text, answer_data, fell_out}
 use Rattle.answer_text.proofs.Blocks.{answer_left, answer_fell}
-use Rattle.text_lines.proofs.WriteLaws.{fell_out}
 use Rattle.answer_text.proofs.writing.write_blocks.Goals as goal
 
 pub loop-answer-preserved : goal.loop-answer-preserved

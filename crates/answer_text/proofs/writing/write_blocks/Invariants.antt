@@ -1,7 +1,4 @@
-use Rattle.std.proofs.Common.{drop, map}
-use Rattle.text_lines.specs.Written.{WrotePrefix}
-use Rattle.answer_text.specs.AnswerText.{blocks_text}
-use Rattle.answer_text.specs.AnswerData.{answer_data}
+use Rattle.answer_text.proofs.Words.{drop, map, WrotePrefix, blocks_text, answer_data}
 use Rattle.answer_text.proofs.writing.write_blocks.Given as goal
 
 abbrev pub invariant-loop-answer : goal.invariant-loop-answer

@@ -1,6 +1,4 @@
-use Rattle.std.proofs.Common.{arith}
-use Rattle.std.proofs.lemmas.Grind.{common_steps}
-use Rattle.answer_text.specs.AnswerText.{header_text}
+use Rattle.answer_text.proofs.Words.{arith, common_steps, header_text}
 use Rattle.answer_text.proofs.writing.write_header.Goals as goal
 
 pub returns : goal.returns

@@ -1,6 +1,5 @@
 use Rattle.std.proofs.Common.{option_map}
-use Rattle.text_lines.specs.Texts.{text_of, spelled}
-use Rattle.text_lines.proofs.WriteLaws.{fell_first, wrote_then, fell_out}
+use Rattle.answer_text.proofs.Words.{text_of, spelled, fell_first, wrote_then, fell_out}
 use Rattle.answer_text.specs.AnswerText.{found_lines, pair_words}
 use Rattle.answer_text.specs.AnswerData.{found_of}
 use Rattle.answer_text.proofs.writing.write_pair.Goals as goal

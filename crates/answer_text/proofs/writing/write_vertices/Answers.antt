@@ -1,5 +1,4 @@
-use Rattle.std.proofs.Common.{refl, subst, sym, arith}
-use Rattle.text_lines.specs.Written.{WrotePrefix}
+use Rattle.answer_text.proofs.Words.{refl, subst, sym, arith, WrotePrefix}
 use Rattle.text_lines.proofs.WriteLaws.{left_start, left_end, fell_out}
 use Rattle.answer_text.proofs.VertexLines.{vertices_start, vertices_end, vertex_left, vertex_fell}
 use Rattle.answer_text.proofs.writing.write_vertices.Goals as goal

@@ -1,7 +1,4 @@
-use Rattle.std.proofs.Common.{◌≡◌}
-use Rattle.text_lines.specs.Written.{WrotePrefix}
-use Rattle.text_lines.specs.Texts.{text_of}
-use Rattle.answer_text.specs.AnswerText.{vertex_lines}
+use Rattle.answer_text.proofs.Words.{◌≡◌, WrotePrefix, text_of, vertex_lines}
 use Rattle.answer_text.proofs.VertexLines.{vertices_from}
 use Rattle.answer_text.proofs.writing.write_vertices.Given as goal
 

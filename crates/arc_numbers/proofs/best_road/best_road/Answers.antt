@@ -1,8 +1,4 @@
-use Rattle.std.proofs.Common.{◌≡◌, ◌+◌, ℕ, Bool, sym, subst, Option}
-use Rattle.std.specs.Prelude.{MatchOption}
-use Rattle.road_graph.specs.declared.OutRoad.{OutRoad}
-use Rattle.std.proofs.lemmas.List.{get_or_read}
-use Rattle.arc_numbers.specs.BestRoad.{IsBestRoadOrNone, LeadsTo, better_road, road_at}
+use Rattle.arc_numbers.proofs.Words.{◌≡◌, ◌+◌, ℕ, Bool, sym, subst, Option, MatchOption, OutRoad, get_or_read, IsBestRoadOrNone, LeadsTo, better_road, road_at}
 use Rattle.arc_numbers.proofs.Choosing.{one_more}
 use Rattle.arc_numbers.proofs.best_road.best_road.Goals as goal
 

@@ -1,8 +1,4 @@
-use Rattle.std.proofs.Common.{◌≡◌, ◌<◌, ◌≤◌, ◌∙◌, ◌+◌, ◌-◌, ℕ, List, Option, Some, None, length, subst, sym, ap, get_or, set, arith}
-use Rattle.std.proofs.lemmas.List.{get_or_read}
-use Rattle.road_graph.specs.GraphData.{GraphData}
-use Rattle.arc_numbers.specs.Numbering.{IsReordered}
-use Rattle.arc_numbers.specs.RouteArcs.{IsBestStep}
+use Rattle.arc_numbers.proofs.Words.{◌≡◌, ◌<◌, ◌≤◌, ◌∙◌, ◌+◌, ◌-◌, ℕ, List, Option, Some, None, length, subst, sym, ap, get_or, set, arith, get_or_read, GraphData, IsReordered, IsBestStep}
 use Rattle.arc_numbers.proofs.Following.{Follows, arrive, follow, some_step, start, tail_in}
 use Rattle.arc_numbers.proofs.route_arcs.write_arcs.Goals as goal
 

@@ -2,8 +2,7 @@ use Rattle.std.proofs.Common.{◌≡◌, true, sym, ◌∙◌, refl, subst, eqb,
 use Rattle.std.proofs.lemmas.Bool.{and_parts}
 use lib.Pointwise.{pointwise_decides}
 use Rattle.std.proofs.lemmas.Bool.Decides.{nat_tests}
-use Rattle.std.proofs.Common.{arith}
-use Rattle.road_graph.specs.declared.OutRoad.{OutRoad}
+use Rattle.arc_numbers.proofs.Words.{arith, OutRoad}
 use Rattle.road_graph.specs.contracts.OutRoadPartialEq.TheImpl.{eq-value}
 use Rattle.arc_numbers.proofs.same_roads.are_same.Goals as goal
 

@@ -1,9 +1,5 @@
 use Rattle.std.proofs.Common.{rules, ◌≡◌, ◌≤◌, ◌<◌, ◌+◌, ◌∙◌, ℕ, List, inl, inr, sym, subst, arith, true, false, refl}
-use Rattle.std.specs.Prelude.{IsTrue}
-use Rattle.std.proofs.Math.Nat.{eq-or-lt_of_le}
-use Rattle.road_graph.specs.declared.OutRoad.{OutRoad}
-use Rattle.road_graph.specs.GraphData.{ListsRoadsFrom}
-use Rattle.arc_numbers.specs.Numbering.{HasSameRoads, IsReordered}
+use Rattle.arc_numbers.proofs.Words.{IsTrue, eq-or-lt_of_le, OutRoad, ListsRoadsFrom, HasSameRoads, IsReordered}
 use Rattle.arc_numbers.proofs.Reordered.{one_list}
 use Rattle.arc_numbers.proofs.same_roads.is_reordered.Goals as goal
 

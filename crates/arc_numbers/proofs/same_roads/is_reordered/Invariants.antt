@@ -1,5 +1,4 @@
-use Rattle.std.proofs.Common.{ℕ, ◌≤◌}
-use Rattle.arc_numbers.specs.Numbering.{HasSameRoads}
+use Rattle.arc_numbers.proofs.Words.{ℕ, ◌≤◌, HasSameRoads}
 use Rattle.arc_numbers.proofs.same_roads.is_reordered.Given as goal
 
 abbrev pub invariant-loop-i : goal.invariant-loop-i

@@ -1,7 +1,4 @@
-use Rattle.std.proofs.Common.{◌∙◌, ap}
-use Rattle.std.proofs.lemmas.Result.{IfOk-weaker}
-use Rattle.clap.specs.Simple.{app_of_fields}
-use Rattle.command_args.specs.CommandLine.{settings, watching, with_rules}
+use Rattle.command_args.proofs.Words.{◌∙◌, ap, IfOk-weaker, app_of_fields, settings, watching, with_rules}
 use Rattle.command_args.proofs.clap_command.bundle.Goals as goal
 
 pub returns : goal.returns

@@ -1,5 +1,4 @@
-use Rattle.std.proofs.Common.{◌≡◌, ◌∙◌, ap, ap₂, codes, true}
-use Rattle.std.proofs.lemmas.Result.{IfOk-weaker}
+use Rattle.command_args.proofs.Words.{◌≡◌, ◌∙◌, ap, ap₂, codes, true, IfOk-weaker}
 use Rattle.clap.specs.Simple.{App, app_of, app_of_fields, new_app, on_top, with_subcommand}
 use Rattle.command_args.proofs.Globals.{no_globals}
 use Rattle.command_args.proofs.clap_command.command.Goals as goal

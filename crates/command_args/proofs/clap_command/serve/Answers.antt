@@ -1,7 +1,4 @@
-use Rattle.std.proofs.Common.{◌∙◌, ap, ap₂}
-use Rattle.std.proofs.lemmas.Result.{IfOk-weaker}
-use Rattle.clap.specs.Simple.{app_of_fields, with_rule}
-use Rattle.command_args.specs.CommandLine.{settings, with_rules}
+use Rattle.command_args.proofs.Words.{◌∙◌, ap, ap₂, IfOk-weaker, app_of_fields, with_rule, settings, with_rules}
 use Rattle.command_args.proofs.clap_command.serve.Goals as goal
 
 pub returns : goal.returns

@@ -1,6 +1,4 @@
-use Rattle.std.proofs.Common.{◌∙◌, ap₂, refl}
-use Rattle.std.proofs.lemmas.Result.{IfOk-weaker}
-use Rattle.clap.specs.Simple.{with_rule}
+use Rattle.command_args.proofs.Words.{◌∙◌, ap₂, refl, IfOk-weaker, with_rule}
 use Rattle.command_args.proofs.clap_command.with_settings.Goals as goal
 
 pub returns : goal.returns

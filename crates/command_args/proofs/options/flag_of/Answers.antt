@@ -1,6 +1,4 @@
-use Rattle.std.proofs.Common.{◌∙◌, inl, inr}
-use Rattle.clap.specs.Matches.{found_of}
-use Rattle.clap.proofs.WalkLemmas.{one_text-rows}
+use Rattle.command_args.proofs.Words.{◌∙◌, inl, inr, found_of, one_text-rows}
 use Rattle.command_args.proofs.options.flag_of.Goals as goal
 
 pub returns : goal.returns

@@ -1,8 +1,4 @@
-use Rattle.std.proofs.Common.{subst}
-use Rattle.std.specs.Str.Parse.{ExplainsUnsignedError, HasUnsignedDigitsIfOk}
-use Rattle.clap.specs.Matches.{found_of}
-use Rattle.clap.proofs.WalkLemmas.{one_text-rows}
-use Rattle.command_args.specs.Asked.{Reads}
+use Rattle.command_args.proofs.Words.{subst, ExplainsUnsignedError, HasUnsignedDigitsIfOk, found_of, one_text-rows, Reads}
 use Rattle.command_args.proofs.Reading.{reads}
 use Rattle.command_args.proofs.options.number_of.Goals as goal
 

@@ -1,6 +1,4 @@
-use Rattle.std.proofs.Common.{◌∙◌, codes}
-use Rattle.clap.specs.Matches.{found_of}
-use Rattle.clap.proofs.WalkLemmas.{first_value-rows}
+use Rattle.command_args.proofs.Words.{◌∙◌, codes, found_of, first_value-rows}
 use Rattle.command_args.proofs.options.options_of.Goals as goal
 
 pub returns : goal.returns

@@ -1,7 +1,4 @@
-use Rattle.std.proofs.Common.{◌≡◌, ◌∙◌, [], ap, rules, unwrap_or}
-use Rattle.std.specs.Option.{option_map}
-use Rattle.clap.specs.Matches.{found_of}
-use Rattle.clap.proofs.WalkLemmas.{first_value-rows}
+use Rattle.command_args.proofs.Words.{◌≡◌, ◌∙◌, [], ap, rules, unwrap_or, option_map, found_of, first_value-rows}
 use Rattle.command_args.proofs.options.text_of.Goals as goal
 
 pub returns : goal.returns

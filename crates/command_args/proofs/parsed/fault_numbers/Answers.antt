@@ -1,6 +1,4 @@
-use Rattle.std.proofs.Common.{◌+◌, subst, sym, take}
-use Rattle.std.specs.List.{AllZip}
-use Rattle.command_args.specs.Asked.{IsFaultNumber}
+use Rattle.command_args.proofs.Words.{◌+◌, subst, sym, take, AllZip, IsFaultNumber}
 use Rattle.command_args.proofs.Numbers.{zip_more}
 use Rattle.command_args.proofs.parsed.fault_numbers.Goals as goal
 

@@ -1,6 +1,4 @@
-use Rattle.std.specs.List.{AllZip}
-use Rattle.std.proofs.Common.{take}
-use Rattle.command_args.specs.Asked.{IsFaultNumber}
+use Rattle.command_args.proofs.Words.{AllZip, take, IsFaultNumber}
 use Rattle.command_args.proofs.parsed.fault_numbers.Given as goal
 
 abbrev pub invariant-loop-text : goal.invariant-loop-text

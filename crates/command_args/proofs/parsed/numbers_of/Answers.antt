@@ -1,10 +1,6 @@
-use Rattle.std.proofs.Common.{◌≡◌, ◌∙◌, [], Some, None, map, subst, unwrap_or}
-use Rattle.std.specs.List.{AllZip}
-use Rattle.std.proofs.lemmas.Result.{IfOk-weaker}
-use Rattle.clap.specs.Matches.{found_of}
+use Rattle.command_args.proofs.Words.{◌≡◌, ◌∙◌, [], Some, None, map, subst, unwrap_or, AllZip, IfOk-weaker, found_of, IsFaultNumber}
 use Rattle.clap.specs.Walk.{all_of, rows_of}
 use Rattle.clap.proofs.WalkLemmas.{raw_values-rows}
-use Rattle.command_args.specs.Asked.{IsFaultNumber}
 use Rattle.command_args.proofs.Numbers.{zip_map}
 use Rattle.command_args.proofs.parsed.numbers_of.Goals as goal
 

@@ -1,7 +1,4 @@
-use Rattle.std.proofs.Common.{Some, None, inr, map, refl, rules, string_bytes}
-use Rattle.clap.specs.Simple.{app_of, subcommand_rows_of}
-use Rattle.clap.specs.Values.{kind_of}
-use Rattle.command_args.specs.Asked.{IsNamed}
+use Rattle.command_args.proofs.Words.{Some, None, inr, map, refl, rules, string_bytes, app_of, subcommand_rows_of, kind_of, IsNamed}
 use Rattle.command_args.proofs.Parsing.{parsed, refused, unnamed}
 use Rattle.command_args.proofs.parsed.parse_by_clap.Goals as goal
 

@@ -1,11 +1,6 @@
-use Rattle.std.proofs.Common.{◌≡◌, Some, None, refl, subst, sym}
-use Rattle.std.proofs.lemmas.Result.{IfOk-weaker}
+use Rattle.command_args.proofs.Words.{◌≡◌, Some, None, refl, subst, sym, IfOk-weaker, found_of, subcommand_rows_of, rows_of, IsNamed}
 use Rattle.std.specs.Box.{box_value}
-use Rattle.clap.specs.Matches.{found_of}
-use Rattle.clap.specs.Simple.{subcommand_rows_of}
-use Rattle.clap.specs.Walk.{rows_of}
 use Rattle.clap.specs.declared.parser.matches.ArgMatches.TheViews.{out-ArgMatches, out-SubCommand}
-use Rattle.command_args.specs.Asked.{IsNamed}
 use Rattle.command_args.proofs.Reading.{both, neither}
 use Rattle.command_args.proofs.parsed.subcommand_of.Goals as goal
 

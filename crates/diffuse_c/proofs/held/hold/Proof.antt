@@ -1,29 +1,7 @@
 -- `hold` hands on what is owned, and casts the pointer.
-use Rattle.std.proofs.Common.{◌≡◌, List, [], ◌∷◌, ◌++◌, refl, sym, subst, Option, Some}
-use mir.Val.{Val, vptr}
-use base.Logic.{SProp, ent, emp, id⊢}
-use base.Fml.{ftrue}
-use prog.Wp.{WpFn}
-use types.Kit.{‵, raw, ◌⊛◌, ◌$◌, ◌∵◌, !, qed, by, move, keep, split, fsplit, fjoin, suffices, use0}
-use types.Run.{stop, fld, of_opd, no_more, and_then, returns, enter}
-use types.ByLocal.{alloc_all, pass_all, free_all, look_at, get, get_in, sets}
-use types.Part.{agg, sub, whole}
-use contract.Monad.{fact, fact_i}
-use contract.Running.{tables}
-use denote.RattleType.{owns}
-use denote.Signature.{plain}
-use denote.RawPtr.{block_ptr}
-use denote.Steps.{nothing}
-use denote.Triple.Walked.{Stays, stay_dropped, walk_of}
-use Rattle.std.proofs.alloc.Calls.{Goes-blank}
-use Rattle.std.proofs.raw_atomic.Walks.{proved_at, leaves}
+use Rattle.diffuse_c.proofs.Words.{◌≡◌, List, [], ◌∷◌, ◌++◌, refl, sym, subst, Option, Some, Val, vptr, SProp, ent, emp, id⊢, ftrue, WpFn, ‵, raw, ◌⊛◌, ◌$◌, ◌∵◌, !, qed, by, move, keep, split, fsplit, fjoin, suffices, use0, stop, fld, of_opd, no_more, and_then, returns, enter, alloc_all, pass_all, free_all, look_at, get, get_in, sets, agg, sub, whole, fact, fact_i, tables, owns, plain, block_ptr, nothing, Stays, stay_dropped, walk_of, Goes-blank, proved_at, leaves, ghosts, Shared, Stop, Numbering, owner_row}
 use Rattle.std.specs.contracts.alloc.Global as heap
 use Rattle.std.proofs.alloc.Global.TheLaws as heap_laws
-use Rattle.std.specs.contracts.impls.GlobalAllocator.TheImpl.{ghosts}
-use Rattle.answer_lists.specs.Sharing.{Shared}
-use Rattle.path_plain.specs.declared.halt.Stop.{Stop}
-use Rattle.arc_numbers.specs.Numbering.{Numbering}
-use Rattle.diffuse_c.specs.Holding.{owner_row}
 use Rattle.diffuse_c.proofs.Values.{both, BoxPointer, box_pointer_good, box_pointer_out, alone, held_in}
 use Rattle.diffuse_c.specs.contracts.held.hold.{ended, clauses}
 use Rattle.diffuse_c.specs.contracts.held.hold.Key.{name as #self}

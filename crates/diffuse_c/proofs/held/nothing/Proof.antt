@@ -1,21 +1,7 @@
 -- `nothing` makes a null pointer, which owns nothing.
 use Rattle.std.proofs.Common.{◌≡◌, [], ◌∷◌, refl, lit<, Option, None}
-use mir.Val.{Val}
-use base.Logic.{SProp, emp}
-use base.Fml.{ftrue}
-use types.Kit.{‵, raw, ◌⊛◌, ◌$◌, ◌∵◌, !, qed, by, keep, drop, use0}
+use Rattle.diffuse_c.proofs.Words.{Val, SProp, emp, ftrue, ‵, raw, ◌⊛◌, ◌$◌, ◌∵◌, !, qed, by, keep, drop, use0, alloc_all, pass_all, free_all, look_at, sets, agg, fact, fact_i, tables, null_ptr, nothing, Stays, walk_of, proved_at, leaves, Shared, Stop, Numbering}
 use types.Run.{lit, no_more, and_then, returns, enter}
-use types.ByLocal.{alloc_all, pass_all, free_all, look_at, sets}
-use types.Part.{agg}
-use contract.Monad.{fact, fact_i}
-use contract.Running.{tables}
-use denote.RawPtr.{null_ptr}
-use denote.Steps.{nothing}
-use denote.Triple.Walked.{Stays, walk_of}
-use Rattle.std.proofs.raw_atomic.Walks.{proved_at, leaves}
-use Rattle.answer_lists.specs.Sharing.{Shared}
-use Rattle.path_plain.specs.declared.halt.Stop.{Stop}
-use Rattle.arc_numbers.specs.Numbering.{Numbering}
 use Rattle.diffuse_c.proofs.Values.{alone, held_in}
 use Rattle.diffuse_c.specs.contracts.held.nothing.{ended, clauses}
 use Rattle.diffuse_c.specs.contracts.held.nothing.Key.{name as #self}

@@ -1,30 +1,8 @@
 -- `release` hands on what is owned, and casts the pointer back.
 use Rattle.std.proofs.Common.{◌≡◌, List, [], ◌∷◌, ◌++◌, refl, sym, ◌∙◌, subst, Option, Some, true}
-use mir.Val.{Val, vptr}
-use mir.Raw.{raw as bare}
-use base.Logic.{SProp, ent, emp, id⊢, never, fst∗}
-use base.Fml.{ftrue}
-use prog.Wp.{WpFn}
-use types.Logic.{sem}
-use types.Kit.{‵, raw, ◌⊛◌, ◌$◌, ◌∵◌, !, qed, by, move, keep, split, fsplit, fjoin, suffices, rewrite, use0}
-use types.Run.{stop, fld, of_opd, no_more, and_then, returns, enter}
-use types.ByLocal.{alloc_all, pass_all, free_all, look_at, get, get_in, sets}
-use types.Part.{agg, sub, whole}
-use contract.Monad.{fact, fact_i}
-use contract.Running.{tables}
-use denote.RattleType.{owns}
-use denote.Signature.{plain}
-use denote.RawPtr.{block_ptr, null_ptr, in_a_block}
-use denote.Memory.{lone}
-use denote.Steps.{nothing, heard}
-use denote.Triple.Walked.{Stays, stay_dropped, walk_of}
-use Rattle.std.proofs.alloc.Calls.{Goes-blank, handle_tells}
-use Rattle.std.proofs.raw_atomic.Walks.{proved_at, leaves}
-use Rattle.std.specs.Box.Ownership.{box_owns}
+use Rattle.diffuse_c.proofs.Words.{Val, vptr, bare, SProp, ent, emp, id⊢, never, fst∗, ftrue, WpFn, sem, ‵, raw, ◌⊛◌, ◌$◌, ◌∵◌, !, qed, by, move, keep, split, fsplit, fjoin, suffices, rewrite, use0, stop, fld, of_opd, no_more, and_then, returns, enter, alloc_all, pass_all, free_all, look_at, get, get_in, sets, agg, sub, whole, fact, fact_i, tables, owns, plain, block_ptr, null_ptr, in_a_block, lone, nothing, heard, Stays, stay_dropped, walk_of, Goes-blank, handle_tells, proved_at, leaves, box_owns, ghosts, Shared}
 use Rattle.std.specs.contracts.alloc.Global as heap
 use Rattle.std.proofs.alloc.Global.TheLaws as heap_laws
-use Rattle.std.specs.contracts.impls.GlobalAllocator.TheImpl.{ghosts}
-use Rattle.answer_lists.specs.Sharing.{Shared}
 use Rattle.diffuse_c.specs.contracts.held.Held as held
 use Rattle.diffuse_c.specs.Holding.{freeable, has_graph, held_at, owner_of, owner_row}
 use Rattle.diffuse_c.proofs.Values.{both, box_pointer_good, box_pointer_in, al, alone, held_out, the_graph}

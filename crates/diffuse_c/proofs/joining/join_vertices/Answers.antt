@@ -1,11 +1,8 @@
 use Rattle.std.proofs.Common.{rules, ◌≡◌, ℕ, ◌<◌, List, length, take, refl, ap, ◌∙◌, sym, subst, arith, false}
 use Rattle.std.specs.Prelude.{IsTrue}
-use Rattle.std.specs.List.{All}
+use Rattle.diffuse_c.proofs.Words.{All, IsGraph, DiffuseArc, lent}
 use Rattle.std.proofs.Math.Seq.{take-length}
 use Rattle.std.proofs.lemmas.List.Elements.{All-more}
-use Rattle.road_graph.specs.GraphData.{IsGraph}
-use Rattle.diffuse_c.specs.declared.arcs.DiffuseArc.{DiffuseArc}
-use Rattle.diffuse_c.specs.Lent.{lent}
 use Rattle.diffuse_c.proofs.LentArcs.{FitsIn, graph_if_all_fit, joins_in_graph}
 use Rattle.diffuse_c.proofs.joining.join_vertices.Goals as goal
 

@@ -1,5 +1,4 @@
-use Rattle.std.proofs.Common.{take}
-use Rattle.std.specs.List.{All}
+use Rattle.diffuse_c.proofs.Words.{take, All}
 use Rattle.diffuse_c.proofs.LentArcs.{FitsIn}
 use Rattle.diffuse_c.proofs.joining.join_vertices.Given as goal
 

@@ -1,7 +1,4 @@
-use Rattle.std.proofs.Common.{ℕ, List, sym, subst}
-use Rattle.std.specs.Prelude.{map}
-use Rattle.diffuse_c.specs.declared.arcs.DiffuseArc.{DiffuseArc}
-use Rattle.diffuse_c.specs.Leaving.{AreArcsFrom, arc_out_of}
+use Rattle.diffuse_c.proofs.Words.{ℕ, List, sym, subst, map, DiffuseArc, AreArcsFrom, arc_out_of}
 use Rattle.diffuse_c.proofs.ArcsOut.{arcs_out}
 use Rattle.diffuse_c.proofs.leaving.answer.Goals as goal
 

@@ -1,6 +1,5 @@
 use Rattle.std.proofs.Common.{◌≡◌, length, take, drop}
-use Rattle.std.specs.Prelude.{map}
-use Rattle.diffuse_c.specs.Leaving.{arc_out_of}
+use Rattle.diffuse_c.proofs.Words.{map, arc_out_of}
 use Rattle.diffuse_c.proofs.leaving.write_arcs.Given as goal
 
 abbrev pub invariant-loop-i : goal.invariant-loop-i

@@ -1,8 +1,5 @@
-use Rattle.std.proofs.Common.{◌∙◌, [], ◌∷◌, ap, refl, sym, Some}
+use Rattle.diffuse_c.proofs.Words.{◌∙◌, [], ◌∷◌, ap, refl, sym, Some, HasVertex, ReportsRefusals, Owner}
 use Rattle.std.specs.Prelude.{All}
-use Rattle.road_graph.specs.GraphData.{HasVertex}
-use Rattle.answer_lists.specs.Answers.{ReportsRefusals}
-use Rattle.diffuse_c.specs.declared.owners.Owner.{Owner}
 use Rattle.diffuse_c.proofs.PassedOn.{passed_on}
 use Rattle.diffuse_c.proofs.near.diffuse_graph_near.Goals as goal
 

@@ -1,6 +1,5 @@
-use Rattle.std.proofs.Common.{◌∙◌, [], ◌∷◌, ap, refl, sym, Some}
+use Rattle.diffuse_c.proofs.Words.{◌∙◌, [], ◌∷◌, ap, refl, sym, Some, Owner}
 use Rattle.answer_lists.specs.Answers.{HasBoth, ReportsRefusals}
-use Rattle.diffuse_c.specs.declared.owners.Owner.{Owner}
 use Rattle.diffuse_c.proofs.PassedOn.{passed_on}
 use Rattle.diffuse_c.proofs.questions.diffuse_graph_route.Goals as goal
 

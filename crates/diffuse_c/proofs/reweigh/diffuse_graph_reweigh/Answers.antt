@@ -1,6 +1,4 @@
-use Rattle.std.proofs.Common.{rules, ◌≡◌, ◌∙◌, ap, sym, Some}
-use Rattle.diffuse_c.specs.Reweighing.{IsReweighFault}
-use Rattle.diffuse_c.specs.declared.owners.Owner.{Owner}
+use Rattle.diffuse_c.proofs.Words.{rules, ◌≡◌, ◌∙◌, ap, sym, Some, IsReweighFault, Owner}
 use Rattle.diffuse_c.proofs.Refusing.{heavy_of}
 use Rattle.diffuse_c.proofs.reweigh.diffuse_graph_reweigh.Goals as goal
 

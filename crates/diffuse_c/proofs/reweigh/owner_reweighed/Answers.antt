@@ -1,7 +1,4 @@
-use Rattle.std.proofs.Common.{rules, ◌≡◌, ◌∙◌, ℕ, ap, subst}
-use Rattle.road_graph.specs.GraphData.{GraphData}
-use Rattle.answer_lists.specs.Reweighing.{IsRefusal}
-use Rattle.diffuse_c.specs.Lent.{Fits, lent}
+use Rattle.diffuse_c.proofs.Words.{rules, ◌≡◌, ◌∙◌, ℕ, ap, subst, GraphData, IsRefusal, Fits, lent}
 use Rattle.diffuse_c.proofs.Refusing.{not_factored}
 use Rattle.diffuse_c.proofs.reweigh.owner_reweighed.Goals as goal
 

@@ -1,7 +1,5 @@
-use Rattle.std.proofs.Common.{◌∙◌, [], ◌∷◌, ap, refl, sym, Some}
-use Rattle.answer_lists.specs.Answers.{ReportsListRefusals}
+use Rattle.diffuse_c.proofs.Words.{◌∙◌, [], ◌∷◌, ap, refl, sym, Some, ReportsListRefusals, Owner}
 use Rattle.answer_lists.specs.Table.{AreEndsIn, HasPlaces}
-use Rattle.diffuse_c.specs.declared.owners.Owner.{Owner}
 use Rattle.diffuse_c.proofs.PassedOn.{passed_on}
 use Rattle.diffuse_c.proofs.tables.diffuse_graph_table.Goals as goal
 

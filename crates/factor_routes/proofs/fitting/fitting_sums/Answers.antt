@@ -1,9 +1,5 @@
-use Rattle.std.proofs.Common.{◌≡◌, ℕ, ◌-◌, ◌<◌, ◌≤◌, ◌^◌, IfSome, sym, subst, arith, Option, Some, None}
+use Rattle.factor_routes.proofs.Words.{◌≡◌, ℕ, ◌-◌, ◌<◌, ◌≤◌, ◌^◌, IfSome, sym, subst, arith, Option, Some, None, GraphData, cost_of, CountsFit, Cost, CountedSums}
 use Rattle.std.proofs.lemmas.Nat.{one_shl}
-use Rattle.road_graph.specs.GraphData.{GraphData}
-use Rattle.path_algebra.specs.Counted.{cost_of, CountsFit}
-use Rattle.path_algebra.specs.declared.counted_sums.Cost.{Cost}
-use Rattle.path_algebra.specs.declared.counted_sums.CountedSums.{CountedSums}
 use Rattle.factor_routes.proofs.Greatest.{fits_above, room_if_fits}
 use Rattle.factor_routes.proofs.fitting.fitting_sums.Goals.{else-bits-lt32-via-then-bits-lt32+else-sum_of_greatest-bits, else-bits-lt32-via-else-bits-lt32}
 use Rattle.factor_routes.proofs.fitting.fitting_sums.Goals as goal

@@ -1,6 +1,4 @@
-use Rattle.std.proofs.Common.{◌≡◌, ◌∙◌, arith}
-use Rattle.std.proofs.lemmas.Grind.{common_steps}
-use Rattle.path_algebra.specs.Counted.{cost_of}
+use Rattle.factor_routes.proofs.Words.{◌≡◌, ◌∙◌, arith, common_steps, cost_of}
 use Rattle.factor_routes.proofs.Greatest.{greatest_of, row_is_greatest}
 use Rattle.factor_routes.proofs.fitting.greatest_into.Goals as goal
 

@@ -1,5 +1,4 @@
-use Rattle.std.proofs.Common.{◌≡◌, drop}
-use Rattle.path_algebra.specs.Counted.{cost_of}
+use Rattle.factor_routes.proofs.Words.{◌≡◌, drop, cost_of}
 use Rattle.factor_routes.proofs.Greatest.{greatest_of}
 use Rattle.factor_routes.proofs.fitting.greatest_into.Given as goal
 

@@ -1,6 +1,4 @@
-use Rattle.std.proofs.Common.{◌≡◌, ◌*◌, ◌≤◌}
-use Rattle.path_algebra.specs.Counted.{cost_of, sum_to}
-use Rattle.factor_routes.specs.Greatest.{greatest_into}
+use Rattle.factor_routes.proofs.Words.{◌≡◌, ◌*◌, ◌≤◌, cost_of, sum_to, greatest_into}
 use Rattle.factor_routes.proofs.fitting.sum_of_greatest.Given as goal
 
 abbrev pub invariant-loop-i : goal.invariant-loop-i

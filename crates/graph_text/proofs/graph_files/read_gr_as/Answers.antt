@@ -1,7 +1,5 @@
-use Rattle.std.proofs.Common.{map}
-use Rattle.text_lines.specs.Words.{word_of}
+use Rattle.graph_text.proofs.Words.{map, word_of, gr_rules}
 use Rattle.text_lines.proofs.ParserLaws.{reads_text}
-use Rattle.graph_text.specs.GraphFiles.{gr_rules}
 use Rattle.graph_text.specs.GraphTakes.{graph_meaning}
 use Rattle.graph_text.proofs.GraphParserLaws.{by_value, by_fault}
 use Rattle.graph_text.proofs.RuleLaws.{graph_line, graph_end}

@@ -1,7 +1,4 @@
-use Rattle.std.proofs.Common.{◌∙◌, ◌<◌, ◌≤◌, ap, length, arith}
-use Rattle.road_graph.specs.declared.RoadArc.{RoadArc}
-use Rattle.text_lines.specs.Texts.{spelled}
-use Rattle.graph_text.specs.WrittenGraphs.{arc_words}
+use Rattle.graph_text.proofs.Words.{◌∙◌, ◌<◌, ◌≤◌, ap, length, arith, RoadArc, spelled, arc_words}
 use Rattle.text_lines.proofs.WriteLaws.{lines_start, line_left, line_fell, lines_end, fell_out}
 use Rattle.graph_text.proofs.WrittenGraphs.{arc_at}
 use Rattle.graph_text.proofs.writing.write_arcs.Goals as goal

@@ -1,7 +1,4 @@
-use Rattle.std.proofs.Common.{map}
-use Rattle.text_lines.specs.Texts.{text_of}
-use Rattle.text_lines.specs.Written.{WrotePrefix}
-use Rattle.graph_text.specs.WrittenGraphs.{arc_words}
+use Rattle.graph_text.proofs.Words.{map, text_of, WrotePrefix, arc_words}
 use Rattle.text_lines.proofs.WriteLaws.{lines_from}
 use Rattle.graph_text.proofs.writing.write_arcs.Given as goal
 

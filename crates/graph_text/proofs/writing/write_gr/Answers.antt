@@ -1,8 +1,5 @@
-use Rattle.std.proofs.Common.{◌∙◌, ℕ, ap}
-use Rattle.text_lines.specs.Texts.{spelled}
-use Rattle.graph_text.specs.WrittenGraphs.{graph_words}
+use Rattle.graph_text.proofs.Words.{◌∙◌, ℕ, ap, spelled, graph_words, fell_out}
 use Rattle.graph_text.proofs.WrittenGraphs.{graph_then, graph_fell}
-use Rattle.text_lines.proofs.WriteLaws.{fell_out}
 use Rattle.graph_text.proofs.writing.write_gr.Goals as goal
 
 pub returns : goal.returns

@@ -1,7 +1,6 @@
 use Rattle.path_algebra.proofs.Walks.{all_inside}
 use Rattle.path_algebra.proofs.Tight.{labelled, tight_arcs_reach}
-use Rattle.path_algebra.specs.Walks.{label_of}
-use Rattle.std.proofs.Common.{refl}
+use Rattle.path_algebra.proofs.Words.{label_of, refl}
 use Rattle.path_algebra.proofs.laws.tight_arcs_reach.Goals as goal
 
 pub returns : goal.returns

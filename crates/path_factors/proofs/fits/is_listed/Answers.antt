@@ -1,5 +1,4 @@
-use Rattle.std.proofs.Common.{sym, subst}
-use Rattle.std.specs.Prelude.{IsTrue}
+use Rattle.path_factors.proofs.Words.{sym, subst, IsTrue}
 use Rattle.path_factors.proofs.HeadRows.{listed_by_search}
 use Rattle.path_factors.proofs.fits.is_listed.Goals as goal
 

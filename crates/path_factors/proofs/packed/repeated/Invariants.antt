@@ -1,5 +1,4 @@
-use Rattle.std.proofs.Common.{◌≡◌, length}
-use Rattle.std.specs.Prelude.{All}
+use Rattle.path_factors.proofs.Words.{◌≡◌, length, All}
 use Rattle.path_factors.proofs.packed.repeated.Given as goal
 
 abbrev pub invariant-loop : goal.invariant-loop

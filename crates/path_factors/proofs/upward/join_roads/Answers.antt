@@ -1,6 +1,4 @@
-use Rattle.std.proofs.Common.{◌≡◌, ℕ, ◌-◌, ◌∙◌, length, get_or, ap, subst, arith}
-use Rattle.path_factors.specs.Chains.{HasValue, IsMore}
-use Rattle.path_factors.specs.Heads.{IsJoined}
+use Rattle.path_factors.proofs.Words.{◌≡◌, ℕ, ◌-◌, ◌∙◌, length, get_or, ap, subst, arith, HasValue, IsMore, IsJoined}
 use Rattle.path_factors.proofs.Joining.{at, AreRoadsJoined, joined_weaker, roads_more, roads_all}
 use Rattle.path_factors.proofs.Listing.{more_none, more_trans}
 use Rattle.path_factors.proofs.Loading.{road_inside}

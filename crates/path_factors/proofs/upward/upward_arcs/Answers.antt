@@ -1,6 +1,4 @@
-use Rattle.std.proofs.Common.{◌∙◌}
-use Rattle.path_factors.specs.Chains.{HasValue}
-use Rattle.road_graph.specs.GraphData.{arc_of}
+use Rattle.path_factors.proofs.Words.{◌∙◌, HasValue, arc_of}
 use Rattle.path_factors.proofs.Joining.{at, JoinedTo, joined_more, joined_weaker}
 use Rattle.path_factors.proofs.upward.upward_arcs.Goals as goal
 

@@ -1,5 +1,4 @@
-use Rattle.std.proofs.Common.{◌≡◌, length}
-use Rattle.path_factors.specs.Chains.{AreBelow, HasValue}
+use Rattle.path_factors.proofs.Words.{◌≡◌, length, AreBelow, HasValue}
 use Rattle.path_factors.proofs.Joining.{JoinedTo}
 use Rattle.path_factors.proofs.upward.upward_arcs.Given as goal
 

@@ -1,6 +1,5 @@
 -- A must-fail edit breaks this goal: with an answer it is refused at once.
-use Rattle.std.proofs.Common.{arith}
-use Rattle.std.proofs.lemmas.Grind.{common_steps}
+use Rattle.path_plain.proofs.Words.{arith, common_steps}
 use Rattle.path_plain.proofs.solve.solve_one.Goals as goal
 
 pub returns : goal.returns

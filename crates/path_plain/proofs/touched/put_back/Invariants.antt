@@ -1,5 +1,4 @@
-use Rattle.std.proofs.Common.{◌≡◌, length, drop}
-use Rattle.path_plain.specs.Noting.{AreNoted}
+use Rattle.path_plain.proofs.Words.{◌≡◌, length, drop, AreNoted}
 use Rattle.path_plain.proofs.touched.put_back.Given as goal
 
 abbrev pub invariant-loop-v : goal.invariant-loop-v

@@ -1,9 +1,4 @@
-use Rattle.std.proofs.Common.{◌≡◌, ◌<◌, ℕ, List, length, map, ap, sym, ◌∙◌, subst, arith}
-use Rattle.circular_buffer.specs.Buffer.{Buffer}
-use Rattle.shard_store.specs.Totals.{total, is}
-use Rattle.post_floor.specs.Floor.{Slot}
-use Rattle.post_floor.specs.Claims.{cycled, before, first_is}
-use Rattle.post_floor.specs.Data.{AreOpen}
+use Rattle.post_floor.proofs.Words.{◌≡◌, ◌<◌, ℕ, List, length, map, ap, sym, ◌∙◌, subst, arith, Buffer, total, is, Slot, cycled, before, first_is, AreOpen}
 use Rattle.post_floor.proofs.Turning.{cycled_total, cycled_length, cycled_before, turned_keys, turned_open, first_here}
 use Rattle.post_floor.proofs.claims.rotate_to.Goals as goal
 

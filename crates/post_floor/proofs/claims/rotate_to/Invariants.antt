@@ -1,10 +1,5 @@
-use Rattle.std.proofs.Common.{◌≡◌, ◌<◌, ◌≤◌, length, map}
+use Rattle.post_floor.proofs.Words.{◌≡◌, ◌<◌, ◌≤◌, length, map, SetupData, total, is, View, before, AreOpen}
 use Rattle.std.specs.Prelude.{ℕ}
-use Rattle.shard_store.specs.Setup.{SetupData}
-use Rattle.shard_store.specs.Totals.{total, is}
-use Rattle.post_floor.specs.declared.view.View.{View}
-use Rattle.post_floor.specs.Claims.{before}
-use Rattle.post_floor.specs.Data.{AreOpen}
 use Rattle.post_floor.proofs.claims.rotate_to.Given as goal
 
 abbrev pub invariant-loop-claims : goal.invariant-loop-claims

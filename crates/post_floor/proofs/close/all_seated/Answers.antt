@@ -1,5 +1,4 @@
-use Rattle.std.proofs.Common.{rules, arith}
-use Rattle.std.proofs.lemmas.Grind.{common_steps}
+use Rattle.post_floor.proofs.Words.{rules, arith, common_steps}
 use Rattle.post_floor.proofs.close.all_seated.Goals as goal
 
 pub returns-then-not-is_seated : goal.returns-then-not-is_seated

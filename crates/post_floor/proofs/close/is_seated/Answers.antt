@@ -1,6 +1,4 @@
-use Rattle.std.proofs.Common.{rules, arith, ◌≡◌, ◌≢◌, ap, ◌∙◌}
-use Rattle.shard_store.specs.Totals.{is}
-use Rattle.shard_part.proofs.Showing.{is_self}
+use Rattle.post_floor.proofs.Words.{rules, arith, ◌≡◌, ◌≢◌, ap, ◌∙◌, is, is_self}
 use Rattle.post_floor.proofs.Totals.{is_else}
 use Rattle.post_floor.proofs.Closing.{found, not_found}
 use Rattle.post_floor.proofs.close.is_seated.Goals as goal

@@ -1,5 +1,4 @@
-use Rattle.std.proofs.Common.{◌≡◌, take}
-use Rattle.shard_store.specs.Totals.{total, is}
+use Rattle.post_floor.proofs.Words.{◌≡◌, take, total, is}
 use Rattle.post_floor.proofs.close.is_seated.Given as goal
 
 abbrev pub invariant-loop-index : goal.invariant-loop-index

@@ -1,5 +1,4 @@
-use Rattle.std.proofs.Common.{◌≡◌, ap, ◌∙◌, rules}
-use Rattle.post_floor.specs.Seats.{both, aside_right}
+use Rattle.post_floor.proofs.Words.{◌≡◌, ap, ◌∙◌, rules, both, aside_right}
 use Rattle.post_floor.proofs.Seats.{splits_aside, joins, all_front}
 use Rattle.post_floor.proofs.Closing.{join_one, joined_end}
 use Rattle.post_floor.proofs.close.join_all.Goals as goal

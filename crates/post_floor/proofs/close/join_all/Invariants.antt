@@ -1,7 +1,5 @@
 use Rattle.std.proofs.Common.{◌≡◌, vec_len}
-use Rattle.shard_part.specs.Weights.{All}
-use Rattle.post_floor.specs.declared.view.View.{View}
-use Rattle.post_floor.specs.Closing.{AreJoined}
+use Rattle.post_floor.proofs.Words.{All, View, AreJoined}
 use Rattle.post_floor.proofs.close.join_all.Given as goal
 
 abbrev pub invariant-loop-seat : goal.invariant-loop-seat

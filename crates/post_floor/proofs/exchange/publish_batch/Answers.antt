@@ -1,5 +1,4 @@
-use Rattle.std.proofs.Common.{◌∙◌, ap, rules, arith}
-use Rattle.std.proofs.lemmas.Grind.{common_steps}
+use Rattle.post_floor.proofs.Words.{◌∙◌, ap, rules, arith, common_steps}
 use Rattle.post_floor.proofs.Called.{has_now, publishing}
 use Rattle.post_floor.proofs.exchange.publish_batch.Goals as goal
 

@@ -1,8 +1,4 @@
-use Rattle.std.proofs.Common.{◌≡◌, ◌∷◌, ◌∙◌, ap, refl, sym, subst, arith}
-use Rattle.shard_part.specs.Arriving.{joined}
-use Rattle.post_floor.specs.Floor.{empty_slot}
-use Rattle.post_floor.specs.Plays.{StepsTo, HoldsReachedShare, at_word, begin_read}
-use Rattle.std.proofs.lemmas.Grind.{common_steps}
+use Rattle.post_floor.proofs.Words.{◌≡◌, ◌∷◌, ◌∙◌, ap, refl, sym, subst, arith, joined, empty_slot, StepsTo, HoldsReachedShare, at_word, begin_read, common_steps}
 use Rattle.post_floor.proofs.Called.{first_is, has_now}
 use Rattle.post_floor.proofs.exchange.read_batch.Goals as goal
 

@@ -1,7 +1,4 @@
-use Rattle.std.proofs.Common.{◌≡◌, ◌+◌, ◌∙◌, ap, sym, subst}
-use Rattle.std.specs.Prelude.{IfSome, IsTrue}
-use Rattle.path_algebra.specs.Walks.{better_label}
-use Rattle.post_floor.specs.Hints.{IsBestShown}
+use Rattle.post_floor.proofs.Words.{◌≡◌, ◌+◌, ◌∙◌, ap, sym, subst, IfSome, IsTrue, better_label, IsBestShown}
 use Rattle.shard_part.proofs.Ahead.{better_kept}
 use Rattle.post_floor.proofs.Shown.{none_shown, past_own, past_other}
 use Rattle.post_floor.proofs.hints.best_of_others.Goals.{then-shard-own, else-shard-own}

@@ -1,5 +1,4 @@
-use Rattle.std.specs.Prelude.{IfSome, IsTrue}
-use Rattle.post_floor.specs.Hints.{IsBestShown}
+use Rattle.post_floor.proofs.Words.{IfSome, IsTrue, IsBestShown}
 use Rattle.post_floor.proofs.hints.best_of_others.Given as goal
 
 abbrev pub invariant-loop-shard : goal.invariant-loop-shard

@@ -1,6 +1,4 @@
-use Rattle.std.proofs.Common.{arith, ◌<◌, ◌/◌, ◌%◌, length, ap, sym, subst, ◌∙◌}
-use Rattle.shard_store.specs.Setup.{network_of, place_in}
-use Rattle.shard_store.specs.Capacities.{outbox_bound}
+use Rattle.post_floor.proofs.Words.{arith, ◌<◌, ◌/◌, ◌%◌, length, ap, sym, subst, ◌∙◌, network_of, place_in, outbox_bound}
 use Rattle.post_floor.proofs.Opened.{opened_long, pair_below, part_at, cap_own, cap_other}
 use Rattle.post_floor.proofs.open.room_of.Goals as goal
 

@@ -1,7 +1,4 @@
-use Rattle.std.proofs.Common.{◌≡◌, ℕ, ◌+◌, ◌++◌, [], ◌∷◌, map, rules, arith, refl, ap, sym, ◌∙◌, length-append}
-use Rattle.std.proofs.lemmas.List.{map_push}
-use Rattle.post_floor.specs.Seats.{knows, cut_left, cut_right}
-use Rattle.post_floor.specs.Data.{seat_of}
+use Rattle.post_floor.proofs.Words.{◌≡◌, ℕ, ◌+◌, ◌++◌, [], ◌∷◌, map, rules, arith, refl, ap, sym, ◌∙◌, length-append, map_push, knows, cut_left, cut_right, seat_of}
 use Rattle.post_floor.proofs.Seats.{splits}
 use Rattle.post_floor.proofs.Opened.{cut_opened, none_more, opened_long}
 use Rattle.post_floor.proofs.open.seat_all.Goals as goal

@@ -1,7 +1,4 @@
-use Rattle.std.proofs.Common.{◌≡◌, ◌++◌, map, length, List, []}
-use Rattle.shard_part.specs.PartState.{PartData}
-use Rattle.post_floor.specs.Seats.{knows}
-use Rattle.post_floor.specs.Data.{seat_of}
+use Rattle.post_floor.proofs.Words.{◌≡◌, ◌++◌, map, length, List, [], PartData, knows, seat_of}
 use Rattle.post_floor.proofs.open.seat_all.Given as goal
 
 abbrev pub invariant-loop-shard : goal.invariant-loop-shard

@@ -1,6 +1,4 @@
-use Rattle.std.proofs.Common.{[], ◌∷◌, ◌≢◌, ◌∙◌, ap, arith, subst}
-use Rattle.post_floor.specs.Boxes.{dest}
-use Rattle.post_floor.specs.Plays.{IsNextFill}
+use Rattle.post_floor.proofs.Words.{[], ◌∷◌, ◌≢◌, ◌∙◌, ap, arith, subst, dest, IsNextFill}
 use Rattle.post_floor.proofs.Exchanges.{ends_fill}
 use Rattle.post_floor.proofs.Called.{formed, all_told}
 use Rattle.post_floor.proofs.steps.publish_word.Goals as goal

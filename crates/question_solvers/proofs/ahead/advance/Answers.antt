@@ -1,7 +1,4 @@
-use Rattle.std.proofs.Common.{◌≡◌, ◌∙◌, Some, ap, sym, take}
-use Rattle.std.proofs.lemmas.List.Elements.{All-same, All-take}
-use Rattle.road_files.specs.Asked.{asked_of}
-use Rattle.question_solvers.specs.Solved.{IsSearched, next_of}
+use Rattle.question_solvers.proofs.Words.{◌≡◌, ◌∙◌, Some, ap, sym, take, All-same, All-take, asked_of, IsSearched, next_of}
 use Rattle.question_solvers.proofs.Searches.{for_other, is_next, of_next}
 use Rattle.question_solvers.proofs.ahead.advance.Goals as goal
 

@@ -1,5 +1,4 @@
-use Rattle.std.proofs.Common.{length}
-use Rattle.question_solvers.specs.Tasks.{AreFoundIn}
+use Rattle.question_solvers.proofs.Words.{length, AreFoundIn}
 use Rattle.question_solvers.proofs.ahead.advance.Given as goal
 
 abbrev pub invariant-loop-next : goal.invariant-loop-next

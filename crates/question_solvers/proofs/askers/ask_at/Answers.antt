@@ -1,6 +1,4 @@
-use Rattle.std.proofs.Common.{◌∙◌, sym, subst}
-use Rattle.road_graph.specs.GraphData.{GraphData}
-use Rattle.route_tree.specs.Found.{IsPairFound}
+use Rattle.question_solvers.proofs.Words.{◌∙◌, sym, subst, GraphData, IsPairFound}
 use Rattle.question_solvers.proofs.askers.ask_at.Goals as goal
 
 pub returns-clause-solved : goal.returns-clause-solved

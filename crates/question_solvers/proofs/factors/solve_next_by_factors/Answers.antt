@@ -1,6 +1,4 @@
-use Rattle.std.proofs.Common.{◌≡◌, refl, subst}
-use Rattle.std.specs.Prelude.{IfSome}
-use Rattle.question_solvers.specs.Solved.{next_of}
+use Rattle.question_solvers.proofs.Words.{◌≡◌, refl, subst, IfSome, next_of}
 use Rattle.question_solvers.proofs.Searches.{next_solves}
 use Rattle.question_solvers.proofs.factors.solve_next_by_factors.Goals as goal
 

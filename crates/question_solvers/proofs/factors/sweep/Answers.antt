@@ -1,10 +1,5 @@
-use Rattle.std.proofs.Common.{◌∙◌, refl, sym, subst, List, ℕ}
+use Rattle.question_solvers.proofs.Words.{◌∙◌, refl, sym, subst, List, ℕ, GraphData, HasVertex, FromSource, asked_within, AreBest, IsTree}
 use Rattle.std.specs.List.{All}
-use Rattle.road_graph.specs.GraphData.{GraphData, HasVertex}
-use Rattle.road_files.specs.Asked.{FromSource}
-use Rattle.road_files.proofs.QuestionLaws.{asked_within}
-use Rattle.path_algebra.specs.Walks.{AreBest}
-use Rattle.route_tree.specs.Tree.{IsTree}
 use Rattle.question_solvers.proofs.factors.sweep.Goals as goal
 
 pub solve_with_tree-requires-clause-sources : goal.solve_with_tree-requires-clause-sources

@@ -1,5 +1,4 @@
-use Rattle.std.proofs.Common.{subst}
-use Rattle.route_tree.specs.Found.{IsPairFound}
+use Rattle.question_solvers.proofs.Words.{subst, IsPairFound}
 use Rattle.question_solvers.proofs.pair_search.solve_near_at.Goals as goal
 
 pub returns-in-Decided-clause-solved : goal.returns-in-Decided-clause-solved

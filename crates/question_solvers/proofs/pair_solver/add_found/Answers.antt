@@ -1,9 +1,4 @@
-use Rattle.std.proofs.Common.{arith, rules, ◌∙◌, ◌-◌, ◌<◌, ◌++◌, ◌∷◌, [], length, subst, sym}
-use Rattle.std.proofs.lemmas.List.Elements.{All-push, All-same, All-set}
-use Rattle.std.specs.Prelude.{IfSome}
-use Rattle.road_files.specs.Asked.{asked_of}
-use Rattle.question_solvers.specs.Solved.{IsSearched}
-use Rattle.question_solvers.specs.Tasks.{IsSearcherIn}
+use Rattle.question_solvers.proofs.Words.{arith, rules, ◌∙◌, ◌-◌, ◌<◌, ◌++◌, ◌∷◌, [], length, subst, sym, All-push, All-same, All-set, IfSome, asked_of, IsSearched, IsSearcherIn}
 use Rattle.question_solvers.proofs.pair_solver.add_found.Goals as goal
 
 pub offset_bounds-group-k : goal.offset_bounds-group-k

@@ -1,8 +1,4 @@
-use Rattle.std.proofs.Common.{rules, arith, ◌≡◌, ◌∙◌, ◌+◌, ◌≤◌, ◌++◌, ◌∷◌, [], None, ap, length, subst, sym}
-use Rattle.std.proofs.lemmas.List.{length_push}
-use Rattle.std.proofs.lemmas.List.Elements.{All-push, All-same}
-use Rattle.question_solvers.specs.Solvers.{IsSearcherOf}
-use Rattle.question_solvers.specs.declared.pair_solver.PairSolver.{PairSolver}
+use Rattle.question_solvers.proofs.Words.{rules, arith, ◌≡◌, ◌∙◌, ◌+◌, ◌≤◌, ◌++◌, ◌∷◌, [], None, ap, length, subst, sym, length_push, All-push, All-same, IsSearcherOf, PairSolver}
 use Rattle.question_solvers.proofs.pair_solver.grow.Goals as goal
 
 pub returns-then-is_err-clause-pool : goal.returns-then-is_err-clause-pool

@@ -1,5 +1,4 @@
-use Rattle.std.proofs.Common.{◌≤◌, length}
-use Rattle.question_solvers.specs.Tasks.{IsPoolIn}
+use Rattle.question_solvers.proofs.Words.{◌≤◌, length, IsPoolIn}
 use Rattle.question_solvers.proofs.pair_solver.grow.Given as goal
 
 abbrev pub invariant-loop-k : goal.invariant-loop-k

@@ -1,6 +1,5 @@
-use Rattle.std.proofs.Common.{rules, arith, ◌≡◌, ◌∙◌, ◌<◌, ap, length}
+use Rattle.question_solvers.proofs.Words.{rules, arith, ◌≡◌, ◌∙◌, ◌<◌, ap, length, IsSearcherOf}
 use Rattle.std.proofs.lemmas.List.Elements.{All-set, AllWithin-more_set}
-use Rattle.question_solvers.specs.Solvers.{IsSearcherOf}
 use Rattle.question_solvers.proofs.Pools.{stored_over}
 use Rattle.question_solvers.proofs.pair_solver.set_algebra.Goals as goal
 

@@ -1,7 +1,5 @@
-use Rattle.std.proofs.Common.{◌≡◌, All}
+use Rattle.question_solvers.proofs.Words.{◌≡◌, All, GraphData, IsSearcherOf}
 use Rattle.std.specs.List.{AllWithin}
-use Rattle.road_graph.specs.GraphData.{GraphData}
-use Rattle.question_solvers.specs.Solvers.{IsSearcherOf}
 use Rattle.question_solvers.proofs.pair_solver.set_algebra.Given as goal
 
 abbrev pub invariant-loop-solver : goal.invariant-loop-solver

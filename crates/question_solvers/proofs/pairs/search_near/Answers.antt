@@ -1,6 +1,4 @@
-use Rattle.std.proofs.Common.{sym, subst}
-use Rattle.std.proofs.lemmas.List.Elements.{All-set}
-use Rattle.question_solvers.specs.Tasks.{IsSearcherIn}
+use Rattle.question_solvers.proofs.Words.{sym, subst, All-set, IsSearcherIn}
 use Rattle.question_solvers.proofs.pairs.search_near.Goals as goal
 
 pub solve_near_at-requires-clause-searcher : goal.solve_near_at-requires-clause-searcher

@@ -1,7 +1,4 @@
-use Rattle.std.proofs.Common.{◌∙◌, [], ap}
-use Rattle.std.proofs.lemmas.List.Elements.{All-nil, All-same}
-use Rattle.road_files.specs.Asked.{asked_of}
-use Rattle.question_solvers.specs.Solved.{IsSearched}
+use Rattle.question_solvers.proofs.Words.{◌∙◌, [], ap, All-nil, All-same, asked_of, IsSearched}
 use Rattle.question_solvers.proofs.pairs.search_pairs.Goals.{then-is_err, else-is_err}
 use Rattle.question_solvers.proofs.pairs.search_pairs.Goals as goal
 

@@ -1,12 +1,7 @@
-use Rattle.std.proofs.Common.{rules, ◌<◌, length, sym, subst, get_or}
-use Rattle.std.specs.Prelude.{IfSome}
+use Rattle.question_solvers.proofs.Words.{rules, ◌<◌, length, sym, subst, get_or, IfSome, NamedLft, crosses, asked_of, IsFoundIn, IsSearcherIn}
 use denote.Exit.{no}
 use denote.Param.{copied, param}
-use denote.Ref.{NamedLft}
 use denote.Param.Send.{param_send, arg_send, sendable}
-use Rattle.std.proofs.Crossing.{crosses}
-use Rattle.road_files.specs.Asked.{asked_of}
-use Rattle.question_solvers.specs.Tasks.{IsFoundIn, IsSearcherIn}
 use Rattle.question_solvers.proofs.Searches.{some_own}
 use Rattle.question_solvers.proofs.Sending.{pair_solver_send, pair_task_sync}
 use Rattle.question_solvers.proofs.pairs.solve_group.Goals as goal

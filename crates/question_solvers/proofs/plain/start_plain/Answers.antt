@@ -1,9 +1,4 @@
-use Rattle.std.proofs.Common.{rules, ◌∙◌, [], ap, subst, sym}
-use Rattle.std.proofs.lemmas.List.Elements.{All-nil, All-same}
-use Rattle.road_graph.specs.GraphData.{GraphData}
-use Rattle.road_files.specs.Asked.{asked_of}
-use Rattle.question_solvers.specs.Solved.{IsSearched}
-use Rattle.question_solvers.specs.Solvers.{IsPoolOf}
+use Rattle.question_solvers.proofs.Words.{rules, ◌∙◌, [], ap, subst, sym, All-nil, All-same, GraphData, asked_of, IsSearched, IsPoolOf}
 use Rattle.question_solvers.proofs.Pools.{pool_over}
 use Rattle.question_solvers.proofs.plain.start_plain.Goals as goal
 

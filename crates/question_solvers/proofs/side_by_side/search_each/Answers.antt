@@ -1,7 +1,5 @@
-use Rattle.std.proofs.Common.{◌∙◌, ap}
-use Rattle.std.specs.Prelude.{IfOk}
+use Rattle.question_solvers.proofs.Words.{◌∙◌, ap, IfOk, IsFoundIn}
 use Rattle.rayon.proofs.ToStd.{slice-AllZip}
-use Rattle.question_solvers.specs.Tasks.{IsFoundIn}
 use Rattle.question_solvers.proofs.Searches.{gathered}
 use Rattle.question_solvers.proofs.side_by_side.search_each.Goals as goal
 

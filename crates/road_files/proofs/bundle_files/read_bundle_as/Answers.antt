@@ -1,8 +1,4 @@
-use Rattle.std.proofs.Common.{map}
-use Rattle.text_lines.specs.Words.{word_of}
-use Rattle.text_lines.proofs.ParserLaws.{reads_text, reads_sure}
-use Rattle.road_files.specs.Asked.{AreQuestionsOf}
-use Rattle.road_files.specs.BundleFiles.{bundle_with, bundle_rules}
+use Rattle.road_files.proofs.Words.{map, word_of, reads_text, reads_sure, AreQuestionsOf, bundle_with, bundle_rules}
 use Rattle.road_files.specs.BundleTakes.{bundle_meaning}
 use Rattle.road_files.proofs.BundleParserLaws.{by_value, by_fault, by_fit}
 use Rattle.road_files.proofs.RoadNumbers.{bundles_line, bundles_end}

@@ -1,6 +1,4 @@
-use Rattle.text_lines.proofs.ParserLaws.{reads_text, reads_sure}
-use Rattle.road_files.specs.Asked.{asked_of}
-use Rattle.road_files.specs.QuestionFiles.{question_rules}
+use Rattle.road_files.proofs.Words.{reads_text, reads_sure, asked_of, question_rules}
 use Rattle.road_files.specs.QuestionTakes.{question_meaning, FitsFile}
 use Rattle.road_files.proofs.QuestionParserLaws.{by_value, by_fault, by_fit}
 use Rattle.road_files.proofs.RoadNumbers.{line_of_questions, questions_end}

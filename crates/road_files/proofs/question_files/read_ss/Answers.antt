@@ -1,10 +1,6 @@
-use Rattle.std.proofs.Common.{Some}
-use Rattle.std.proofs.lemmas.Result.{err_from_is_err_and}
-use Rattle.text_lines.proofs.ParserLaws.{reads_part, reads_no_part}
+use Rattle.road_files.proofs.Words.{Some, err_from_is_err_and, reads_part, reads_no_part, asked_of, question_rules}
 use Rattle.road_files.specs.declared.questions.Kind.TheVariants as kinds
 use Rattle.road_files.specs.declared.questions.Questions.TheVariants.{Sources}
-use Rattle.road_files.specs.Asked.{asked_of}
-use Rattle.road_files.specs.QuestionFiles.{question_rules}
 use Rattle.road_files.proofs.question_files.read_ss.Goals as goal
 
 pub returns-clause-reads : goal.returns-clause-reads

@@ -1,8 +1,4 @@
-use Rattle.std.proofs.Common.{◌∙◌, ap, map, ℕ, List, codes, Vec, Global}
-use Rattle.text_lines.specs.Texts.{spelled, list_words}
-use Rattle.text_lines.proofs.WriteLaws.{lines_start, made_left, made_fell, made_end, fell_out}
-use Rattle.road_files.specs.Asked.{of_list}
-use Rattle.road_files.specs.WrittenQuestions.{question_words}
+use Rattle.road_files.proofs.Words.{◌∙◌, ap, map, ℕ, List, codes, Vec, Global, spelled, list_words, lines_start, made_left, made_fell, made_end, fell_out, of_list, question_words}
 use Rattle.road_files.proofs.writing.write_lists.Goals as goal
 
 pub loop-list-init : goal.loop-list-init

@@ -1,11 +1,5 @@
-use Rattle.std.proofs.Common.{◌∙◌, ℕ, ap, map, sym}
-use Rattle.std.proofs.lemmas.List.{length-map}
-use Rattle.text_lines.specs.Texts.{spelled}
-use Rattle.road_files.specs.declared.questions.Kind.TheVariants.{Multi}
-use Rattle.road_files.specs.Asked.{of_list}
-use Rattle.road_files.specs.WrittenQuestions.{problem_words}
+use Rattle.road_files.proofs.Words.{◌∙◌, ℕ, ap, map, sym, length-map, spelled, Multi, of_list, problem_words, fell_out}
 use Rattle.road_files.proofs.WrittenQuestions.{questions_then, questions_fell}
-use Rattle.text_lines.proofs.WriteLaws.{fell_out}
 use Rattle.road_files.proofs.writing.write_ms.Goals as goal
 
 pub returns : goal.returns

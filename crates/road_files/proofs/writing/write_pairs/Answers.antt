@@ -1,8 +1,4 @@
-use Rattle.std.proofs.Common.{◌∙◌, ap, map, ℕ}
-use Rattle.text_lines.specs.Texts.{spelled}
-use Rattle.text_lines.proofs.WriteLaws.{lines_start, made_left, made_fell, made_end, fell_out}
-use Rattle.road_files.specs.Asked.{of_pair}
-use Rattle.road_files.specs.WrittenQuestions.{question_words}
+use Rattle.road_files.proofs.Words.{◌∙◌, ap, map, ℕ, spelled, lines_start, made_left, made_fell, made_end, fell_out, of_pair, question_words}
 use Rattle.road_files.proofs.writing.write_pairs.Goals as goal
 
 pub loop-pair-init : goal.loop-pair-init

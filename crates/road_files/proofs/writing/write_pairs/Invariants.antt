@@ -1,9 +1,4 @@
-use Rattle.std.proofs.Common.{map}
-use Rattle.text_lines.specs.Texts.{text_of}
-use Rattle.text_lines.specs.Written.{WrotePrefix}
-use Rattle.text_lines.proofs.WriteLaws.{lines_from}
-use Rattle.road_files.specs.Asked.{of_pair}
-use Rattle.road_files.specs.WrittenQuestions.{question_words}
+use Rattle.road_files.proofs.Words.{map, text_of, WrotePrefix, lines_from, of_pair, question_words}
 use Rattle.road_files.proofs.writing.write_pairs.Given as goal
 
 abbrev pub invariant-loop-pair : goal.invariant-loop-pair

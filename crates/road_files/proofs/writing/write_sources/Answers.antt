@@ -1,8 +1,4 @@
-use Rattle.std.proofs.Common.{◌∙◌, ap, map, ℕ}
-use Rattle.text_lines.specs.Texts.{spelled}
-use Rattle.text_lines.proofs.WriteLaws.{lines_start, made_left, made_fell, made_end, fell_out}
-use Rattle.road_files.specs.Asked.{of_source}
-use Rattle.road_files.specs.WrittenQuestions.{question_words}
+use Rattle.road_files.proofs.Words.{◌∙◌, ap, map, ℕ, spelled, lines_start, made_left, made_fell, made_end, fell_out, of_source, question_words}
 use Rattle.road_files.proofs.writing.write_sources.Goals as goal
 
 pub loop-source-init : goal.loop-source-init

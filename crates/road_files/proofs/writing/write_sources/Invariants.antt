@@ -1,9 +1,4 @@
-use Rattle.std.proofs.Common.{map}
-use Rattle.text_lines.specs.Texts.{text_of}
-use Rattle.text_lines.specs.Written.{WrotePrefix}
-use Rattle.text_lines.proofs.WriteLaws.{lines_from}
-use Rattle.road_files.specs.Asked.{of_source}
-use Rattle.road_files.specs.WrittenQuestions.{question_words}
+use Rattle.road_files.proofs.Words.{map, text_of, WrotePrefix, lines_from, of_source, question_words}
 use Rattle.road_files.proofs.writing.write_sources.Given as goal
 
 abbrev pub invariant-loop-source : goal.invariant-loop-source

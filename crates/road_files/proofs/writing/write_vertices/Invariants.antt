@@ -1,6 +1,4 @@
-use Rattle.std.proofs.Common.{drop}
-use Rattle.text_lines.specs.Texts.{spaced}
-use Rattle.text_lines.specs.Written.{WrotePrefix}
+use Rattle.road_files.proofs.Words.{drop, spaced, WrotePrefix}
 use Rattle.road_files.proofs.writing.write_vertices.Given as goal
 
 abbrev pub invariant-loop-vertex : goal.invariant-loop-vertex

@@ -1,6 +1,4 @@
-use Rattle.std.proofs.Common.{arith}
-use Rattle.std.proofs.lemmas.Grind.{common_steps}
-use Rattle.text_lines.specs.Texts.{spelled}
+use Rattle.road_files.proofs.Words.{arith, common_steps, spelled}
 use Rattle.road_files.proofs.written_lines.fill_source.Goals as goal
 
 pub returns : goal.returns

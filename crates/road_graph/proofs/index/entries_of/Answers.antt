@@ -1,6 +1,4 @@
-use Rattle.std.proofs.Common.{◌-◌, subst, arith, ◌∙◌, refl, get_or}
-use Rattle.std.proofs.lemmas.List.{length-set}
-use Rattle.road_graph.specs.Making.{IsEntry}
+use Rattle.road_graph.proofs.Words.{◌-◌, subst, arith, ◌∙◌, refl, get_or, length-set, IsEntry}
 use Rattle.road_graph.proofs.Entries.{all_told, number_some, number_inside, tail_some, tail_inside, start_before, is_entry, told_more}
 use Rattle.road_graph.proofs.index.entries_of.Goals as goal
 

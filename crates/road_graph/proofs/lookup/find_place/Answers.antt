@@ -1,6 +1,4 @@
-use Rattle.std.proofs.Common.{ℕ, List, subst, sym}
-use Rattle.std.specs.Prelude.{Contains}
-use Rattle.road_graph.specs.GraphData.{IsAscendingFrom}
+use Rattle.road_graph.proofs.Words.{ℕ, List, subst, sym, Contains, IsAscendingFrom}
 use Rattle.road_graph.proofs.Places.{has_in_row, stands_in_row}
 use Rattle.road_graph.proofs.lookup.find_place.Goals as goal
 

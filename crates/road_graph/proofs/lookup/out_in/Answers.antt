@@ -1,5 +1,4 @@
-use Rattle.std.proofs.Common.{◌-◌, List, ℕ, refl, subst, sym, get_or}
-use Rattle.road_graph.specs.GraphData.{ListsArcsFrom}
+use Rattle.road_graph.proofs.Words.{◌-◌, List, ℕ, refl, subst, sym, get_or, ListsArcsFrom}
 use Rattle.road_graph.proofs.Reading.{row_lists_from}
 use Rattle.road_graph.proofs.lookup.out_in.Goals as goal
 

@@ -1,6 +1,4 @@
-use Rattle.std.proofs.Common.{length, ap, ◌∙◌, arith}
-use Rattle.std.proofs.lemmas.List.{length-map}
-use Rattle.road_graph.specs.GraphData.{arc_of, road_of}
+use Rattle.road_graph.proofs.Words.{length, ap, ◌∙◌, arith, length-map, arc_of, road_of}
 use Rattle.road_graph.proofs.Entries.{road_read}
 use Rattle.road_graph.proofs.lookup.road_in.Goals as goal
 

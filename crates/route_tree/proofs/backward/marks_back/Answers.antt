@@ -1,8 +1,4 @@
-use Rattle.std.proofs.Common.{◌≡◌, ℕ, ◌+◌, List, [], length, true, false, eqb-true, eq-eqb, arith, sym, subst, ◌∙◌, refl}
-use Rattle.std.proofs.lemmas.List.{nil_from_length}
-use Rattle.std.proofs.lemmas.List.Elements.{Contains-push}
-use Rattle.path_algebra.specs.Walks.{is_tight}
-use Rattle.route_tree.specs.Regions.{VisitingBack}
+use Rattle.route_tree.proofs.Words.{◌≡◌, ℕ, ◌+◌, List, [], length, true, false, eqb-true, eq-eqb, arith, sym, subst, ◌∙◌, refl, nil_from_length, Contains-push, is_tight, VisitingBack}
 use Rattle.route_tree.proofs.VisitingBack.{back_start, covers_near, covers_all}
 use Rattle.route_tree.proofs.Blank.{found_more}
 use Rattle.route_tree.proofs.UpTo.{back_leads}

@@ -1,6 +1,4 @@
-use Rattle.std.proofs.Common.{◌≡◌, ℕ, ◌+◌, [], length}
-use Rattle.path_algebra.specs.Walks.{is_tight}
-use Rattle.route_tree.specs.Regions.{VisitingBack, unmarked}
+use Rattle.route_tree.proofs.Words.{◌≡◌, ℕ, ◌+◌, [], length, is_tight, VisitingBack, unmarked}
 use Rattle.route_tree.proofs.backward.marks_back.Given as goal
 
 abbrev pub invariant-loop-search : goal.invariant-loop-search

@@ -1,5 +1,4 @@
-use Rattle.std.proofs.Common.{◌≡◌, length, drop}
-use Rattle.route_tree.specs.Blank.{IsBlankBut}
+use Rattle.route_tree.proofs.Words.{◌≡◌, length, drop, IsBlankBut}
 use Rattle.route_tree.proofs.lists.blank_at.Given as goal
 
 abbrev pub invariant-loop-v : goal.invariant-loop-v

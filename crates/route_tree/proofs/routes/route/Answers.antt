@@ -1,5 +1,4 @@
-use Rattle.std.proofs.Common.{sym, ◌∙◌, arith}
-use Rattle.std.proofs.lemmas.Grind.{common_steps}
+use Rattle.route_tree.proofs.Words.{sym, ◌∙◌, arith, common_steps}
 use Rattle.route_tree.proofs.Chains.{climb}
 use Rattle.route_tree.proofs.routes.route.Goals as goal
 

@@ -1,6 +1,4 @@
-use Rattle.std.proofs.Common.{◌≡◌, ℕ, List, [], length, eq-eqb, true, false, arith, sym, subst, ◌∙◌, Option}
-use Rattle.route_tree.specs.Levels.{Visiting}
-use Rattle.route_tree.specs.Regions.{is_tight_into}
+use Rattle.route_tree.proofs.Words.{◌≡◌, ℕ, List, [], length, eq-eqb, true, false, arith, sym, subst, ◌∙◌, Option, Visiting, is_tight_into}
 use Rattle.route_tree.proofs.LevelsAreLeast.{search_ends}
 use Rattle.route_tree.proofs.Trees.{linked}
 use Rattle.route_tree.proofs.Marking.{marked_visits}

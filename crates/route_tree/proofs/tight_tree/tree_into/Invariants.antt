@@ -1,6 +1,4 @@
-use Rattle.std.proofs.Common.{◌≡◌, ◌+◌, [], length}
-use Rattle.route_tree.specs.Levels.{Visiting, unreached}
-use Rattle.route_tree.specs.Regions.{is_tight_into}
+use Rattle.route_tree.proofs.Words.{◌≡◌, ◌+◌, [], length, Visiting, unreached, is_tight_into}
 use Rattle.route_tree.proofs.tight_tree.tree_into.Given as goal
 
 abbrev pub invariant-loop-alloc : goal.invariant-loop-alloc

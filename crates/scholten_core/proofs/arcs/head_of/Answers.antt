@@ -1,5 +1,4 @@
-use Rattle.std.proofs.Common.{◌≤◌, ap, sym, ◌∙◌, arith}
-use Rattle.scholten_core.specs.Network.{head_of}
+use Rattle.scholten_core.proofs.Words.{◌≤◌, ap, sym, ◌∙◌, arith, head_of}
 use Rattle.scholten_core.proofs.GraphReads.{is_entry, not_entry}
 use Rattle.scholten_core.proofs.Networks.{head-arc, head-entry}
 use Rattle.scholten_core.proofs.arcs.head_of.Goals as goal

@@ -1,7 +1,6 @@
-use Rattle.std.proofs.Common.{◌≤◌, ap, sym, ◌∙◌, arith}
+use Rattle.scholten_core.proofs.Words.{◌≤◌, ap, sym, ◌∙◌, arith, tail-arc, tail-entry}
 use Rattle.scholten_core.specs.Network.{tail_of}
 use Rattle.scholten_core.proofs.GraphReads.{is_entry, not_entry}
-use Rattle.scholten_core.proofs.Networks.{tail-arc, tail-entry}
 use Rattle.scholten_core.proofs.arcs.tail_of.Goals as goal
 
 pub returns-then-eq-clause-tail : goal.returns-then-eq-clause-tail

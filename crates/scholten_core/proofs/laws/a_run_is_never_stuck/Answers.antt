@@ -1,6 +1,5 @@
-use Rattle.scholten_core.proofs.Networks.{well_formed}
+use Rattle.scholten_core.proofs.Words.{well_formed, network}
 use Rattle.scholten_core.proofs.Busy.{goes_on}
-use Rattle.scholten_core.specs.Network.{network}
 use Rattle.scholten_core.proofs.laws.a_run_is_never_stuck.Goals as goal
 
 pub returns : goal.returns

@@ -1,5 +1,4 @@
-use Rattle.std.proofs.Common.{inl, inr, subst, sym, ◌≤◌}
-use Rattle.shard_store.specs.Setup.{network_of, place_in}
+use Rattle.shard_part.proofs.Words.{inl, inr, subst, sym, ◌≤◌, network_of, place_in}
 use Rattle.shard_part.proofs.UnderWay.{ended_or_waits, one_waits}
 use Rattle.shard_part.proofs.laws.an_item_waits_until_the_end.Goals as goal
 

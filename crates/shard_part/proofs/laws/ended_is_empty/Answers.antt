@@ -1,5 +1,4 @@
-use Rattle.std.proofs.Common.{◌∙◌, sym}
-use Rattle.shard_store.specs.Setup.{network_of, place_in}
+use Rattle.shard_part.proofs.Words.{◌∙◌, sym, network_of, place_in}
 use Rattle.shard_part.proofs.UnderWay.{ended_empty}
 use Rattle.shard_part.proofs.laws.ended_is_empty.Goals as goal
 

@@ -1,6 +1,4 @@
-use Rattle.std.proofs.Common.{[]}
-use Rattle.scholten_core.specs.Network.{network}
-use Rattle.scholten_core.specs.Diffusion.{state_after}
+use Rattle.shard_part.proofs.Words.{[], network, state_after}
 use Rattle.shard_part.proofs.WalkEnds.{extends, walk_ends_marked}
 use Rattle.shard_part.proofs.laws.walk_ends_can_be_marked.Goals as goal
 

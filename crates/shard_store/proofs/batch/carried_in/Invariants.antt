@@ -1,5 +1,4 @@
-use Rattle.std.proofs.Common.{◌≡◌, drop}
-use Rattle.shard_store.specs.Totals.{counted}
+use Rattle.shard_store.proofs.Words.{◌≡◌, drop, counted}
 use Rattle.shard_store.proofs.batch.carried_in.Given as goal
 
 abbrev pub invariant-loop-i : goal.invariant-loop-i

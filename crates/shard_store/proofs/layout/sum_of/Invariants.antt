@@ -1,5 +1,4 @@
-use Rattle.std.proofs.Common.{◌≡◌, take}
-use Rattle.shard_store.specs.Totals.{total}
+use Rattle.shard_store.proofs.Words.{◌≡◌, take, total}
 use Rattle.shard_store.proofs.layout.sum_of.Given as goal
 
 abbrev pub invariant-loop-number : goal.invariant-loop-number

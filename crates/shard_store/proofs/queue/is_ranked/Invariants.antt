@@ -1,6 +1,4 @@
-use Rattle.std.proofs.Common.{◌≡◌, drop, map}
-use Rattle.shard_store.specs.Totals.{counted}
-use Rattle.shard_store.specs.Queue.{ranked_item}
+use Rattle.shard_store.proofs.Words.{◌≡◌, drop, map, counted, ranked_item}
 use Rattle.shard_store.proofs.queue.is_ranked.Given as goal
 
 abbrev pub invariant-loop-i : goal.invariant-loop-i

@@ -1,6 +1,4 @@
-use Rattle.std.proofs.Common.{◌<◌, get_or, sym, subst, arith}
-use Rattle.std.proofs.lemmas.Grind.{common_steps}
-use Rattle.shard_store.specs.Plans.{PlanData}
+use Rattle.station.proofs.Words.{◌<◌, get_or, sym, subst, arith, common_steps, PlanData}
 use Rattle.station.proofs.gathering.collect.Goals as goal
 
 pub returns-in_default-clause-refused : goal.returns-in_default-clause-refused

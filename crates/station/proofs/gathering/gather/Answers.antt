@@ -1,6 +1,4 @@
-use Rattle.std.proofs.Common.{ℕ, ◌<◌, ◌∷◌, [], sym, subst}
-use Rattle.path_algebra.specs.Walks.{AreBest}
-use Rattle.station.specs.Gather.{IsThere}
+use Rattle.station.proofs.Words.{ℕ, ◌<◌, ◌∷◌, [], sym, subst, AreBest, IsThere}
 use Rattle.station.proofs.Closed.{all_counted, all_seated, gathered}
 use Rattle.station.proofs.gathering.gather.Goals as goal
 

@@ -1,8 +1,5 @@
-use Rattle.std.proofs.Common.{Some, true, ◌∷◌, ◌++◌, [], refl, sym, ap, subst, ◌∙◌, arith}
-use Rattle.shard_store.specs.Tallies.{together}
-use Rattle.station.specs.Station.{BelongsTo, StationData}
+use Rattle.station.proofs.Words.{Some, true, ◌∷◌, ◌++◌, [], refl, sym, ap, subst, ◌∙◌, arith, together, BelongsTo, StationData, AreHanded}
 use Rattle.std.proofs.lemmas.List.Elements.{All-pop}
-use Rattle.station.specs.Handing.{AreHanded}
 use Rattle.station.proofs.Tallying.{handed_none, handed_more}
 use Rattle.station.proofs.gathering.hand_over.Goals as goal
 

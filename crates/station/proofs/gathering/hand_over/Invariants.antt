@@ -1,7 +1,6 @@
 use Rattle.std.proofs.Common.{◌≤◌, ◌+◌, vec_len, vec_capacity}
 use Rattle.std.specs.List.{All}
-use Rattle.station.specs.Handing.{AreHanded}
-use Rattle.station.specs.Station.{BelongsTo}
+use Rattle.station.proofs.Words.{AreHanded, BelongsTo}
 use Rattle.station.proofs.gathering.hand_over.Given as goal
 
 abbrev pub invariant-loop-station : goal.invariant-loop-station

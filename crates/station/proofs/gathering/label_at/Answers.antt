@@ -1,8 +1,4 @@
-use Rattle.std.proofs.Common.{◌<◌, ◌∷◌, [], length, get_or, sym, ap, subst, ◌∙◌}
-use Rattle.path_algebra.specs.Walks.{IsBestLabel}
-use Rattle.shard_store.specs.Setup.{SetupData}
-use Rattle.shard_store.specs.Plans.{HasPlanned, PlanData, shard_in}
-use Rattle.station.specs.Gather.{IsAtPlace}
+use Rattle.station.proofs.Words.{◌<◌, ◌∷◌, [], length, get_or, sym, ap, subst, ◌∙◌, IsBestLabel, SetupData, HasPlanned, PlanData, shard_in, IsAtPlace}
 use Rattle.station.proofs.Places.{at_place}
 use Rattle.station.proofs.gathering.label_at.Goals as goal
 

@@ -1,5 +1,4 @@
-use Rattle.std.proofs.Common.{◌≡◌, ◌∷◌, [], ◌∙◌, arith}
-use Rattle.path_algebra.specs.Walks.{IsBestLabel}
+use Rattle.station.proofs.Words.{◌≡◌, ◌∷◌, [], ◌∙◌, arith, IsBestLabel}
 use Rattle.station.proofs.Places.{labels_more, label_before}
 use Rattle.station.proofs.gathering.label_list.Goals as goal
 

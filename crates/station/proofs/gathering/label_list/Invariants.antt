@@ -1,5 +1,4 @@
-use Rattle.std.proofs.Common.{◌≡◌, ◌<◌, ◌+◌, ℕ, [], ◌∷◌, length, None, get_or}
-use Rattle.path_algebra.specs.Walks.{IsBestLabel}
+use Rattle.station.proofs.Words.{◌≡◌, ◌<◌, ◌+◌, ℕ, [], ◌∷◌, length, None, get_or, IsBestLabel}
 use Rattle.station.proofs.gathering.label_list.Given as goal
 
 abbrev pub invariant-loop-v : goal.invariant-loop-v

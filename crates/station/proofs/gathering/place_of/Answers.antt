@@ -1,5 +1,4 @@
-use Rattle.std.proofs.Common.{◌≡◌, ◌≢◌, sym, ◌∙◌, arith}
-use Rattle.std.proofs.lemmas.Bool.{false≢true}
+use Rattle.station.proofs.Words.{◌≡◌, ◌≢◌, sym, ◌∙◌, arith, false≢true}
 use Rattle.std.proofs.lemmas.List.Elements.{AllWithin-more, at_read}
 use Rattle.station.proofs.gathering.place_of.Goals as goal
 

@@ -1,5 +1,4 @@
-use Rattle.std.proofs.Common.{◌≡◌, length}
-use Rattle.station.specs.Gather.{ArePlaces}
+use Rattle.station.proofs.Words.{◌≡◌, length, ArePlaces}
 use Rattle.station.proofs.gathering.places_of.Given as goal
 
 abbrev pub invariant-loop-s : goal.invariant-loop-s

@@ -1,7 +1,4 @@
-use Rattle.std.proofs.Common.{◌≡◌, ◌∙◌, true, false, sym}
-use Rattle.std.proofs.lemmas.Bool.{false≢true}
-use Rattle.shard_store.specs.Setup.{place_in}
-use Rattle.shard_store.proofs.Graphs.{place_below}
+use Rattle.station.proofs.Words.{◌≡◌, ◌∙◌, true, false, sym, false≢true, place_in, place_below}
 use Rattle.station.proofs.QuietRound.{still_after, still_before, turn_of_shard, turn_reports}
 use Rattle.station.proofs.laws.quiet_rounds_are_still.Goals as goal
 

@@ -1,7 +1,5 @@
-use Rattle.std.proofs.Common.{◌*◌, ◌≤◌, sym, subst, arith}
-use Rattle.scholten_core.specs.Diffusion.{opening, count_enabled}
+use Rattle.station.proofs.Words.{◌*◌, ◌≤◌, sym, subst, arith, opening, count_enabled, network_of}
 use Rattle.scholten_core.specs.SimpleWalks.{message_bound}
-use Rattle.shard_store.specs.Setup.{network_of}
 use Rattle.station.proofs.OneShard.{few_best_first, opened_has_all, went_on}
 use Rattle.station.proofs.one_shard.one_shard_goes_on.Goals as goal
 

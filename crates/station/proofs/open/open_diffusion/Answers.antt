@@ -1,8 +1,4 @@
-use Rattle.std.proofs.Common.{◌≡◌, subst, sym, refl, ap, ◌∙◌}
-use Rattle.shard_part.specs.Weights.{All}
-use Rattle.post_floor.specs.Plays.{HoldsReachedShare}
-use Rattle.station.specs.Opened.{IsFreshPart}
-use Rattle.shard_store.specs.Setup.{setup_of}
+use Rattle.station.proofs.Words.{◌≡◌, subst, sym, refl, ap, ◌∙◌, All, HoldsReachedShare, IsFreshPart, setup_of}
 use Rattle.station.proofs.Opening.{all_fresh, floor_setup, are_opened}
 use Rattle.station.proofs.open.open_diffusion.Goals as goal
 

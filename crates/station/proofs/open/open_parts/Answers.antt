@@ -1,9 +1,4 @@
-use Rattle.std.proofs.Common.{◌≡◌, ◌∷◌, [], subst, sym, ap, ◌∙◌, arith}
-use Rattle.shard_part.specs.Weights.{All}
-use Rattle.shard_part.specs.Opening.{opened_parts}
-use Rattle.shard_part.proofs.Showing.{all_append}
-use Rattle.post_floor.specs.Plays.{HoldsReachedShare}
-use Rattle.shard_store.specs.Setup.{setup_of}
+use Rattle.station.proofs.Words.{◌≡◌, ◌∷◌, [], subst, sym, ap, ◌∙◌, arith, All, opened_parts, all_append, HoldsReachedShare, setup_of}
 use Rattle.station.proofs.Opening.{opened_next, known_opened}
 use Rattle.station.proofs.open.open_parts.Goals as goal
 

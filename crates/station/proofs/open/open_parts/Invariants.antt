@@ -1,8 +1,4 @@
-use Rattle.std.proofs.Common.{◌≡◌}
-use Rattle.shard_part.specs.Weights.{All}
-use Rattle.shard_part.specs.Opening.{opened_parts}
-use Rattle.post_floor.specs.Plays.{HoldsReachedShare}
-use Rattle.shard_store.specs.Setup.{setup_of}
+use Rattle.station.proofs.Words.{◌≡◌, All, opened_parts, HoldsReachedShare, setup_of}
 use Rattle.station.proofs.open.open_parts.Given as goal
 
 abbrev pub invariant-loop-shard : goal.invariant-loop-shard

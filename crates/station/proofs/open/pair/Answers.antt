@@ -1,8 +1,6 @@
 use Rattle.std.proofs.Common.{◌++◌, ◌∷◌, [], reverse, sym, rules, ap, ◌∙◌, arith}
-use Rattle.std.proofs.lemmas.Grind.{common_steps}
+use Rattle.station.proofs.Words.{common_steps, seat_of, IsFreshPart, station_of}
 use Rattle.std.proofs.lemmas.List.{append-nil, append_assoc, reverse-append}
-use Rattle.post_floor.specs.Data.{seat_of}
-use Rattle.station.specs.Opened.{IsFreshPart, station_of}
 use Rattle.post_floor.proofs.Seats.{all_front, last_seat}
 use Rattle.station.proofs.Opening.{some_seat}
 use Rattle.station.proofs.open.pair.Goals as goal

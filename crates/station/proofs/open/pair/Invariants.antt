@@ -1,8 +1,4 @@
-use Rattle.std.proofs.Common.{◌≡◌, List, ◌++◌, map, reverse, vec_len}
-use Rattle.shard_part.specs.Weights.{All}
-use Rattle.shard_part.specs.PartState.{PartData}
-use Rattle.post_floor.specs.Data.{seat_of}
-use Rattle.station.specs.Opened.{IsFreshPart, station_of}
+use Rattle.station.proofs.Words.{◌≡◌, List, ◌++◌, map, reverse, vec_len, All, PartData, seat_of, IsFreshPart, station_of}
 use Rattle.station.proofs.open.pair.Given as goal
 
 abbrev pub invariant-loop-part : goal.invariant-loop-part

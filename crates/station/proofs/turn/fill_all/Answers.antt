@@ -1,5 +1,4 @@
-use Rattle.std.proofs.Common.{refl, sym, subst, ◌∙◌, ◌+◌, arith}
-use Rattle.station.specs.Steps.{AllTriedTo}
+use Rattle.station.proofs.Words.{refl, sym, subst, ◌∙◌, ◌+◌, arith, AllTriedTo}
 use Rattle.station.proofs.Batches.{off_like}
 use Rattle.station.proofs.Counted.{one_at_most}
 use Rattle.station.proofs.Through.{begin_to, to_more}

@@ -1,5 +1,4 @@
-use Rattle.std.proofs.Common.{◌≡◌, ◌≤◌}
-use Rattle.station.specs.Steps.{AreBehind, AllTriedTo}
+use Rattle.station.proofs.Words.{◌≡◌, ◌≤◌, AreBehind, AllTriedTo}
 use Rattle.station.proofs.turn.fill_all.Given as goal
 
 abbrev pub invariant-loop-to : goal.invariant-loop-to

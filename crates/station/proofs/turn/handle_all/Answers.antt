@@ -1,7 +1,4 @@
-use Rattle.std.proofs.Common.{◌≡◌, ◌⊎◌, ◌∙◌, ℕ, Bool, true, false, cond, Option, Some, None, inl, inr, sym, ap, subst}
-use Rattle.path_algebra.specs.Algebra.{Algebra}
-use Rattle.shard_part.specs.PartState.{PartData}
-use Rattle.shard_part.specs.Part.{IsHeldBack, RunsAhead}
+use Rattle.station.proofs.Words.{◌≡◌, ◌⊎◌, ◌∙◌, ℕ, Bool, true, false, cond, Option, Some, None, inl, inr, sym, ap, subst, Algebra, PartData, IsHeldBack, RunsAhead}
 use Rattle.station.proofs.Behind.{behind, settle}
 use Rattle.station.proofs.turn.handle_all.Goals.{in-Some, in-None}
 use Rattle.station.proofs.turn.handle_all.Goals as goal

@@ -1,5 +1,4 @@
-use Rattle.std.proofs.Common.{[], refl, sym, subst, ◌∙◌, ◌+◌, arith}
-use Rattle.station.specs.Steps.{AllCameIn, AllTriedFrom}
+use Rattle.station.proofs.Words.{[], refl, sym, subst, ◌∙◌, ◌+◌, arith, AllCameIn, AllTriedFrom}
 use Rattle.station.proofs.Batches.{came_in}
 use Rattle.station.proofs.Counted.{one_at_most}
 use Rattle.station.proofs.Through.{begin_from, from_more}

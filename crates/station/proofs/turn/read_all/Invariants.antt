@@ -1,5 +1,4 @@
-use Rattle.std.proofs.Common.{◌≡◌, ◌≤◌}
-use Rattle.station.specs.Steps.{AreReady, AllCameIn, AllTriedFrom}
+use Rattle.station.proofs.Words.{◌≡◌, ◌≤◌, AreReady, AllCameIn, AllTriedFrom}
 use Rattle.station.proofs.turn.read_all.Given as goal
 
 abbrev pub invariant-loop-from : goal.invariant-loop-from

@@ -1,6 +1,4 @@
-use Rattle.std.proofs.Common.{arith}
-use Rattle.std.proofs.lemmas.Grind.{common_steps}
-use Rattle.post_floor.specs.Data.{read_box}
+use Rattle.station.proofs.Words.{arith, common_steps, read_box}
 use Rattle.station.proofs.Stepping.{is_at, read_begun}
 use Rattle.station.proofs.turn.read_from.Goals as goal
 

@@ -1,5 +1,4 @@
-use Rattle.std.proofs.Common.{length, ◌-◌, ◌≡◌, ◌≤◌, take}
-use Rattle.std.specs.Io.KnownBytes.{Appends}
+use Rattle.text_lines.proofs.Words.{length, ◌-◌, ◌≡◌, ◌≤◌, take, Appends}
 use Rattle.text_lines.proofs.buffered.write_out.Given as goal
 
 abbrev pub invariant-loop-written : goal.invariant-loop-written

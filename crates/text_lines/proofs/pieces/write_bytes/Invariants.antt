@@ -1,5 +1,4 @@
-use Rattle.std.proofs.Common.{length}
-use Rattle.text_lines.specs.Written.{WrotePrefix}
+use Rattle.text_lines.proofs.Words.{length, WrotePrefix}
 use Rattle.text_lines.proofs.pieces.write_bytes.Given as goal
 
 abbrev pub invariant-loop-rest : goal.invariant-loop-rest

@@ -1,10 +1,6 @@
-use Rattle.std.proofs.Common.{refl}
-use Rattle.std.proofs.lemmas.Grind.{common_steps}
-use Rattle.std.proofs.Common.{[], ℕ, take, arith, ◌∙◌, subst}
-use Rattle.std.proofs.lemmas.List.{length-take-le}
+use Rattle.text_lines.proofs.Words.{refl, common_steps, [], ℕ, take, arith, ◌∙◌, subst, length-take-le, Consumes, IsAtEnd}
 use Rattle.text_lines.proofs.ReadingLaws.{has_read_start, has_read_more, has_read_value, has_read_some, stops_at_end, stops_in, some_stops_at_end, some_stops_in, fails_after, stops_after_in, stops_after_end}
 use Rattle.std.proofs.lemmas.Result.{IfOk-weaker, IfErr-weaker, err_from_is_err_and}
-use Rattle.std.specs.Io.KnownBytes.{Consumes, IsAtEnd}
 use Rattle.text_lines.proofs.reading.read_text.Goals as goal
 
 pub loop-init : goal.loop-init

@@ -1,5 +1,4 @@
-use Rattle.std.proofs.Common.{◌≡◌, ◌≤◌, ◌+◌, false}
-use Rattle.text_lines.specs.Reading.{HasRead}
+use Rattle.text_lines.proofs.Words.{◌≡◌, ◌≤◌, ◌+◌, false, HasRead}
 use Rattle.text_lines.proofs.reading.read_text.Given as goal
 
 -- the reader has taken what was read, no read failed, and each read gave a byte

@@ -1,7 +1,4 @@
-use Rattle.std.proofs.Common.{◌≡◌, ap, sym, ◌∙◌, get_or, true, arith, Some}
-use Rattle.std.specs.Char.{is_ascii_digit}
-use Rattle.std.proofs.lemmas.List.Elements.{All-more}
-use Rattle.text_lines.specs.Scans.{is_plain, number_on}
+use Rattle.text_lines.proofs.Words.{◌≡◌, ap, sym, ◌∙◌, get_or, true, arith, Some, is_ascii_digit, All-more, is_plain, number_on}
 use Rattle.text_lines.proofs.ScanLaws.{number_with-take_more}
 use Rattle.text_lines.proofs.Splits.{plain_digit}
 use Rattle.text_lines.proofs.runs.digits.Goals as goal

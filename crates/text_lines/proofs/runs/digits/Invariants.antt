@@ -1,6 +1,4 @@
-use Rattle.std.proofs.Common.{◌≡◌, ◌≤◌, ◌-◌, length, take, true, All, Some}
-use Rattle.std.specs.Char.{is_ascii_digit}
-use Rattle.text_lines.specs.Scans.{is_plain, number_with}
+use Rattle.text_lines.proofs.Words.{◌≡◌, ◌≤◌, ◌-◌, length, take, true, All, Some, is_ascii_digit, is_plain, number_with}
 use Rattle.text_lines.proofs.runs.digits.Given as goal
 
 -- the bytes so far are digits, and are taken into the number

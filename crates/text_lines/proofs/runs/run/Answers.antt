@@ -1,6 +1,4 @@
-use Rattle.std.proofs.Common.{◌≡◌, ap, sym, ◌∙◌, get_or, true, arith}
-use Rattle.std.proofs.lemmas.List.Elements.{All-more}
-use Rattle.text_lines.specs.Scans.{is_plain, number_on}
+use Rattle.text_lines.proofs.Words.{◌≡◌, ap, sym, ◌∙◌, get_or, true, arith, All-more, is_plain, number_on}
 use Rattle.text_lines.proofs.ScanLaws.{number_with-take_more}
 use Rattle.text_lines.proofs.runs.run.Goals as goal
 

@@ -1,5 +1,4 @@
-use Rattle.std.proofs.Common.{◌≡◌, ◌≤◌, ◌-◌, length, take, true, All}
-use Rattle.text_lines.specs.Scans.{is_plain, number_with}
+use Rattle.text_lines.proofs.Words.{◌≡◌, ◌≤◌, ◌-◌, length, take, true, All, is_plain, number_with}
 use Rattle.text_lines.proofs.runs.run.Given as goal
 
 -- the bytes so far go on with a field, and are taken into the number

@@ -1,6 +1,4 @@
-use Rattle.std.proofs.Common.{◌≡◌, arith, ◌∙◌}
-use Rattle.std.specs.List.{prefix_len}
-use Rattle.std.specs.Char.{is_ascii_digit}
+use Rattle.text_lines.proofs.Words.{◌≡◌, arith, ◌∙◌, prefix_len, is_ascii_digit}
 use Rattle.text_lines.proofs.LeadingNumbers.{leading_digits, leading_number}
 use Rattle.text_lines.proofs.short_lines.leading_number.Goals as goal
 

@@ -1,5 +1,4 @@
-use Rattle.std.proofs.Common.{◌≡◌, ◌∙◌, sym, true, false}
-use Rattle.tree_search.specs.Searching.{is_end}
+use Rattle.tree_search.proofs.Words.{◌≡◌, ◌∙◌, sym, true, false, is_end}
 use Rattle.tree_search.proofs.Waiting.{stays_listed, all_listed}
 use Rattle.tree_search.proofs.searcher.list_waiting.Goals as goal
 

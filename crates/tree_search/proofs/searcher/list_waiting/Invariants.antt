@@ -1,5 +1,4 @@
-use Rattle.std.proofs.Common.{◌≡◌}
-use Rattle.tree_search.specs.Searching.{AreSettledOn}
+use Rattle.tree_search.proofs.Words.{◌≡◌, AreSettledOn}
 use Rattle.tree_search.proofs.searcher.list_waiting.Given as goal
 
 abbrev pub invariant-loop-step : goal.invariant-loop-step

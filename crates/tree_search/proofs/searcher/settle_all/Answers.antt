@@ -1,5 +1,4 @@
-use Rattle.std.proofs.Common.{◌≡◌, ◌∙◌, sym, true, false}
-use Rattle.tree_search.specs.Searching.{is_end}
+use Rattle.tree_search.proofs.Words.{◌≡◌, ◌∙◌, sym, true, false, is_end}
 use Rattle.tree_search.proofs.Steps.{by_equal, next_round, comes_nearer}
 use Rattle.tree_search.proofs.Listing.{AreListed, started, listed_next, all_found}
 use Rattle.tree_search.proofs.searcher.settle_all.Goals as goal

@@ -1,5 +1,4 @@
-use Rattle.std.proofs.Common.{◌≡◌, ◌∙◌, sym, None, Some, false}
-use Rattle.tree_search.specs.Searching.{is_end}
+use Rattle.tree_search.proofs.Words.{◌≡◌, ◌∙◌, sym, None, Some, false, is_end}
 use Rattle.tree_search.proofs.Listing.{started}
 use Rattle.tree_search.proofs.Steps.{by_equal, next_round, last_round, comes_nearer}
 use Rattle.tree_search.proofs.solve.solve_with_tree_unless.Goals as goal

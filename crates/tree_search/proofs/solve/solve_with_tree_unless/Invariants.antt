@@ -1,6 +1,4 @@
-use Rattle.std.proofs.Common.{◌≡◌, ◌+◌, ◌*◌, length}
-use Rattle.path_plain.specs.Halting.{CanHalt}
-use Rattle.tree_search.specs.Marks.{unsettled}
+use Rattle.tree_search.proofs.Words.{◌≡◌, ◌+◌, ◌*◌, length, CanHalt, unsettled}
 use Rattle.tree_search.proofs.Rounds.{Between}
 use Rattle.tree_search.proofs.solve.solve_with_tree_unless.Given as goal
 

@@ -1,6 +1,4 @@
-use Rattle.std.proofs.Common.{rules, ◌≡◌, ◌<◌, ◌∙◌, sym, append-nil, vec_len, length}
-use Rattle.std.specs.Vec.Iter.{into_iter_items}
-use Rattle.worker_fleet.specs.Dealt.{following}
+use Rattle.worker_fleet.proofs.Words.{rules, ◌≡◌, ◌<◌, ◌∙◌, sym, append-nil, vec_len, length, into_iter_items, following}
 use Rattle.worker_fleet.proofs.PushedAt.{deal_step, dealt_none}
 use Rattle.worker_fleet.proofs.dealing.deal.Goals as goal
 

@@ -1,6 +1,4 @@
-use Rattle.std.proofs.Common.{◌≡◌, ℕ, ◌<◌, ◌++◌, get_or, vec_len}
-use Rattle.std.specs.Vec.Iter.{into_iter_items}
-use Rattle.worker_fleet.specs.Dealt.{dealt}
+use Rattle.worker_fleet.proofs.Words.{◌≡◌, ℕ, ◌<◌, ◌++◌, get_or, vec_len, into_iter_items, dealt}
 use Rattle.worker_fleet.proofs.dealing.deal.Given as goal
 
 abbrev pub invariant-loop-thing : goal.invariant-loop-thing

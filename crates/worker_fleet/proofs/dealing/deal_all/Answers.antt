@@ -1,5 +1,4 @@
-use Rattle.std.proofs.Common.{rules, ◌≡◌, ◌∙◌, [], refl, sym, append-nil, get_or}
-use Rattle.std.specs.Vec.Iter.{into_iter_items}
+use Rattle.worker_fleet.proofs.Words.{rules, ◌≡◌, ◌∙◌, [], refl, sym, append-nil, get_or, into_iter_items}
 use Rattle.worker_fleet.proofs.PushedAt.{deal_more, share_none}
 use Rattle.worker_fleet.proofs.dealing.deal_all.Goals as goal
 

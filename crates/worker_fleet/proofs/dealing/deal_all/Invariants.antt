@@ -1,6 +1,4 @@
-use Rattle.std.proofs.Common.{◌≡◌, ℕ, ◌<◌, ◌+◌, ◌++◌, get_or, vec_len}
-use Rattle.std.specs.Vec.Iter.{into_iter_items, into_iter_len}
-use Rattle.worker_fleet.specs.Dealt.{share_of}
+use Rattle.worker_fleet.proofs.Words.{◌≡◌, ℕ, ◌<◌, ◌+◌, ◌++◌, get_or, vec_len, into_iter_items, into_iter_len, share_of}
 use Rattle.worker_fleet.proofs.dealing.deal_all.Given as goal
 
 abbrev pub invariant-loop-things : goal.invariant-loop-things

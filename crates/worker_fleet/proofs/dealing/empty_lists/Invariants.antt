@@ -1,5 +1,4 @@
-use Rattle.std.proofs.Common.{◌≡◌, vec_len, []}
-use Rattle.std.specs.List.{All}
+use Rattle.worker_fleet.proofs.Words.{◌≡◌, vec_len, [], All}
 use Rattle.worker_fleet.proofs.dealing.empty_lists.Given as goal
 
 abbrev pub invariant-loop : goal.invariant-loop

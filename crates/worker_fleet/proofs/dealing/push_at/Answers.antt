@@ -1,5 +1,4 @@
-use Rattle.std.proofs.Common.{rules, ◌∙◌, refl, ap, ◌++◌, ◌∷◌, []}
-use Rattle.std.proofs.lemmas.List.{get_or_default}
+use Rattle.worker_fleet.proofs.Words.{rules, ◌∙◌, refl, ap, ◌++◌, ◌∷◌, [], get_or_default}
 use Rattle.worker_fleet.proofs.dealing.push_at.Goals as goal
 
 pub returns-clause-put : goal.returns-clause-put

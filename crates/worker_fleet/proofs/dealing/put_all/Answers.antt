@@ -1,5 +1,4 @@
-use Rattle.std.proofs.Common.{rules, ◌<◌, ◌∙◌, ◌+◌, sym, append-nil, length}
-use Rattle.std.specs.Vec.Iter.{into_iter_items}
+use Rattle.worker_fleet.proofs.Words.{rules, ◌<◌, ◌∙◌, ◌+◌, sym, append-nil, length, into_iter_items}
 use Rattle.worker_fleet.proofs.PushedAt.{put_step, put_none}
 use Rattle.worker_fleet.proofs.dealing.put_all.Goals as goal
 

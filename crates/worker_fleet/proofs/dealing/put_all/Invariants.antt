@@ -1,7 +1,4 @@
-use Rattle.std.proofs.Common.{◌≡◌, ℕ, ◌<◌, ◌++◌, get_or, vec_len}
-use Rattle.std.specs.List.{All}
-use Rattle.std.specs.Vec.Iter.{into_iter_items}
-use Rattle.worker_fleet.specs.Dealt.{of_group}
+use Rattle.worker_fleet.proofs.Words.{◌≡◌, ℕ, ◌<◌, ◌++◌, get_or, vec_len, All, into_iter_items, of_group}
 use Rattle.worker_fleet.proofs.dealing.put_all.Given as goal
 
 abbrev pub invariant-loop-group : goal.invariant-loop-group

@@ -1,6 +1,5 @@
-use Rattle.std.proofs.Common.{arith, sym, ◌∙◌}
+use Rattle.worker_fleet.proofs.Words.{arith, sym, ◌∙◌, StationHasEnded, StationIsOpen}
 use Rattle.std.proofs.lemmas.List.Elements.{AllWithin-more, at_read}
-use Rattle.worker_fleet.specs.Turns.{StationHasEnded, StationIsOpen}
 use Rattle.worker_fleet.proofs.driving.first_open.Goals as goal
 
 pub loop-k-preserved : goal.loop-k-preserved

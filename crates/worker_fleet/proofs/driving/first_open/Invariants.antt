@@ -1,5 +1,4 @@
-use Rattle.std.specs.List.{AllWithin}
-use Rattle.worker_fleet.specs.Turns.{StationHasEnded}
+use Rattle.worker_fleet.proofs.Words.{AllWithin, StationHasEnded}
 use Rattle.worker_fleet.proofs.driving.first_open.Given as goal
 
 abbrev pub invariant-loop-k : goal.invariant-loop-k

@@ -1,7 +1,4 @@
-use Rattle.std.proofs.Common.{◌≤◌, length}
-use Rattle.std.specs.List.{All}
-use Rattle.worker_fleet.specs.Drives.{LetsTurn}
-use Rattle.worker_fleet.specs.Turns.{NextOn, IsOnItsFloor}
+use Rattle.worker_fleet.proofs.Words.{◌≤◌, length, All, LetsTurn, NextOn, IsOnItsFloor}
 use Rattle.worker_fleet.proofs.Rounds.{MovedRound}
 use Rattle.worker_fleet.proofs.driving.turn_until.Given as goal
 

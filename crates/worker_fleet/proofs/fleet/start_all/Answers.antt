@@ -1,5 +1,4 @@
-use Rattle.std.proofs.Common.{rules, arith, ◌≡◌, ◌+◌, length, get_or, vec_len}
-use Rattle.worker_fleet.specs.Assigned.{IsAssigned}
+use Rattle.worker_fleet.proofs.Words.{rules, arith, ◌≡◌, ◌+◌, length, get_or, vec_len, IsAssigned}
 use Rattle.worker_fleet.proofs.Pushed.{AllPairs-push}
 use Rattle.worker_fleet.proofs.fleet.start_all.Goals as goal
 

@@ -1,6 +1,5 @@
 use Rattle.std.proofs.Common.{◌≡◌, ℕ, ◌<◌, ◌≤◌, ◌+◌, get_or, vec_len, vec_capacity}
-use Rattle.std.specs.Vec.Iter.{into_iter_items, into_iter_len}
-use Rattle.worker_fleet.specs.Assigned.{IsAssigned}
+use Rattle.worker_fleet.proofs.Words.{into_iter_items, into_iter_len, IsAssigned}
 use Rattle.worker_fleet.proofs.fleet.start_all.Given as goal
 
 abbrev pub invariant-loop-job : goal.invariant-loop-job

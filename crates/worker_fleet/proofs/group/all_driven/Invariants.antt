@@ -1,5 +1,4 @@
-use Rattle.std.proofs.Common.{◌≡◌, ◌++◌, map, Some}
-use Rattle.std.specs.Vec.Iter.{into_iter_items}
+use Rattle.worker_fleet.proofs.Words.{◌≡◌, ◌++◌, map, Some, into_iter_items}
 use Rattle.worker_fleet.proofs.group.all_driven.Given as goal
 
 -- what was answered is what has been kept, and then what is left

@@ -1,6 +1,4 @@
-use Rattle.std.proofs.Common.{◌≡◌}
-use Rattle.std.specs.List.{AllWithin}
-use Rattle.worker_fleet.specs.declared.driving.Outcome.TheVariants.{Ended}
+use Rattle.worker_fleet.proofs.Words.{◌≡◌, AllWithin, Ended}
 use Rattle.worker_fleet.proofs.group.first_stop.Given as goal
 
 abbrev pub invariant-loop-worker : goal.invariant-loop-worker

@@ -1,7 +1,4 @@
-use Rattle.std.proofs.Common.{rules, ◌≡◌, ◌<◌, ◌∙◌, [], refl, sym, append-nil, get_or}
-use Rattle.std.specs.Vec.Iter.{into_iter_items}
-use Rattle.std.specs.List.{All}
-use Rattle.worker_fleet.specs.declared.driving.Driven.{Driven}
+use Rattle.worker_fleet.proofs.Words.{rules, ◌≡◌, ◌<◌, ◌∙◌, [], refl, sym, append-nil, get_or, into_iter_items, All, Driven}
 use Rattle.worker_fleet.proofs.Carried.{All-first, All-rest}
 use Rattle.worker_fleet.proofs.Gathered.{gathered_more, gathered_none}
 use Rattle.worker_fleet.proofs.group.regroup.Goals as goal

@@ -1,7 +1,4 @@
-use Rattle.std.proofs.Common.{◌≡◌, ℕ, ◌<◌, ◌++◌, get_or, vec_len}
-use Rattle.std.specs.List.{All}
-use Rattle.std.specs.Vec.Iter.{into_iter_items}
-use Rattle.worker_fleet.specs.Groups.{gathered}
+use Rattle.worker_fleet.proofs.Words.{◌≡◌, ℕ, ◌<◌, ◌++◌, get_or, vec_len, All, into_iter_items, gathered}
 use Rattle.worker_fleet.proofs.group.regroup.Given as goal
 
 abbrev pub invariant-loop-driven : goal.invariant-loop-driven

@@ -1,10 +1,6 @@
 use Rattle.std.proofs.Common.{rules, arith, ◌≡◌, ℕ, ◌<◌, get_or, length, inl, inr, Vec, Global}
-use Rattle.std.specs.List.{All}
+use Rattle.worker_fleet.proofs.Words.{All, StationData, Drives, IsOnItsFloor, Driven}
 use Rattle.std.proofs.lemmas.Result.{IfErr-weaker, IfOk-weaker}
-use Rattle.station.specs.Station.{StationData}
-use Rattle.worker_fleet.specs.Drives.{Drives}
-use Rattle.worker_fleet.specs.Turns.{IsOnItsFloor}
-use Rattle.worker_fleet.specs.declared.driving.Driven.{Driven}
 use Rattle.worker_fleet.proofs.Assigned.{IfOk_from}
 use Rattle.worker_fleet.proofs.Grouped.{one_of, all_within, all_done, is_stop, shares_placed, none_lost}
 use Rattle.worker_fleet.proofs.group.run_group.Goals as goal

@@ -1,9 +1,6 @@
-use Rattle.std.proofs.Common.{rules, ◌≡◌, ◌<◌, [], ◌∷◌, ℕ, List, length, get_or, refl, sym, ◌∙◌, subst}
-use Rattle.road_graph.specs.GraphData.{IsGraph}
-use Rattle.path_algebra.specs.Walks.{IsBestLabel}
+use Rattle.answer_lists.proofs.Words.{rules, ◌≡◌, ◌<◌, [], ◌∷◌, ℕ, List, length, get_or, refl, sym, ◌∙◌, subst, IsGraph, IsBestLabel, IsTableCode, AreRowCodes}
 use Rattle.path_algebra.specs.declared.counted_sums.CountedSums.{CountedSums}
 use Rattle.path_factors.specs.State.{FactorState}
-use Rattle.answer_lists.specs.Table.{IsTableCode, AreRowCodes}
 use Rattle.answer_lists.proofs.Tabling.{label_coded, zipped_next}
 use Rattle.answer_lists.proofs.factored_graph.FactoredGraph.ask_row.Goals as goal
 

@@ -1,5 +1,4 @@
-use Rattle.std.proofs.Common.{◌≡◌, [], ◌∷◌, take}
-use Rattle.answer_lists.specs.Table.{AreRowCodes}
+use Rattle.answer_lists.proofs.Words.{◌≡◌, [], ◌∷◌, take, AreRowCodes}
 use Rattle.answer_lists.proofs.factored_graph.FactoredGraph.ask_row.Given as goal
 
 abbrev pub invariant-loop-target : goal.invariant-loop-target

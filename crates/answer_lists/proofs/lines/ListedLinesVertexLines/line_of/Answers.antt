@@ -1,6 +1,4 @@
-use Rattle.std.proofs.Common.{◌∙◌, sym, ap, refl, arith, length}
-use Rattle.path_algebra.specs.Walks.{label_of}
-use Rattle.answer_lists.specs.Tree.{lines_of}
+use Rattle.answer_lists.proofs.Words.{◌∙◌, sym, ap, refl, arith, length, label_of, lines_of}
 use Rattle.answer_lists.proofs.Filling.{label_there}
 use Rattle.answer_lists.proofs.Spelled.{lines_count}
 use Rattle.answer_lists.proofs.lines.ListedLinesVertexLines.line_of.Goals as goal

@@ -1,8 +1,5 @@
-use Rattle.std.proofs.Common.{◌≡◌, sym, ◌∙◌, ap, length, subst}
-use Rattle.road_graph.specs.GraphData.{GraphData}
-use Rattle.path_algebra.specs.Counted.{cost_of, CountsFit}
+use Rattle.answer_lists.proofs.Words.{◌≡◌, sym, ◌∙◌, ap, length, subst, GraphData, cost_of, CountsFit, Shared}
 use Rattle.elimination_order.specs.Bounds.{IsTooDense}
-use Rattle.answer_lists.specs.Sharing.{Shared}
 use Rattle.answer_lists.proofs.shared_graph.SharedGraph.factor.Goals as goal
 
 pub returns-in-Err-clause-heavy : goal.returns-in-Err-clause-heavy

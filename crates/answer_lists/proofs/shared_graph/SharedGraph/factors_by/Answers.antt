@@ -1,9 +1,6 @@
-use Rattle.std.proofs.Common.{◌≡◌, ℕ, ◌∙◌, ap, subst}
+use Rattle.answer_lists.proofs.Words.{◌≡◌, ℕ, ◌∙◌, ap, subst, GraphData, cost_of, CountsFit, Shared}
 use Rattle.std.specs.Prelude.{IfErr}
-use Rattle.road_graph.specs.GraphData.{GraphData}
-use Rattle.path_algebra.specs.Counted.{cost_of, CountsFit}
 use Rattle.factor_routes.specs.declared.road_factors.Unfactored.TheVariants.{Heavy}
-use Rattle.answer_lists.specs.Sharing.{Shared}
 use Rattle.answer_lists.proofs.shared_graph.SharedGraph.factors_by.Goals as goal
 
 pub returns-clause-heavy : goal.returns-clause-heavy

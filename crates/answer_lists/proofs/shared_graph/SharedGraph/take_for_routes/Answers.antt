@@ -1,9 +1,4 @@
-use Rattle.std.proofs.Common.{◌≡◌, ◌∙◌, Option, Some, subst, sym}
-use Rattle.std.specs.Arc.{arc_value}
-use Rattle.std.specs.Prelude.{IfSome}
-use Rattle.road_graph.specs.GraphData.{GraphData}
-use Rattle.answer_lists.specs.declared.kept.Kept.{Kept}
-use Rattle.answer_lists.specs.Kept.{IsKeptOver}
+use Rattle.answer_lists.proofs.Words.{◌≡◌, ◌∙◌, Option, Some, subst, sym, arc_value, IfSome, GraphData, Kept, IsKeptOver}
 use Rattle.answer_lists.proofs.shared_graph.SharedGraph.take_for_routes.Goals as goal
 
 pub returns-then-turn_to-clause-over : goal.returns-then-turn_to-clause-over

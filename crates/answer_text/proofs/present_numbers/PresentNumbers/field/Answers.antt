@@ -1,7 +1,5 @@
-use Rattle.std.proofs.Common.{◌<◌, arith, ap, ◌∙◌}
+use Rattle.answer_text.proofs.Words.{◌<◌, arith, ap, ◌∙◌, Word, numbers_given, one_number_more}
 use Rattle.std.proofs.lemmas.Result.{on_ok_weaker}
-use Rattle.text_lines.specs.Words.{Word}
-use Rattle.answer_text.specs.AnswerTakes.{numbers_given, one_number_more}
 use Rattle.answer_text.proofs.ListFields.{next_field}
 use Rattle.answer_text.proofs.present_numbers.PresentNumbers.field.Goals as goal
 

@@ -1,11 +1,6 @@
-use Rattle.std.proofs.Common.{◌≡◌, ◌∙◌, ◌-◌, ◌∷◌, [], ℕ, List, length, get_or, take, drop, sym, subst, ap, arith}
-use Rattle.std.proofs.lemmas.List.{take_all}
-use Rattle.road_graph.specs.GraphData.{GraphData}
-use Rattle.path_algebra.specs.Algebra.{Algebra}
-use Rattle.path_algebra.specs.Walks.{IsBestCode, IsParentChain}
+use Rattle.arc_numbers.proofs.Words.{◌≡◌, ◌∙◌, ◌-◌, ◌∷◌, [], ℕ, List, length, get_or, take, drop, sym, subst, ap, arith, take_all, GraphData, Algebra, IsBestCode, IsParentChain, AreRouteArcs}
 use Rattle.route_tree.specs.Found.{IsRouteBetween}
 use Rattle.arc_numbers.specs.Numbering.{Numbering}
-use Rattle.arc_numbers.specs.RouteArcs.{AreRouteArcs}
 use Rattle.arc_numbers.proofs.numbers.ArcNumbers.arcs_of.Goals as goal
 
 module _ {V : Type 0} (A : Algebra V) (g h : GraphData) (arcs : List ℕ) where

@@ -1,8 +1,4 @@
-use Rattle.std.proofs.Common.{◌≡◌, ◌<◌, ◌≤◌, ◌∙◌, ℕ, List, Option, Some, None, length, subst, sym, ap, get_or, arith}
-use Rattle.std.proofs.lemmas.List.{get_or_read}
-use Rattle.road_graph.specs.GraphData.{GraphData, HasVertex, ListsRoadsFrom}
-use Rattle.arc_numbers.specs.BestRoad.{IsBestRoad, IsBestRoadOrNone}
-use Rattle.arc_numbers.specs.Numbering.{IsReordered}
+use Rattle.arc_numbers.proofs.Words.{◌≡◌, ◌<◌, ◌≤◌, ◌∙◌, ℕ, List, Option, Some, None, length, subst, sym, ap, get_or, arith, get_or_read, GraphData, HasVertex, ListsRoadsFrom, IsBestRoad, IsBestRoadOrNone, IsReordered}
 use Rattle.arc_numbers.proofs.BestSteps.{as_long, best_step, no_step}
 use Rattle.arc_numbers.proofs.rows.NumberRows.best_step.Goals as goal
 

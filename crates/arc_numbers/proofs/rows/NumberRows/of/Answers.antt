@@ -1,5 +1,4 @@
-use Rattle.std.proofs.Common.{◌+◌, ◌++◌, [], ◌∷◌, List, ℕ, length, refl, sym, subst}
-use Rattle.arc_numbers.specs.Rows.{AreRowsFrom}
+use Rattle.arc_numbers.proofs.Words.{◌+◌, ◌++◌, [], ◌∷◌, List, ℕ, length, refl, sym, subst, AreRowsFrom}
 use Rattle.arc_numbers.proofs.MoreRows.{one_more_row}
 use Rattle.arc_numbers.proofs.rows.NumberRows.of.Goals as goal
 

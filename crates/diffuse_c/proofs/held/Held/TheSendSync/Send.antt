@@ -1,21 +1,15 @@
 -- What a handle owns may go to another thread.
-use Rattle.std.proofs.Common.{Option, Some, None}
+use Rattle.diffuse_c.proofs.Words.{Option, Some, None, lone, RawPtr, RattleType, Shared, Stop, Numbering}
 use mir.Raw.{raw}
 use base.Fraction.{full_share}
 use base.Shift.{Keyless}
-use denote.Memory.{lone}
-use denote.Builtin.{RawPtr}
-use denote.RattleType.{RattleType}
 use denote.RawPtr.{Ptr, block_ptr, null_ptr, lies_at}
 use denote.Param.Send.{IsSend, owning_send, part_keyless, sendable}
 use Rattle.std.proofs.Crossing.{crosses, frees}
-use Rattle.answer_lists.specs.Sharing.{Shared}
 use Rattle.path_algebra.specs.declared.algebra.PathAlgebra.{Ghosts}
 use Rattle.answer_lists.specs.contracts.kept.Kept as kept
 use Rattle.route_tree.specs.contracts.pair_searcher.PairSearcher as pairs
 use Rattle.tree_search.specs.contracts.searcher.TreeSearcher as trees
-use Rattle.path_plain.specs.declared.halt.Stop.{Stop}
-use Rattle.arc_numbers.specs.Numbering.{Numbering}
 use Rattle.path_plain.specs.contracts.halt.Stop as stop
 use Rattle.arc_numbers.specs.contracts.numbers.ArcNumbers as numbers
 use Rattle.answer_lists.specs.contracts.shared_graph.SharedGraph as shared

@@ -1,9 +1,6 @@
 use Rattle.std.proofs.Common.{◌≡◌, ℕ, List, IfOk, subst, Option, Result, Ok, Err}
-use Rattle.road_graph.specs.GraphData.{GraphData}
+use Rattle.factor_routes.proofs.Words.{GraphData, Algebra, IsBestLabel, numbers_of}
 use Rattle.road_graph.specs.declared.Memory.{Memory}
-use Rattle.path_algebra.specs.Algebra.{Algebra}
-use Rattle.path_algebra.specs.Walks.{IsBestLabel}
-use Rattle.factor_routes.specs.Numbers.{numbers_of}
 use Rattle.factor_routes.proofs.numbers.AskerCountedSumsBestNumbers.number.Goals as goal
 
 from_these : (A : Algebra ℕ) (g : GraphData) (these : List ℕ) (v : ℕ) (X : Type 0) (r : Result (Option ℕ) Memory) →

@@ -1,6 +1,4 @@
-use Rattle.std.proofs.Common.{ℕ, Option, Some, None, refl, subst}
-use Rattle.path_algebra.specs.Walks.{IsBestLabel}
-use Rattle.factor_routes.specs.Numbers.{numbers_of}
+use Rattle.factor_routes.proofs.Words.{ℕ, Option, Some, None, refl, subst, IsBestLabel, numbers_of}
 use Rattle.factor_routes.proofs.road_factors.RoadFactors.best_value.Goals as goal
 
 pub returns-in-Some-clause-best : goal.returns-in-Some-clause-best

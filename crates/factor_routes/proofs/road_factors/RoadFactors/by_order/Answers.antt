@@ -1,6 +1,4 @@
-use Rattle.std.proofs.Common.{ℕ, subst}
-use Rattle.road_graph.specs.GraphData.{GraphData}
-use Rattle.path_algebra.specs.Counted.{cost_of, CountsFit}
+use Rattle.factor_routes.proofs.Words.{ℕ, subst, GraphData, cost_of, CountsFit}
 use Rattle.factor_routes.proofs.road_factors.RoadFactors.by_order.Goals as goal
 
 pub returns-in_default-clause-heavy : goal.returns-in_default-clause-heavy

@@ -1,14 +1,6 @@
-use Rattle.std.proofs.Common.{◌≡◌, ℕ, List, [], ◌∷◌, Option, Some, None, ap, sym, ◌∙◌, subst}
-use Rattle.std.proofs.lemmas.List.Elements.{All-nil, All-cons}
-use Rattle.std.specs.Prelude.{IsSome, is_some}
-use Rattle.road_graph.specs.GraphData.{HasVertex}
-use Rattle.path_algebra.specs.Counted.{cost_of}
-use Rattle.path_algebra.specs.CountedWalks.{counted_laws}
-use Rattle.path_algebra.specs.Carried.{carried_value}
-use Rattle.path_algebra.specs.Walks.{IsBest, IsBestLabel, label_of}
+use Rattle.factor_routes.proofs.Words.{◌≡◌, ℕ, List, [], ◌∷◌, Option, Some, None, ap, sym, ◌∙◌, subst, All-nil, All-cons, IsSome, is_some, HasVertex, cost_of, counted_laws, carried_value, IsBest, IsBestLabel, label_of, AreBestNumbers, numbers_of}
 use Rattle.route_tree.specs.Found.{FoundData, IsFoundBetween}
 use Rattle.route_tree.proofs.Told.{from_one}
-use Rattle.factor_routes.specs.Numbers.{AreBestNumbers, numbers_of}
 use Rattle.factor_routes.proofs.Tails.{one_label}
 use Rattle.factor_routes.proofs.Carrying as carrying
 use Rattle.factor_routes.proofs.road_factors.RoadFactors.find.Goals as goal

@@ -1,9 +1,4 @@
-use Rattle.std.proofs.Common.{◌≡◌, ℕ, ◌%◌, ◌^◌, Option, Some, None, ap, sym, ◌∙◌}
-use Rattle.std.specs.Prelude.{IsSome, is_some, option_map}
-use Rattle.path_algebra.specs.Counted.{cost_of}
-use Rattle.path_algebra.specs.Walks.{label_of}
-use Rattle.path_algebra.specs.Carried.{carried_value}
-use Rattle.factor_routes.specs.Numbers.{AreBestNumbers, numbers_of}
+use Rattle.factor_routes.proofs.Words.{◌≡◌, ℕ, ◌%◌, ◌^◌, Option, Some, None, ap, sym, ◌∙◌, IsSome, is_some, option_map, cost_of, label_of, carried_value, AreBestNumbers, numbers_of}
 use Rattle.factor_routes.proofs.Carrying as carrying
 use Rattle.factor_routes.proofs.road_factors.RoadFactors.finding.Goals as goal
 

@@ -1,11 +1,4 @@
-use Rattle.std.proofs.Common.{◌≡◌, ℕ, Option, None, ap, sym, ◌∙◌, subst, arith}
-use Rattle.std.proofs.lemmas.Grind.{common_steps}
-use Rattle.road_graph.specs.GraphData.{GraphData, HasVertex, ListsRoadsInto}
-use Rattle.road_graph.specs.declared.OutRoad.{OutRoad}
-use Rattle.path_algebra.specs.Counted.{cost_of}
-use Rattle.path_algebra.specs.Walks.{IsBestLabel}
-use Rattle.factor_routes.specs.Numbers.{numbers_of}
-use Rattle.factor_routes.specs.Tails.{IsLeastTail}
+use Rattle.factor_routes.proofs.Words.{◌≡◌, ℕ, Option, None, ap, sym, ◌∙◌, subst, arith, common_steps, GraphData, HasVertex, ListsRoadsInto, OutRoad, cost_of, IsBestLabel, numbers_of, IsLeastTail}
 use Rattle.factor_routes.proofs.Tails.{least_from, least_of_row, least_step, row_tail}
 use Rattle.factor_routes.proofs.road_factors.RoadFactors.least_tail.Goals as goal
 

@@ -1,7 +1,4 @@
-use Rattle.std.proofs.Common.{◌≡◌, ℕ, ◌<◌, List, Option, IfSome, None, drop}
-use Rattle.road_graph.specs.GraphData.{HasVertex}
-use Rattle.path_algebra.specs.Counted.{AreBestInto, cost_of}
-use Rattle.factor_routes.specs.Numbers.{numbers_of}
+use Rattle.factor_routes.proofs.Words.{◌≡◌, ℕ, ◌<◌, List, Option, IfSome, None, drop, HasVertex, AreBestInto, cost_of, numbers_of}
 use Rattle.factor_routes.proofs.Tails.{least_from}
 use Rattle.factor_routes.proofs.road_factors.RoadFactors.least_tail.Given as goal
 

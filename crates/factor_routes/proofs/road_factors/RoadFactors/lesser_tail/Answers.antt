@@ -1,5 +1,4 @@
-use Rattle.std.proofs.Common.{ℕ, ◌∙◌, Option, ap}
-use Rattle.factor_routes.specs.Tails.{lesser}
+use Rattle.factor_routes.proofs.Words.{ℕ, ◌∙◌, Option, ap, lesser}
 use Rattle.factor_routes.proofs.road_factors.RoadFactors.lesser_tail.Goals as goal
 
 pub returns-clause-lesser : goal.returns-clause-lesser

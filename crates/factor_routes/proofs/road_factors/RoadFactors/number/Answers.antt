@@ -1,8 +1,4 @@
-use Rattle.std.proofs.Common.{ℕ, List, IfOk, subst}
-use Rattle.path_algebra.specs.Walks.{IsBestLabel}
-use Rattle.path_algebra.specs.declared.counted_sums.CountedSums.{CountedSums}
-use Rattle.path_factors.specs.State.{FactorState}
-use Rattle.factor_routes.specs.Numbers.{numbers_of}
+use Rattle.factor_routes.proofs.Words.{ℕ, List, IfOk, subst, IsBestLabel, CountedSums, FactorState, numbers_of}
 use Rattle.factor_routes.proofs.road_factors.RoadFactors.number.Goals as goal
 
 pub returns-clause-best : goal.returns-clause-best

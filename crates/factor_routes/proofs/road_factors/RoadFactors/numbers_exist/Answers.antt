@@ -1,8 +1,4 @@
-use Rattle.std.proofs.Common.{◌≡◌, ℕ, List, Option, sym, ◌∙◌, ap, subst}
-use Rattle.path_algebra.specs.Counted.{cost_of, counted}
-use Rattle.path_algebra.specs.Walks.{AreBest}
-use Rattle.path_algebra.specs.declared.counted_sums.CountedSums.{CountedSums}
-use Rattle.path_factors.specs.State.{FactorState}
+use Rattle.factor_routes.proofs.Words.{◌≡◌, ℕ, List, Option, sym, ◌∙◌, ap, subst, cost_of, counted, AreBest, CountedSums, FactorState}
 use Rattle.factor_routes.proofs.road_factors.RoadFactors.numbers_exist.Goals as goal
 
 pub returns : goal.returns

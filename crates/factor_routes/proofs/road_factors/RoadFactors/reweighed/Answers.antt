@@ -1,9 +1,4 @@
-use Rattle.std.proofs.Common.{◌≡◌, ◌∙◌, ℕ, ap, sym, subst}
-use Rattle.road_graph.specs.GraphData.{GraphData}
-use Rattle.path_algebra.specs.Counted.{cost_of, CountsFit}
-use Rattle.path_algebra.specs.declared.counted_sums.Cost.{Cost}
-use Rattle.path_algebra.specs.declared.counted_sums.CountedSums.{CountedSums}
-use Rattle.path_factors.specs.State.{FactorState}
+use Rattle.factor_routes.proofs.Words.{◌≡◌, ◌∙◌, ℕ, ap, sym, subst, GraphData, cost_of, CountsFit, Cost, CountedSums, FactorState}
 use Rattle.factor_routes.proofs.road_factors.RoadFactors.reweighed.Goals as goal
 
 pub returns-in_default-clause-cause : goal.returns-in_default-clause-cause

@@ -1,11 +1,4 @@
-use Rattle.std.proofs.Common.{◌≡◌, ℕ, ◌+◌, List, [], ◌∷◌, ◌++◌, Option, refl, sym, ◌∙◌, subst, arith}
-use Rattle.std.proofs.lemmas.Grind.{common_steps}
-use Rattle.road_graph.specs.GraphData.{arc_of}
-use Rattle.path_algebra.specs.Counted.{AreBestInto, cost_of, counted_cost}
-use Rattle.path_algebra.specs.CountedWalks.{counted_laws}
-use Rattle.path_algebra.specs.Walks.{IsBest, IsBestLabel, label_of}
-use Rattle.path_algebra.proofs.Tight.{best_is_one}
-use Rattle.factor_routes.specs.Numbers.{AreBestNumbers, numbers_of}
+use Rattle.factor_routes.proofs.Words.{◌≡◌, ℕ, ◌+◌, List, [], ◌∷◌, ◌++◌, Option, refl, sym, ◌∙◌, subst, arith, common_steps, arc_of, AreBestInto, cost_of, counted_cost, counted_laws, IsBest, IsBestLabel, label_of, best_is_one, AreBestNumbers, numbers_of}
 use Rattle.factor_routes.proofs.Climbing.{Climbed, best_into, climb, climbed}
 use Rattle.factor_routes.proofs.road_factors.RoadFactors.route_back.Goals as goal
 

@@ -1,8 +1,4 @@
-use Rattle.std.proofs.Common.{◌≡◌, ℕ, ◌≤◌, Option, Some}
-use Rattle.road_graph.specs.GraphData.{HasVertex}
-use Rattle.path_algebra.specs.Counted.{cost_of}
-use Rattle.path_algebra.specs.Walks.{IsBest}
-use Rattle.factor_routes.specs.Numbers.{AreBestNumbers, numbers_of}
+use Rattle.factor_routes.proofs.Words.{◌≡◌, ℕ, ◌≤◌, Option, Some, HasVertex, cost_of, IsBest, AreBestNumbers, numbers_of}
 use Rattle.factor_routes.proofs.Climbing.{Climbed}
 use Rattle.factor_routes.proofs.road_factors.RoadFactors.route_back.Given as goal
 

@@ -1,6 +1,4 @@
-use Rattle.std.proofs.Common.{◌≡◌, ℕ, ap, subst, arith}
-use Rattle.road_graph.specs.GraphData.{GraphData}
-use Rattle.route_tree.specs.Tree.{Branches}
+use Rattle.factor_routes.proofs.Words.{◌≡◌, ℕ, ap, subst, arith, GraphData, Branches}
 use Rattle.factor_routes.proofs.Telling.{AreTold, told_best, told_more, told_tree, tree_linked}
 use Rattle.factor_routes.proofs.road_factors.RoadFactors.solve_with_tree_unless.Goals as goal
 

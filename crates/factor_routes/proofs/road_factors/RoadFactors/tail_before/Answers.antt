@@ -1,11 +1,4 @@
-use Rattle.std.proofs.Common.{◌≡◌, ℕ, ◌+◌, ◌-◌, ◌≤◌, [], ◌∷◌, drop, Option, Some, None, ap, sym, ◌∙◌, subst, arith}
-use Rattle.std.proofs.lemmas.Bool.Decides.{nat_tests}
-use Rattle.road_graph.specs.GraphData.{GraphData, ListsRoadsInto}
-use Rattle.road_graph.specs.declared.OutRoad.{OutRoad}
-use Rattle.path_algebra.specs.Counted.{AreBestInto, cost_of}
-use Rattle.path_algebra.specs.Walks.{IsBest, IsBestLabel, label_of}
-use Rattle.factor_routes.specs.Numbers.{numbers_of}
-use Rattle.factor_routes.specs.Tails.{IsLeastTail}
+use Rattle.factor_routes.proofs.Words.{◌≡◌, ℕ, ◌+◌, ◌-◌, ◌≤◌, [], ◌∷◌, drop, Option, Some, None, ap, sym, ◌∙◌, subst, arith, nat_tests, GraphData, ListsRoadsInto, OutRoad, AreBestInto, cost_of, IsBest, IsBestLabel, label_of, numbers_of, IsLeastTail}
 use Rattle.factor_routes.proofs.Climbing.{best_into}
 use Rattle.factor_routes.proofs.Tails.{last_is, least_from, looked, next_held, none_from, passed, row_is, row_tail, with_held}
 use Rattle.factor_routes.proofs.road_factors.RoadFactors.tail_before.Goals as goal

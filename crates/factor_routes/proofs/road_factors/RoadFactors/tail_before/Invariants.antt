@@ -1,7 +1,4 @@
-use Rattle.std.proofs.Common.{◌≡◌, ℕ, ◌<◌, Option, IfSome, None, drop}
-use Rattle.road_graph.specs.GraphData.{HasArc, HasVertex, arc_of}
-use Rattle.path_algebra.specs.Counted.{AreBestInto, cost_of}
-use Rattle.factor_routes.specs.Numbers.{numbers_of}
+use Rattle.factor_routes.proofs.Words.{◌≡◌, ℕ, ◌<◌, Option, IfSome, None, drop, HasArc, HasVertex, arc_of, AreBestInto, cost_of, numbers_of}
 use Rattle.factor_routes.proofs.Tails.{least_from, with_held}
 use Rattle.factor_routes.proofs.road_factors.RoadFactors.tail_before.Given as goal
 

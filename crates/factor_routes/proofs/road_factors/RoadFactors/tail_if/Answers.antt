@@ -1,9 +1,4 @@
-use Rattle.std.proofs.Common.{◌≡◌, ℕ, Option, None, refl, sym, ◌∙◌, subst, arith}
-use Rattle.path_algebra.specs.Counted.{cost_of}
-use Rattle.path_algebra.specs.CountedWalks.{counted_laws}
-use Rattle.path_algebra.specs.Walks.{IsBestLabel}
-use Rattle.factor_routes.specs.Numbers.{numbers_of}
-use Rattle.factor_routes.specs.Tails.{adding_up}
+use Rattle.factor_routes.proofs.Words.{◌≡◌, ℕ, Option, None, refl, sym, ◌∙◌, subst, arith, cost_of, counted_laws, IsBestLabel, numbers_of, adding_up}
 use Rattle.factor_routes.proofs.Tails.{adding_up_is, adding_up_not, number_is_small, one_label}
 use Rattle.factor_routes.proofs.road_factors.RoadFactors.tail_if.Goals as goal
 

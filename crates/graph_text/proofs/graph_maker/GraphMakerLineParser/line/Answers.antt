@@ -1,7 +1,5 @@
-use Rattle.std.proofs.Common.{◌∙◌}
+use Rattle.graph_text.proofs.Words.{◌∙◌, gr_rules, taken_of}
 use Rattle.text_lines.proofs.ParserLaws.{on_ok, gives_taken, gives_broken}
-use Rattle.graph_text.specs.GraphFiles.{gr_rules}
-use Rattle.graph_text.specs.GraphTakes.{taken_of}
 use Rattle.graph_text.proofs.GraphParserLaws.{line_rule}
 use Rattle.graph_text.proofs.graph_maker.GraphMakerLineParser.line.Goals as goal
 

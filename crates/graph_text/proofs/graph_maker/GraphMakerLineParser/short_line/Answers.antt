@@ -1,6 +1,4 @@
-use Rattle.text_lines.proofs.ParserLaws.{gives_taken}
-use Rattle.graph_text.specs.GraphFiles.{gr_rules}
-use Rattle.graph_text.specs.GraphTakes.{taken_of}
+use Rattle.graph_text.proofs.Words.{gives_taken, gr_rules, taken_of}
 use Rattle.graph_text.proofs.graph_maker.GraphMakerLineParser.short_line.Goals as goal
 
 pub returns-clause-taken : goal.returns-clause-taken

@@ -1,6 +1,4 @@
-use Rattle.std.proofs.Common.{arith}
-use Rattle.std.proofs.lemmas.Grind.{common_steps}
-use Rattle.graph_text.specs.GraphFiles.{gr_problem}
+use Rattle.graph_text.proofs.Words.{arith, common_steps, gr_problem}
 use Rattle.graph_text.proofs.graph_parser.GraphParser.problem.Goals as goal
 
 pub returns-then-slots-ne4 : goal.returns-then-slots-ne4

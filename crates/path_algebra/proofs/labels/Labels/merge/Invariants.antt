@@ -1,5 +1,4 @@
-use Rattle.std.proofs.Common.{◌≡◌, ℕ, ◌<◌, ◌≤◌, length, get_or, None}
-use Rattle.path_algebra.specs.Walks.{better_label}
+use Rattle.path_algebra.proofs.Words.{◌≡◌, ℕ, ◌<◌, ◌≤◌, length, get_or, None, better_label}
 use Rattle.path_algebra.proofs.labels.Labels.merge.Given as goal
 
 abbrev pub invariant-loop-i : goal.invariant-loop-i

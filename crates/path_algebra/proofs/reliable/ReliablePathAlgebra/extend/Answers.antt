@@ -1,5 +1,4 @@
-use Rattle.std.proofs.Common.{◌≤◌, arith}
-use Rattle.std.proofs.lemmas.Grind.{common_steps}
+use Rattle.path_algebra.proofs.Words.{◌≤◌, arith, common_steps}
 use Rattle.std.proofs.Math.Nat.{mul-le-mul}
 use Rattle.path_algebra.proofs.reliable.ReliablePathAlgebra.extend.Goals as goal
 

@@ -1,9 +1,5 @@
-use Rattle.std.proofs.Common.{◌≡◌, ◌∙◌, ◌⊎◌, ℕ, List, [], ◌∷◌, ◌++◌, Option, None, length, take, drop, ap, arith, sym, subst}
-use Rattle.std.proofs.lemmas.Grind.{common_steps}
+use Rattle.path_factors.proofs.Words.{◌≡◌, ◌∙◌, ◌⊎◌, ℕ, List, [], ◌∷◌, ◌++◌, Option, None, length, take, drop, ap, arith, sym, subst, common_steps, FactorState, at, sources_of, IsAsking, IsAboveSource}
 use Rattle.std.proofs.lemmas.List.{take_at}
-use Rattle.path_factors.specs.State.{FactorState}
-use Rattle.path_factors.specs.Substituting.{at}
-use Rattle.path_factors.specs.Asking.{sources_of, IsAsking, IsAboveSource}
 use Rattle.path_factors.proofs.Asking.{forgotten_up, asking_begun}
 use Rattle.path_factors.proofs.asker.Asker.begin.Goals as goal
 

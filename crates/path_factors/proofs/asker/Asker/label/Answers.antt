@@ -1,11 +1,5 @@
-use Rattle.std.proofs.Common.{◌≡◌, ◌∙◌, ◌-◌, ◌<◌, ℕ, List, ◌++◌, Option, Bool, true, None, length, take, drop, get_or, ap, arith, sym, subst}
-use Rattle.std.proofs.lemmas.Grind.{common_steps}
+use Rattle.path_factors.proofs.Words.{◌≡◌, ◌∙◌, ◌-◌, ◌<◌, ℕ, List, ◌++◌, Option, Bool, true, None, length, take, drop, get_or, ap, arith, sym, subst, common_steps, IsBestLabel, FactorState, at, place_of, is_on, sources_of, IsAsking, IsKnownUpward, AreAllUnknownUp}
 use Rattle.std.proofs.lemmas.List.{drop_at, take_all, length-append, get_or_default}
-use Rattle.path_algebra.specs.Walks.{IsBestLabel}
-use Rattle.path_factors.specs.State.{FactorState}
-use Rattle.path_factors.specs.Substituting.{at}
-use Rattle.path_factors.specs.Factors.{place_of}
-use Rattle.path_factors.specs.Asking.{is_on, sources_of, IsAsking, IsKnownUpward, AreAllUnknownUp}
 use Rattle.path_factors.proofs.Asking.{asking_extended, asking_after, target_known, known_label_is_best}
 use Rattle.path_factors.proofs.asker.Asker.label.Goals as goal
 

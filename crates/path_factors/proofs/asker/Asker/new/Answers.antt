@@ -1,7 +1,4 @@
-use Rattle.std.proofs.Common.{◌≡◌, [], None, false, length, replicate, arith, sym, subst}
-use Rattle.std.proofs.lemmas.Grind.{common_steps}
-use Rattle.path_factors.specs.State.{FactorState}
-use Rattle.path_factors.specs.Asking.{IsAsking}
+use Rattle.path_factors.proofs.Words.{◌≡◌, [], None, false, length, replicate, arith, sym, subst, common_steps, FactorState, IsAsking}
 use Rattle.path_factors.proofs.Asking.{asking_none}
 use Rattle.path_factors.proofs.asker.Asker.new.Goals as goal
 

@@ -1,8 +1,4 @@
-use Rattle.std.proofs.Common.{◌≡◌, ℕ, ◌+◌, ◌<◌, ◌∙◌, List, [], ◌∷◌, ◌++◌, length, get_or, set, ap, sym, subst, arith}
-use Rattle.std.proofs.lemmas.Grind.{common_steps}
-use Rattle.std.proofs.lemmas.List.{get_or_default, length-append}
-use Rattle.path_factors.specs.declared.chains.Item.{Item}
-use Rattle.path_factors.specs.Chains.{ChainData, HasValue, IsMore}
+use Rattle.path_factors.proofs.Words.{◌≡◌, ℕ, ◌+◌, ◌<◌, ◌∙◌, List, [], ◌∷◌, ◌++◌, length, get_or, set, ap, sym, subst, arith, common_steps, get_or_default, length-append, Item, ChainData, HasValue, IsMore}
 use Rattle.path_factors.proofs.Listing.{pushed_has, pushed_more}
 use Rattle.path_factors.proofs.chains.Chains.push.Goals as goal
 

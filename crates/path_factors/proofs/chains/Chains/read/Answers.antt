@@ -1,10 +1,4 @@
-use Rattle.std.proofs.Common.{◌≡◌, ℕ, ◌-◌, ◌<◌, ◌≤◌, ◌∙◌, inl, inr, List, [], ◌∷◌, ◌++◌, length, get_or, ap, sym, subst, arith}
-use Rattle.std.specs.Prelude.{All, Contains}
-use Rattle.std.proofs.lemmas.Grind.{common_steps}
-use Rattle.std.proofs.lemmas.List.{get_or_default}
-use Rattle.std.proofs.lemmas.List.Elements.{All-get_or, All-push, Contains-append_left, Contains-push}
-use Rattle.path_factors.specs.declared.chains.Item.{Item}
-use Rattle.path_factors.specs.Chains.{ChainData, item_of, AreChains, HasFrom}
+use Rattle.path_factors.proofs.Words.{◌≡◌, ℕ, ◌-◌, ◌<◌, ◌≤◌, ◌∙◌, inl, inr, List, [], ◌∷◌, ◌++◌, length, get_or, ap, sym, subst, arith, All, Contains, common_steps, get_or_default, All-get_or, All-push, Contains-append_left, Contains-push, Item, ChainData, item_of, AreChains, HasFrom}
 use Rattle.path_factors.proofs.Listing.{from_next, from_none}
 use Rattle.path_factors.proofs.chains.Chains.read.Goals as goal
 

@@ -1,6 +1,4 @@
-use Rattle.std.proofs.Common.{ℕ, ◌≤◌, ◌<◌, ◌⊎◌, length, get_or}
-use Rattle.std.specs.Prelude.{All, Contains}
-use Rattle.path_factors.specs.Chains.{AreBelow, HasFrom}
+use Rattle.path_factors.proofs.Words.{ℕ, ◌≤◌, ◌<◌, ◌⊎◌, length, get_or, All, Contains, AreBelow, HasFrom}
 use Rattle.path_factors.proofs.chains.Chains.read.Given as goal
 
 abbrev pub invariant-loop-item : goal.invariant-loop-item

@@ -1,7 +1,4 @@
-use Rattle.std.proofs.Common.{◌≡◌, ℕ, ◌+◌, ◌∙◌, arith, List, Option, Some, None, take, sym, ap, length, replicate, ◌++◌, ◌∷◌, []}
-use Rattle.std.proofs.lemmas.List.{take_more, length-replicate}
-use Rattle.std.proofs.lemmas.Grind.{common_steps}
-use Rattle.path_factors.specs.Substituting.{at}
+use Rattle.path_factors.proofs.Words.{◌≡◌, ℕ, ◌+◌, ◌∙◌, arith, List, Option, Some, None, take, sym, ap, length, replicate, ◌++◌, ◌∷◌, [], take_more, length-replicate, common_steps, at}
 use Rattle.path_factors.proofs.Places.{at_none, origins_none, origins_more}
 use Rattle.path_factors.proofs.factors.Factors.at_sources.Goals as goal
 

@@ -1,5 +1,4 @@
-use Rattle.std.proofs.Common.{take}
-use Rattle.path_factors.specs.Substituting.{AreOrigins}
+use Rattle.path_factors.proofs.Words.{take, AreOrigins}
 use Rattle.path_factors.proofs.factors.Factors.at_sources.Given as goal
 
 abbrev pub invariant-loop-s : goal.invariant-loop-s

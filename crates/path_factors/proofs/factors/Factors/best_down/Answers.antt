@@ -1,9 +1,5 @@
-use Rattle.std.proofs.Common.{◌≡◌, ◌∙◌, ◌+◌, ◌<◌, ◌∷◌, None, Option, length, drop, ap, arith, sym}
+use Rattle.path_factors.proofs.Words.{◌≡◌, ◌∙◌, ◌+◌, ◌<◌, ◌∷◌, None, Option, length, drop, ap, arith, sym, applied, better_label, row_of, at, best_along}
 use Rattle.std.proofs.lemmas.List.{drop_more, get_or_default}
-use Rattle.path_algebra.specs.Composition.{applied}
-use Rattle.path_algebra.specs.Walks.{better_label}
-use Rattle.path_factors.specs.Factors.{row_of}
-use Rattle.path_factors.specs.Substituting.{at, best_along}
 use Rattle.path_factors.proofs.Places.{entering_inside}
 use Rattle.path_factors.proofs.factors.Factors.best_down.Goals as goal
 

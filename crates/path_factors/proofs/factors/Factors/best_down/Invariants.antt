@@ -1,6 +1,4 @@
-use Rattle.std.proofs.Common.{◌≡◌, drop}
-use Rattle.path_factors.specs.Factors.{row_of}
-use Rattle.path_factors.specs.Substituting.{at, best_along}
+use Rattle.path_factors.proofs.Words.{◌≡◌, drop, row_of, at, best_along}
 use Rattle.path_factors.proofs.factors.Factors.best_down.Given as goal
 
 abbrev pub invariant-loop-j : goal.invariant-loop-j

@@ -1,5 +1,4 @@
-use Rattle.std.proofs.Common.{subst}
-use Rattle.path_factors.specs.Edges.{AreBlank}
+use Rattle.path_factors.proofs.Words.{subst, AreBlank}
 use Rattle.path_factors.proofs.factors.Factors.by_order.Goals as goal
 
 pub weigh-requires-clause-risers : goal.weigh-requires-clause-risers

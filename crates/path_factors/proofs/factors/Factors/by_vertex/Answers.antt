@@ -1,5 +1,4 @@
-use Rattle.std.proofs.Common.{◌≡◌, arith, ◌∙◌}
-use Rattle.std.proofs.lemmas.Grind.{common_steps}
+use Rattle.path_factors.proofs.Words.{◌≡◌, arith, ◌∙◌, common_steps}
 use Rattle.path_factors.proofs.Places.{place_inside}
 use Rattle.path_factors.proofs.factors.Factors.by_vertex.Goals as goal
 

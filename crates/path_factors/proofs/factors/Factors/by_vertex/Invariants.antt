@@ -1,7 +1,4 @@
-use Rattle.std.proofs.Common.{◌≡◌, map, take}
-use Rattle.std.specs.Prelude.{IsSome}
-use Rattle.path_plain.specs.Halting.{CanHalt}
-use Rattle.path_factors.specs.Substituting.{at}
+use Rattle.path_factors.proofs.Words.{◌≡◌, map, take, IsSome, CanHalt, at}
 use Rattle.path_factors.proofs.factors.Factors.by_vertex.Given as goal
 
 abbrev pub invariant-loop-place : goal.invariant-loop-place

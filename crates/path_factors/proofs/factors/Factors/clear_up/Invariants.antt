@@ -1,5 +1,4 @@
-use Rattle.std.proofs.Common.{◌≡◌, ◌-◌, ◌≤◌, length}
-use Rattle.path_factors.specs.Asking.{AreOnlyUp}
+use Rattle.path_factors.proofs.Words.{◌≡◌, ◌-◌, ◌≤◌, length, AreOnlyUp}
 use Rattle.path_factors.proofs.factors.Factors.clear_up.Given as goal
 
 abbrev pub invariant-loop-v : goal.invariant-loop-v

@@ -1,6 +1,4 @@
-use Rattle.std.proofs.Common.{◌≡◌, ◌<◌, ◌∙◌, length, get_or, ap, arith, subst}
-use Rattle.path_factors.specs.Factors.{row_of}
-use Rattle.path_factors.specs.Substituting.{at, IsForwardTo}
+use Rattle.path_factors.proofs.Words.{◌≡◌, ◌<◌, ◌∙◌, length, get_or, ap, arith, subst, row_of, at, IsForwardTo}
 use Rattle.path_factors.proofs.Offers.{offered_from_count}
 use Rattle.path_factors.proofs.Sweeps.{forward_ends}
 use Rattle.path_factors.proofs.Climbing.{climb_begins, forward_starts_at, climbs_on, forward_climbs, climb_ends}

@@ -1,5 +1,4 @@
-use Rattle.std.proofs.Common.{◌≡◌, ◌-◌, ℕ, ◌≤◌, List, length}
-use Rattle.path_factors.specs.Substituting.{IsForwardTo}
+use Rattle.path_factors.proofs.Words.{◌≡◌, ◌-◌, ℕ, ◌≤◌, List, length, IsForwardTo}
 use Rattle.path_factors.proofs.Climbing.{IsClimbedTo}
 use Rattle.path_factors.proofs.factors.Factors.climb.Given as goal
 

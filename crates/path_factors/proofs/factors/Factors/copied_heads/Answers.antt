@@ -1,5 +1,4 @@
-use Rattle.std.proofs.Common.{◌≡◌, ◌∙◌, ◌++◌, ◌∷◌, [], List, ℕ, length, ap, arith, sym, take}
-use Rattle.std.proofs.lemmas.List.{take_all, take_more}
+use Rattle.path_factors.proofs.Words.{◌≡◌, ◌∙◌, ◌++◌, ◌∷◌, [], List, ℕ, length, ap, arith, sym, take, take_all, take_more}
 use Rattle.path_factors.proofs.factors.Factors.copied_heads.Goals as goal
 
 pub heads-requires-after_bounds : goal.heads-requires-after_bounds

@@ -1,6 +1,4 @@
-use Rattle.std.proofs.Common.{◌≡◌, ◌+◌, ◌-◌, ◌∙◌, ◌<◌, List, Option, Bool, length, set, length-set, get_or, true, ap, arith, sym, subst}
-use Rattle.path_factors.specs.Factors.{row_of}
-use Rattle.path_factors.specs.Substituting.{at, best_along}
+use Rattle.path_factors.proofs.Words.{◌≡◌, ◌+◌, ◌-◌, ◌∙◌, ◌<◌, List, Option, Bool, length, set, length-set, get_or, true, ap, arith, sym, subst, row_of, at, best_along}
 use Rattle.path_factors.proofs.Finding.{AreFoundFrom, list_inside, found_none, found_more, found_all}
 use Rattle.path_factors.proofs.factors.Factors.find_listed.Goals as goal
 

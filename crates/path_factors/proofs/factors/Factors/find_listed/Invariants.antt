@@ -1,5 +1,4 @@
-use Rattle.std.proofs.Common.{◌≡◌, ◌≤◌, List, Option, length}
-use Rattle.path_factors.specs.Asking.{IsBackRun, Agree}
+use Rattle.path_factors.proofs.Words.{◌≡◌, ◌≤◌, List, Option, length, IsBackRun, Agree}
 use Rattle.path_factors.proofs.Finding.{AreFoundFrom}
 use Rattle.path_factors.proofs.factors.Factors.find_listed.Given as goal
 

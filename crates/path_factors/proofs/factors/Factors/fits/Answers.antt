@@ -1,5 +1,4 @@
-use Rattle.std.proofs.Common.{◌≡◌, ◌∙◌, arith}
-use Rattle.std.specs.Prelude.{IsTrue}
+use Rattle.path_factors.proofs.Words.{◌≡◌, ◌∙◌, arith, IsTrue}
 use Rattle.path_factors.proofs.OldEnds.{has_old_edges}
 use Rattle.path_factors.proofs.factors.Factors.fits.Goals as goal
 

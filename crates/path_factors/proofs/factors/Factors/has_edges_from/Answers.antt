@@ -1,8 +1,5 @@
-use Rattle.std.proofs.Common.{◌≡◌, ℕ, refl, arith, sym, subst}
+use Rattle.path_factors.proofs.Words.{◌≡◌, ℕ, refl, arith, sym, subst, HasArc, arc_of, place_of, IsHead, IsJoined}
 use Rattle.std.specs.Prelude.{IsTrue, false}
-use Rattle.road_graph.specs.GraphData.{HasArc, arc_of}
-use Rattle.path_factors.specs.Factors.{place_of}
-use Rattle.path_factors.specs.Heads.{IsHead, IsJoined}
 use Rattle.path_factors.proofs.Joining.{roads_more, roads_all, road_joined}
 use Rattle.path_factors.proofs.Loading.{road_inside}
 use Rattle.path_factors.proofs.factors.Factors.has_edges_from.Goals as goal

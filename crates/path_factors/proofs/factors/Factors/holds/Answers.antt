@@ -1,9 +1,4 @@
-use Rattle.std.proofs.Common.{subst}
-use Rattle.road_graph.specs.GraphData.{IsGraph}
-use Rattle.path_factors.specs.Factors.{IsFactor}
-use Rattle.path_factors.specs.Heads.{IsOutline}
-use Rattle.path_factors.specs.State.{FactorState}
-use Rattle.path_factors.specs.Tree.{AreAtHeads}
+use Rattle.path_factors.proofs.Words.{subst, IsGraph, IsFactor, IsOutline, FactorState, AreAtHeads}
 use Rattle.path_factors.proofs.factors.Factors.holds.Goals as goal
 
 pub returns-clause-factor : goal.returns-clause-factor

@@ -1,6 +1,4 @@
-use Rattle.std.proofs.Common.{◌≡◌, ℕ, ◌<◌, ◌∙◌, [], ◌∷◌, ◌++◌, List, false, get_or, append-nil, append_assoc, ap, arith, sym}
-use Rattle.std.proofs.lemmas.Grind.{common_steps}
-use Rattle.path_factors.specs.Asking.{is_on}
+use Rattle.path_factors.proofs.Words.{◌≡◌, ℕ, ◌<◌, ◌∙◌, [], ◌∷◌, ◌++◌, List, false, get_or, append-nil, append_assoc, ap, arith, sym, common_steps, is_on}
 use Rattle.path_factors.proofs.Finding.{unknown_none, unknown_more}
 use Rattle.path_factors.proofs.factors.Factors.list_unknown.Goals as goal
 

@@ -1,5 +1,4 @@
-use Rattle.std.proofs.Common.{◌≡◌, ◌-◌, ℕ, ◌≤◌, List, ◌++◌}
-use Rattle.path_factors.specs.Asking.{AreUnknownUp}
+use Rattle.path_factors.proofs.Words.{◌≡◌, ◌-◌, ℕ, ◌≤◌, List, ◌++◌, AreUnknownUp}
 use Rattle.path_factors.proofs.factors.Factors.list_unknown.Given as goal
 
 abbrev pub invariant-loop-v : goal.invariant-loop-v

@@ -1,5 +1,4 @@
-use Rattle.std.proofs.Common.{◌≡◌, ◌<◌, length, arith}
-use Rattle.path_factors.specs.Factors.{row_of}
+use Rattle.path_factors.proofs.Words.{◌≡◌, ◌<◌, length, arith, row_of}
 use Rattle.path_factors.proofs.Places.{leaving_inside}
 use Rattle.path_factors.proofs.factors.Factors.offer_up.Goals as goal
 

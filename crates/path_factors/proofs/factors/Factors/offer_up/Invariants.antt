@@ -1,6 +1,4 @@
-use Rattle.std.proofs.Common.{◌≡◌, Some, drop, length}
-use Rattle.path_factors.specs.Factors.{row_of}
-use Rattle.path_factors.specs.Substituting.{offered_along}
+use Rattle.path_factors.proofs.Words.{◌≡◌, Some, drop, length, row_of, offered_along}
 use Rattle.path_factors.proofs.factors.Factors.offer_up.Given as goal
 
 abbrev pub invariant-loop-j : goal.invariant-loop-j

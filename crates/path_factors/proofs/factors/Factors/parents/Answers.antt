@@ -1,6 +1,4 @@
-use Rattle.std.proofs.Common.{get_or, subst}
-use Rattle.path_factors.specs.State.{FactorState}
-use Rattle.path_factors.specs.Tree.{AreParentsTo}
+use Rattle.path_factors.proofs.Words.{get_or, subst, FactorState, AreParentsTo}
 use Rattle.path_factors.proofs.Trees.{parent_inside}
 use Rattle.path_factors.proofs.factors.Factors.parents.Goals as goal
 

@@ -1,6 +1,4 @@
-use Rattle.std.proofs.Common.{◌≡◌, ◌∙◌, List, ℕ, sym, subst}
-use Rattle.path_factors.specs.Edges.{AreBlank}
-use Rattle.path_factors.specs.Heads.{AreHeads, IsOutline}
+use Rattle.path_factors.proofs.Words.{◌≡◌, ◌∙◌, List, ℕ, sym, subst, AreBlank, AreHeads, IsOutline}
 use Rattle.path_factors.proofs.factors.Factors.reweighed.Goals as goal
 
 pub weigh-requires-clause-outline : goal.weigh-requires-clause-outline

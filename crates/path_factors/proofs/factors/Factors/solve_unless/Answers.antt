@@ -1,7 +1,4 @@
-use Rattle.std.proofs.Common.{◌≡◌, arith, List, Option, ◌∙◌, subst, sym, ap}
-use Rattle.std.proofs.lemmas.Grind.{common_steps}
-use Rattle.path_factors.specs.Substituting.{at, IsForwardTo}
-use Rattle.path_factors.specs.Factors.{place_of}
+use Rattle.path_factors.proofs.Words.{◌≡◌, arith, List, Option, ◌∙◌, subst, sym, ap, common_steps, at, IsForwardTo, place_of}
 use Rattle.path_factors.proofs.Sweeps.{forward_starts}
 use Rattle.path_factors.proofs.Substitution.{substitution_is_best}
 use Rattle.path_factors.proofs.factors.Factors.solve_unless.Goals as goal

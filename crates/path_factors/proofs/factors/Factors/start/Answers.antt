@@ -1,8 +1,4 @@
-use Rattle.std.proofs.Common.{◌≡◌, ◌∙◌, ℕ, [], ◌∷◌, Some, None, set, get_or-set_other, ap, subst}
-use Rattle.std.proofs.lemmas.List.Elements.{All-nil, All-cons}
-use Rattle.road_graph.specs.GraphData.{HasVertex}
-use Rattle.path_factors.specs.Factors.{place_of}
-use Rattle.path_factors.specs.Asking.{AreOnlyUp}
+use Rattle.path_factors.proofs.Words.{◌≡◌, ◌∙◌, ℕ, [], ◌∷◌, Some, None, set, get_or-set_other, ap, subst, All-nil, All-cons, HasVertex, place_of, AreOnlyUp}
 use Rattle.path_factors.proofs.Places.{origins_none, origins_more}
 use Rattle.path_factors.proofs.Sweeps.{forward_starts}
 use Rattle.path_factors.proofs.factors.Factors.start.Goals as goal

@@ -1,5 +1,4 @@
-use Rattle.std.proofs.Common.{◌≡◌, ◌+◌, ◌-◌, arith, subst}
-use Rattle.path_factors.specs.Substituting.{IsBackwardFrom}
+use Rattle.path_factors.proofs.Words.{◌≡◌, ◌+◌, ◌-◌, arith, subst, IsBackwardFrom}
 use Rattle.path_factors.proofs.Sweeps.{backward_goes_on}
 use Rattle.path_factors.proofs.factors.Factors.sweep_down.Goals as goal
 

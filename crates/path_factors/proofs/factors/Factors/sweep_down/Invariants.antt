@@ -1,6 +1,4 @@
-use Rattle.std.specs.Prelude.{IsSome}
-use Rattle.path_plain.specs.Halting.{CanHalt}
-use Rattle.path_factors.specs.Substituting.{IsBackwardFrom}
+use Rattle.path_factors.proofs.Words.{IsSome, CanHalt, IsBackwardFrom}
 use Rattle.path_factors.proofs.factors.Factors.sweep_down.Given as goal
 
 abbrev pub invariant-loop-i : goal.invariant-loop-i

@@ -1,6 +1,4 @@
-use Rattle.std.proofs.Common.{◌≡◌, ◌∙◌, arith}
-use Rattle.path_factors.specs.Substituting.{at}
-use Rattle.path_factors.specs.Factors.{row_of}
+use Rattle.path_factors.proofs.Words.{◌≡◌, ◌∙◌, arith, at, row_of}
 use Rattle.path_factors.proofs.Offers.{offered_from_count}
 use Rattle.path_factors.proofs.Sweeps.{forward_goes_on, forward_ends}
 use Rattle.path_factors.proofs.factors.Factors.sweep_up.Goals as goal

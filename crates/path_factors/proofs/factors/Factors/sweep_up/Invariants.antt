@@ -1,7 +1,4 @@
-use Rattle.std.proofs.Common.{◌≡◌, ℕ, List, length}
-use Rattle.std.specs.Prelude.{IsSome}
-use Rattle.path_plain.specs.Halting.{CanHalt}
-use Rattle.path_factors.specs.Substituting.{IsForwardTo}
+use Rattle.path_factors.proofs.Words.{◌≡◌, ℕ, List, length, IsSome, CanHalt, IsForwardTo}
 use Rattle.path_factors.proofs.factors.Factors.sweep_up.Given as goal
 
 abbrev pub invariant-loop-i : goal.invariant-loop-i

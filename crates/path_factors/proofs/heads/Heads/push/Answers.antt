@@ -1,6 +1,4 @@
-use Rattle.std.proofs.Common.{◌≡◌, ◌+◌, ◌∙◌, List, ℕ, [], ◌∷◌, ◌++◌, length, ap, arith}
-use Rattle.std.proofs.lemmas.Grind.{common_steps}
-use Rattle.std.proofs.lemmas.List.{length-append}
+use Rattle.path_factors.proofs.Words.{◌≡◌, ◌+◌, ◌∙◌, List, ℕ, [], ◌∷◌, ◌++◌, length, ap, arith, common_steps, length-append}
 use Rattle.path_factors.proofs.Packing.{packed_more}
 use Rattle.path_factors.proofs.heads.Heads.push.Goals as goal
 

@@ -1,6 +1,4 @@
-use Rattle.std.proofs.Common.{◌≡◌, ◌∙◌, length, ap, sym, arith}
-use Rattle.path_factors.specs.Packing.{links_of}
-use Rattle.path_factors.proofs.HeadRows.{heads_packed}
+use Rattle.path_factors.proofs.Words.{◌≡◌, ◌∙◌, length, ap, sym, arith, links_of, heads_packed}
 use Rattle.path_factors.proofs.Packing.{rows_count}
 use Rattle.path_factors.proofs.Setting.{blank}
 use Rattle.path_factors.proofs.packed.PackedRows.blank.Goals as goal

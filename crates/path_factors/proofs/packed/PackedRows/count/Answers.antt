@@ -1,6 +1,4 @@
-use Rattle.std.proofs.Common.{List, ℕ, length, ap, arith}
-use Rattle.path_factors.specs.Factors.{row_of}
-use Rattle.path_factors.proofs.HeadRows.{row_heads_count}
+use Rattle.path_factors.proofs.Words.{List, ℕ, length, ap, arith, row_of, row_heads_count}
 use Rattle.path_factors.proofs.packed.PackedRows.count.Goals as goal
 
 pub returns-clause-leaving : goal.returns-clause-leaving

@@ -1,9 +1,4 @@
-use Rattle.std.proofs.Common.{◌∙◌, List, ℕ, length, ap, arith, sym}
-use Rattle.path_factors.specs.Edges.{LinkRows}
-use Rattle.path_factors.specs.Factors.{row_of}
-use Rattle.path_factors.specs.Heads.{heads_in}
-use Rattle.path_factors.specs.Packing.{rows_between}
-use Rattle.path_factors.proofs.HeadRows.{heads_packed}
+use Rattle.path_factors.proofs.Words.{◌∙◌, List, ℕ, length, ap, arith, sym, LinkRows, row_of, heads_in, rows_between, heads_packed}
 use Rattle.path_factors.proofs.Packing.{row_inside}
 use Rattle.path_factors.proofs.packed.PackedRows.heads.Goals as goal
 

@@ -1,9 +1,6 @@
-use Rattle.std.proofs.Common.{◌+◌, ◌∙◌, set, arith, ap, sym}
+use Rattle.path_factors.proofs.Words.{◌+◌, ◌∙◌, set, arith, ap, sym, LinkRows, heads_in, heads_packed}
 use Rattle.std.proofs.lemmas.List.{length-set}
-use Rattle.path_factors.specs.Edges.{LinkRows}
-use Rattle.path_factors.specs.Heads.{heads_in}
 use Rattle.path_factors.proofs.Packing.{row_inside, riser_inside}
-use Rattle.path_factors.proofs.HeadRows.{heads_packed}
 use Rattle.path_factors.proofs.Setting.{edge_improved}
 use Rattle.path_factors.proofs.packed.PackedRows.improve.Goals as goal
 

@@ -1,7 +1,4 @@
-use Rattle.std.proofs.Common.{◌∙◌, ap, sym}
-use Rattle.path_factors.specs.Edges.{LinkRows}
-use Rattle.path_factors.specs.Heads.{heads_in}
-use Rattle.path_factors.proofs.HeadRows.{heads_packed}
+use Rattle.path_factors.proofs.Words.{◌∙◌, ap, sym, LinkRows, heads_in, heads_packed}
 use Rattle.path_factors.proofs.packed.PackedRows.into_heads.Goals as goal
 
 pub returns : goal.returns

@@ -1,9 +1,5 @@
-use Rattle.std.proofs.Common.{◌≡◌, ◌∙◌, length, ap, arith, sym, subst}
-use Rattle.path_factors.specs.Edges.{LinkRows}
-use Rattle.path_factors.specs.Heads.{heads_in}
-use Rattle.path_factors.specs.Packing.{links_of}
+use Rattle.path_factors.proofs.Words.{◌≡◌, ◌∙◌, length, ap, arith, sym, subst, LinkRows, heads_in, links_of, heads_packed}
 use Rattle.path_factors.proofs.Packing.{rows_count}
-use Rattle.path_factors.proofs.HeadRows.{heads_packed}
 use Rattle.path_factors.proofs.packed.PackedRows.len.Goals as goal
 
 pub overflow_sub-result : goal.overflow_sub-result

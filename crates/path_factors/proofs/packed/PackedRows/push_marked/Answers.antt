@@ -1,12 +1,4 @@
-use Rattle.std.proofs.Common.{◌≡◌, ◌<◌, ◌∙◌, ◌++◌, ◌∷◌, [], List, ℕ, true, false, length, get_or, take, append-nil, append_assoc, ap, arith, sym}
-use Rattle.std.proofs.lemmas.Grind.{common_steps}
-use Rattle.std.proofs.lemmas.List.{length-append, take_all}
-use Rattle.path_factors.specs.declared.link.Link.{Link}
-use Rattle.path_factors.specs.Asking.{is_on}
-use Rattle.path_factors.specs.Factors.{row_of}
-use Rattle.path_factors.specs.Packing.{links_of}
-use Rattle.path_factors.specs.Pruning.{marked}
-use Rattle.path_factors.proofs.HeadRows.{head_at, row_heads_count}
+use Rattle.path_factors.proofs.Words.{◌≡◌, ◌<◌, ◌∙◌, ◌++◌, ◌∷◌, [], List, ℕ, true, false, length, get_or, take, append-nil, append_assoc, ap, arith, sym, common_steps, length-append, take_all, Link, is_on, row_of, links_of, marked, head_at, row_heads_count}
 use Rattle.path_factors.proofs.Packing.{links_count, links-push, packed_as, packed_links, pushed}
 use Rattle.path_factors.proofs.Pruning.{marked_more, marked_same}
 use Rattle.path_factors.proofs.packed.PackedRows.push_marked.Goals as goal

@@ -1,7 +1,5 @@
-use Rattle.std.proofs.Common.{◌≡◌, ◌++◌, take}
-use Rattle.path_factors.specs.Factors.{row_of}
+use Rattle.path_factors.proofs.Words.{◌≡◌, ◌++◌, take, row_of, marked}
 use Rattle.path_factors.specs.Packing.{AreFields, links_of}
-use Rattle.path_factors.specs.Pruning.{marked}
 use Rattle.path_factors.proofs.packed.PackedRows.push_marked.Given as goal
 
 abbrev pub invariant-loop-j : goal.invariant-loop-j

@@ -1,6 +1,4 @@
-use Rattle.std.proofs.Common.{◌≡◌, ◌∙◌, ap, sym, subst}
-use Rattle.path_factors.specs.Factors.{IsWorthOfWalk, LeadsNoWorse, vertex_at, place_of}
-use Rattle.path_factors.specs.Heads.{IsHead, IsJoined, heads_in}
+use Rattle.path_factors.proofs.Words.{◌≡◌, ◌∙◌, ap, sym, subst, IsWorthOfWalk, LeadsNoWorse, vertex_at, place_of, IsHead, IsJoined, heads_in}
 use Rattle.path_factors.proofs.Connecting.{worth_of_none}
 use Rattle.path_factors.proofs.weighing.Weighing.add.Goals as goal
 

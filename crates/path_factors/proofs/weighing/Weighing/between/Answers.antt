@@ -1,6 +1,4 @@
-use Rattle.std.proofs.Common.{◌≡◌, ℕ, ◌<◌, ◌∙◌, List, length, get_or, ap, arith, sym, subst}
-use Rattle.path_factors.specs.Factors.{row_of}
-use Rattle.path_factors.specs.Heads.{heads_in}
+use Rattle.path_factors.proofs.Words.{◌≡◌, ℕ, ◌<◌, ◌∙◌, List, length, get_or, ap, arith, sym, subst, row_of, heads_in}
 use Rattle.path_factors.proofs.HeadRows.{row_heads_count, near_inside, seek_between, ahead_more}
 use Rattle.path_factors.proofs.weighing.Weighing.between.Goals as goal
 

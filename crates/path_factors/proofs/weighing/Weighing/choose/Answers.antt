@@ -1,9 +1,5 @@
-use Rattle.std.proofs.Common.{inl, inr, length, ap, arith}
-use Rattle.path_factors.specs.Factors.{row_of}
-use Rattle.path_factors.specs.Edges.{rising}
-use Rattle.path_factors.specs.Heads.{heads_in}
+use Rattle.path_factors.proofs.Words.{inl, inr, length, ap, arith, row_of, rising, heads_in, head_at, row_heads_count}
 use Rattle.path_factors.proofs.Eliminating.{edge_rises}
-use Rattle.path_factors.proofs.HeadRows.{head_at, row_heads_count}
 use Rattle.path_factors.proofs.Pruning.{ends_lead}
 use Rattle.path_factors.proofs.weighing.Weighing.choose.Goals as goal
 

@@ -1,6 +1,4 @@
-use Rattle.std.proofs.Common.{◌≡◌, ◌<◌, length}
-use Rattle.path_factors.specs.Heads.{AreAhead, heads_in}
-use Rattle.path_factors.specs.Pruning.{DoForAll}
+use Rattle.path_factors.proofs.Words.{◌≡◌, ◌<◌, length, AreAhead, heads_in, DoForAll}
 use Rattle.path_factors.proofs.weighing.Weighing.choose_after.Given as goal
 
 abbrev pub invariant-loop-j : goal.invariant-loop-j

@@ -1,7 +1,4 @@
-use Rattle.std.proofs.Common.{◌≡◌, ◌<◌, ◌∙◌, List, length, get_or, ap, arith, sym}
-use Rattle.std.proofs.lemmas.List.{get_or_default}
-use Rattle.path_factors.specs.declared.link.Link.{Link}
-use Rattle.path_factors.specs.Factors.{row_of}
+use Rattle.path_factors.proofs.Words.{◌≡◌, ◌<◌, ◌∙◌, List, length, get_or, ap, arith, sym, get_or_default, Link, row_of}
 use Rattle.path_factors.proofs.Eliminating.{aligned_count, aligned_place}
 use Rattle.path_factors.proofs.weighing.Weighing.edge.Goals as goal
 

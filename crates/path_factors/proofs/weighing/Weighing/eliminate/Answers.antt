@@ -1,7 +1,4 @@
-use Rattle.std.proofs.Common.{ℕ, ◌+◌, ◌<◌, ◌∙◌, arith, subst}
-use Rattle.path_factors.specs.declared.edge.Edge.{Edge}
-use Rattle.path_factors.specs.Eliminating.{Improves}
-use Rattle.path_factors.specs.Edges.{IsEdgeAt, AreJoined}
+use Rattle.path_factors.proofs.Words.{ℕ, ◌+◌, ◌<◌, ◌∙◌, arith, subst, Edge, Improves, IsEdgeAt, AreJoined}
 use Rattle.path_factors.proofs.Eliminating.{eliminated_more, eliminated_all}
 use Rattle.path_factors.proofs.weighing.Weighing.eliminate.Goals as goal
 

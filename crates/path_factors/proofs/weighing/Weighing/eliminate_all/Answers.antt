@@ -1,6 +1,4 @@
-use Rattle.std.proofs.Common.{◌≡◌, ◌+◌, ◌∙◌, arith, subst}
-use Rattle.path_factors.specs.Factors.{IsClosedAt}
-use Rattle.path_factors.specs.Eliminating.{Improves}
+use Rattle.path_factors.proofs.Words.{◌≡◌, ◌+◌, ◌∙◌, arith, subst, IsClosedAt, Improves}
 use Rattle.path_factors.proofs.Eliminating.{eliminated_to_more}
 use Rattle.path_factors.proofs.weighing.Weighing.eliminate_all.Goals as goal
 

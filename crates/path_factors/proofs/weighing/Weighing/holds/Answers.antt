@@ -1,8 +1,4 @@
-use Rattle.std.proofs.Common.{subst}
-use Rattle.path_factors.specs.Edges.{AreAligned}
-use Rattle.path_factors.specs.Eliminating.{IsBegun}
-use Rattle.path_factors.specs.Heads.{IsOutline, heads_in}
-use Rattle.path_factors.specs.State.{FactorState}
+use Rattle.path_factors.proofs.Words.{subst, AreAligned, IsBegun, IsOutline, heads_in, FactorState}
 use Rattle.path_factors.proofs.HeadRows.{aligned_of_heads}
 use Rattle.path_factors.proofs.weighing.Weighing.holds.Goals as goal
 

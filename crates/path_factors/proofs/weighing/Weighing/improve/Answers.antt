@@ -1,12 +1,5 @@
-use Rattle.std.proofs.Common.{◌≡◌, ◌<◌, ◌∙◌, length, get_or, arith, sym, subst}
-use Rattle.std.proofs.lemmas.List.{get_or_default}
-use Rattle.std.specs.Arc.{arc_value}
-use Rattle.path_factors.specs.Factors.{IsWorthOfWalk, row_of, vertex_at}
-use Rattle.path_factors.specs.Eliminating.{Improves}
-use Rattle.path_factors.specs.Heads.{IsOutline, heads_in}
-use Rattle.path_factors.specs.State.{FactorState}
+use Rattle.path_factors.proofs.Words.{◌≡◌, ◌<◌, ◌∙◌, length, get_or, arith, sym, subst, get_or_default, arc_value, IsWorthOfWalk, row_of, vertex_at, Improves, IsOutline, heads_in, FactorState, row_heads_count}
 use Rattle.path_factors.proofs.Connecting.{both_begun, both_improve}
-use Rattle.path_factors.proofs.HeadRows.{row_heads_count}
 use Rattle.path_factors.proofs.weighing.Weighing.improve.Goals as goal
 
 pub improve-requires-clause-index : goal.improve-requires-clause-index

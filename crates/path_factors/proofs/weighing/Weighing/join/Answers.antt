@@ -1,5 +1,4 @@
-use Rattle.std.proofs.Common.{◌≡◌, ◌∙◌, ap, arith, inl, inr, sym, subst}
-use Rattle.path_factors.specs.Factors.{IsWorthOfWalk, LeadsNoWorse, vertex_at}
+use Rattle.path_factors.proofs.Words.{◌≡◌, ◌∙◌, ap, arith, inl, inr, sym, subst, IsWorthOfWalk, LeadsNoWorse, vertex_at}
 use Rattle.path_factors.proofs.Connecting.{worth_of_both}
 use Rattle.path_factors.proofs.Eliminating.{edge_rises, edge_falls}
 use Rattle.path_factors.proofs.weighing.Weighing.join.Goals as goal

@@ -1,7 +1,4 @@
-use Rattle.std.proofs.Common.{◌≡◌, ℕ, ◌+◌, ◌∙◌, subst, arith}
-use Rattle.road_graph.specs.GraphData.{HasArc, arc_of}
-use Rattle.path_factors.specs.Factors.{LeadsNoWorse, place_of}
-use Rattle.path_factors.specs.Eliminating.{Improves}
+use Rattle.path_factors.proofs.Words.{◌≡◌, ℕ, ◌+◌, ◌∙◌, subst, arith, HasArc, arc_of, LeadsNoWorse, place_of, Improves}
 use Rattle.path_factors.proofs.Loading.{loaded_to_more, loaded_to_all}
 use Rattle.path_factors.proofs.weighing.Weighing.load.Goals as goal
 

@@ -1,9 +1,4 @@
-use Rattle.std.proofs.Common.{◌≡◌, ◌∙◌, List, ℕ, sym, subst}
-use Rattle.road_graph.specs.GraphData.{ListsRoadsFrom, HasVertex}
-use Rattle.path_factors.specs.Factors.{LeadsNoWorse, IsWorthOfWalk, place_of}
-use Rattle.path_factors.specs.Eliminating.{Improves}
-use Rattle.path_factors.specs.Heads.{IsHead, IsJoined, heads_in}
-use Rattle.path_factors.specs.State.{FactorState}
+use Rattle.path_factors.proofs.Words.{◌≡◌, ◌∙◌, List, ℕ, sym, subst, ListsRoadsFrom, HasVertex, LeadsNoWorse, IsWorthOfWalk, place_of, Improves, IsHead, IsJoined, heads_in, FactorState}
 use Rattle.path_factors.proofs.Loading.{loaded_more, loaded_all, road_inside, road_worth}
 use Rattle.path_factors.proofs.Joining.{at, road_joined}
 use Rattle.path_factors.proofs.weighing.Weighing.load_from.Goals as goal

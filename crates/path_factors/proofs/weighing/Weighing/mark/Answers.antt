@@ -1,6 +1,4 @@
-use Rattle.std.proofs.Common.{◌≡◌, ◌∙◌, ◌++◌, List, Bool, length, take, drop, ap, arith, sym, subst}
-use Rattle.std.proofs.lemmas.Grind.{common_steps}
-use Rattle.path_factors.specs.Pruning.{DoForAll}
+use Rattle.path_factors.proofs.Words.{◌≡◌, ◌∙◌, ◌++◌, List, Bool, length, take, drop, ap, arith, sym, subst, common_steps, DoForAll}
 use Rattle.path_factors.proofs.weighing.Weighing.mark.Goals as goal
 
 pub choose_after-requires-clause-serve : goal.choose_after-requires-clause-serve

@@ -1,5 +1,4 @@
-use Rattle.std.proofs.Common.{◌≡◌, length}
-use Rattle.path_factors.specs.Pruning.{DoForAll}
+use Rattle.path_factors.proofs.Words.{◌≡◌, length, DoForAll}
 use Rattle.path_factors.proofs.weighing.Weighing.mark.Given as goal
 
 abbrev pub invariant-loop-i : goal.invariant-loop-i

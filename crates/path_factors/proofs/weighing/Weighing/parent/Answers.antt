@@ -1,6 +1,4 @@
-use Rattle.std.proofs.Common.{◌≡◌, ◌∙◌, ℕ, List, length, get_or, ap, arith, sym}
-use Rattle.path_factors.specs.Factors.{row_of}
-use Rattle.path_factors.specs.Heads.{heads_in}
+use Rattle.path_factors.proofs.Words.{◌≡◌, ◌∙◌, ℕ, List, length, get_or, ap, arith, sym, row_of, heads_in}
 use Rattle.path_factors.proofs.Trees.{first_is_parent}
 use Rattle.path_factors.proofs.weighing.Weighing.parent.Goals as goal
 

@@ -1,7 +1,4 @@
-use Rattle.std.proofs.Common.{◌≡◌, ◌+◌, ◌++◌, ◌∷◌, [], arith, sym, subst}
-use Rattle.std.proofs.lemmas.Grind.{common_steps}
-use Rattle.path_factors.specs.Heads.{heads_in}
-use Rattle.path_factors.specs.Tree.{AreParentsTo}
+use Rattle.path_factors.proofs.Words.{◌≡◌, ◌+◌, ◌++◌, ◌∷◌, [], arith, sym, subst, common_steps, heads_in, AreParentsTo}
 use Rattle.path_factors.proofs.Trees.{parents_more}
 use Rattle.path_factors.proofs.weighing.Weighing.parents.Goals as goal
 

@@ -1,5 +1,4 @@
-use Rattle.path_factors.specs.Heads.{heads_in}
-use Rattle.path_factors.specs.Tree.{AreParentsTo}
+use Rattle.path_factors.proofs.Words.{heads_in, AreParentsTo}
 use Rattle.path_factors.proofs.weighing.Weighing.parents.Given as goal
 
 abbrev pub invariant-loop-v : goal.invariant-loop-v

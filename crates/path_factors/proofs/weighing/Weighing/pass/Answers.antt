@@ -1,10 +1,5 @@
-use Rattle.std.proofs.Common.{◌≡◌, ℕ, ◌+◌, ◌<◌, ◌∙◌, List, length, get_or, ap, arith, sym, subst}
-use Rattle.path_factors.specs.Eliminating.{Improves}
-use Rattle.path_factors.specs.Edges.{rising, AreJoined}
-use Rattle.path_factors.specs.Factors.{row_of}
-use Rattle.path_factors.specs.Heads.{AreAhead, heads_in}
+use Rattle.path_factors.proofs.Words.{◌≡◌, ℕ, ◌+◌, ◌<◌, ◌∙◌, List, length, get_or, ap, arith, sym, subst, Improves, rising, AreJoined, row_of, AreAhead, heads_in, head_at}
 use Rattle.path_factors.proofs.Eliminating.{passed_none, passed_more, edge_kept}
-use Rattle.path_factors.proofs.HeadRows.{head_at}
 use Rattle.path_factors.proofs.weighing.Weighing.pass.Goals as goal
 
 pub loop-j-init : goal.loop-j-init

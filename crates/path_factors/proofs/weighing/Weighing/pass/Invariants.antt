@@ -1,6 +1,4 @@
-use Rattle.std.proofs.Common.{◌<◌}
-use Rattle.path_factors.specs.Heads.{AreAhead, heads_in}
-use Rattle.path_factors.specs.State.{IsSameState}
+use Rattle.path_factors.proofs.Words.{◌<◌, AreAhead, heads_in, IsSameState}
 use Rattle.path_factors.proofs.Eliminating.{Passed}
 use Rattle.path_factors.proofs.weighing.Weighing.pass.Given as goal
 

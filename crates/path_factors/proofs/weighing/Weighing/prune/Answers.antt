@@ -1,8 +1,4 @@
-use Rattle.std.proofs.Common.{sym, subst}
-use Rattle.path_algebra.specs.Algebra.{IsLawful}
-use Rattle.path_factors.specs.Heads.{heads_in}
-use Rattle.path_factors.specs.State.{FactorState}
-use Rattle.path_factors.specs.Tree.{AreParentsTo, IsFactored}
+use Rattle.path_factors.proofs.Words.{sym, subst, IsLawful, heads_in, FactorState, AreParentsTo, IsFactored}
 use Rattle.path_factors.proofs.Pruning.{whole_is_factored, pruned_is_factored}
 use Rattle.path_factors.proofs.weighing.Weighing.prune.Goals as goal
 use Rattle.path_factors.proofs.weighing.Weighing.prune.Goals.{in-All, in-Needed+in_ok-rows-in-Needed}

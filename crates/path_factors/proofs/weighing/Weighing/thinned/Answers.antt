@@ -1,7 +1,4 @@
-use Rattle.std.proofs.Common.{◌≡◌, ◌∙◌, ◌++◌, ◌∷◌, [], List, Bool, ap, arith, subst}
-use Rattle.path_algebra.specs.Algebra.{IsLawful}
-use Rattle.path_factors.specs.Factors.{row_of}
-use Rattle.path_factors.specs.Pruning.{AreThinTo, marked}
+use Rattle.path_factors.proofs.Words.{◌≡◌, ◌∙◌, ◌++◌, ◌∷◌, [], List, Bool, ap, arith, subst, IsLawful, row_of, AreThinTo, marked}
 use Rattle.path_factors.proofs.Pruning.{thin_none, thin_more}
 use Rattle.path_factors.proofs.weighing.Weighing.thinned.Goals as goal
 

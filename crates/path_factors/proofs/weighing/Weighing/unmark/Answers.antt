@@ -1,11 +1,5 @@
-use Rattle.std.proofs.Common.{ℕ, get_or, subst}
-use Rattle.path_algebra.specs.Algebra.{IsLawful}
-use Rattle.path_factors.specs.Factors.{Leads, row_of}
-use Rattle.path_factors.specs.Edges.{rising}
-use Rattle.path_factors.specs.Heads.{heads_in}
-use Rattle.path_factors.specs.Pruning.{IsBypassed}
+use Rattle.path_factors.proofs.Words.{ℕ, get_or, subst, IsLawful, Leads, row_of, rising, heads_in, IsBypassed, head_at}
 use Rattle.path_factors.proofs.Eliminating.{edge_rises}
-use Rattle.path_factors.proofs.HeadRows.{head_at}
 use Rattle.path_factors.proofs.Pruning.{do_without}
 use Rattle.path_factors.proofs.weighing.Weighing.unmark.Goals as goal
 

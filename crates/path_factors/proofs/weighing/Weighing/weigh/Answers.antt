@@ -1,7 +1,4 @@
-use Rattle.std.proofs.Common.{◌∙◌, sym, subst}
-use Rattle.path_algebra.specs.Algebra.{IsOrder}
-use Rattle.path_factors.specs.Factors.{CoversArcs}
-use Rattle.path_factors.specs.Eliminating.{AreClosedTo}
+use Rattle.path_factors.proofs.Words.{◌∙◌, sym, subst, IsOrder, CoversArcs, AreClosedTo}
 use Rattle.path_factors.proofs.Loading.{still_covers}
 use Rattle.path_factors.proofs.weighing.Weighing.weigh.Goals as goal
 

@@ -1,7 +1,4 @@
-use Rattle.std.proofs.Common.{◌≡◌, ◌∙◌, sym, subst, Some}
-use Rattle.path_algebra.specs.Walks.{label_of}
-use Rattle.path_plain.specs.Searching.{SearchState}
-use Rattle.path_plain.specs.UpTo.{IsPast}
+use Rattle.path_plain.proofs.Words.{◌≡◌, ◌∙◌, sym, subst, Some, label_of, SearchState, IsPast}
 use Rattle.path_plain.proofs.UpTo.{queue_past, not_true}
 use Rattle.path_plain.proofs.search.Search.is_past.Goals as goal
 

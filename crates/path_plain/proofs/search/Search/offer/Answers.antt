@@ -1,6 +1,4 @@
-use Rattle.std.proofs.Common.{◌≡◌, ℕ, ◌≤◌, ◌-◌, ◌∙◌, arith, ap, refl, sym}
-use Rattle.path_algebra.specs.Walks.{label_of}
-use Rattle.path_plain.specs.Noting.{noted_if}
+use Rattle.path_plain.proofs.Words.{◌≡◌, ℕ, ◌≤◌, ◌-◌, ◌∙◌, arith, ap, refl, sym, label_of, noted_if}
 use Rattle.path_plain.proofs.Noting.{on_noted}
 use Rattle.path_plain.proofs.Steps.{search_notes, search_offers}
 use Rattle.path_plain.proofs.Waiting.{worse_than_offered, none_is_worse}

@@ -1,8 +1,5 @@
-use Rattle.std.proofs.Common.{◌≡◌, [], length, drop, arith, sym, ap, subst, ◌∙◌}
-use Rattle.std.proofs.lemmas.Grind.{common_steps}
+use Rattle.path_plain.proofs.Words.{◌≡◌, [], length, drop, arith, sym, ap, subst, ◌∙◌, common_steps, GraphData, Relaxes}
 use Rattle.std.proofs.Math.ListN.{drop_of_length-le}
-use Rattle.road_graph.specs.GraphData.{GraphData}
-use Rattle.path_plain.specs.Searching.{Relaxes}
 use Rattle.path_plain.proofs.Offering.{relaxed_by_roads, relaxed_is, head_in, roads_short}
 use Rattle.path_plain.proofs.search.Search.relax.Goals as goal
 

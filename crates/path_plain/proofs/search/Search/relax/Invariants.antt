@@ -1,5 +1,4 @@
-use Rattle.std.proofs.Common.{◌≡◌, ◌+◌, ◌≤◌, drop}
-use Rattle.path_plain.specs.Searching.{IsSameSearch}
+use Rattle.path_plain.proofs.Words.{◌≡◌, ◌+◌, ◌≤◌, drop, IsSameSearch}
 use Rattle.path_plain.proofs.Offering.{relaxed_by_roads}
 use Rattle.path_plain.proofs.search.Search.relax.Given as goal
 

@@ -1,5 +1,4 @@
-use Rattle.std.proofs.Common.{◌≡◌, subst}
-use Rattle.path_algebra.specs.Algebra.{IsLawful}
+use Rattle.path_plain.proofs.Words.{◌≡◌, subst, IsLawful}
 use Rattle.path_plain.proofs.Running.{of_same, stays, nearer, runs_on}
 use Rattle.path_plain.proofs.search.Search.run.Goals as goal
 

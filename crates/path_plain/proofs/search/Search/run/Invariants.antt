@@ -1,7 +1,5 @@
-use Rattle.std.proofs.Common.{◌+◌, ◌*◌, length}
-use Rattle.path_plain.specs.Searching.{IsOfSame}
+use Rattle.path_plain.proofs.Words.{◌+◌, ◌*◌, length, IsOfSame, StaysBetween}
 use Rattle.path_plain.proofs.Rounds.{unsettled}
-use Rattle.path_plain.specs.Rounds.{StaysBetween}
 use Rattle.path_plain.proofs.search.Search.run.Given as goal
 
 abbrev pub invariant-loop : goal.invariant-loop

@@ -1,5 +1,4 @@
-use Rattle.std.proofs.Common.{◌≡◌, subst, refl, Some}
-use Rattle.path_algebra.specs.Algebra.{IsLawful}
+use Rattle.path_plain.proofs.Words.{◌≡◌, subst, refl, Some, IsLawful}
 use Rattle.path_plain.proofs.Running.{of_same, stays, nearer, runs_on}
 use Rattle.path_plain.proofs.search.Search.run_unless.Goals as goal
 

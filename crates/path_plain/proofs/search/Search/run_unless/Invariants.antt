@@ -1,8 +1,6 @@
-use Rattle.std.proofs.Common.{◌≡◌, ◌+◌, ◌*◌, length, Some}
+use Rattle.path_plain.proofs.Words.{◌≡◌, ◌+◌, ◌*◌, length, Some, IsOfSame, StaysBetween}
 use Rattle.path_plain.specs.Halting.{CanHalt}
-use Rattle.path_plain.specs.Searching.{IsOfSame}
 use Rattle.path_plain.proofs.Rounds.{unsettled}
-use Rattle.path_plain.specs.Rounds.{StaysBetween}
 use Rattle.path_plain.proofs.search.Search.run_unless.Given as goal
 
 abbrev pub invariant-loop-halt : goal.invariant-loop-halt

@@ -1,6 +1,4 @@
-use Rattle.std.proofs.Common.{◌∙◌, sym, subst, arith, true, false}
-use Rattle.std.proofs.lemmas.List.{get_or_default}
-use Rattle.path_plain.specs.Searching.{SearchState, Advances}
+use Rattle.path_plain.proofs.Words.{◌∙◌, sym, subst, arith, true, false, get_or_default, SearchState, Advances}
 use Rattle.path_plain.proofs.Steps.{top_place, search_drops, search_settles, settles_one}
 use Rattle.path_plain.proofs.search.Search.settle_next.Goals as goal
 

@@ -1,8 +1,5 @@
-use Rattle.std.proofs.Common.{◌≡◌, ℕ, ◌≤◌, sym, subst, take, arith}
+use Rattle.path_plain.proofs.Words.{◌≡◌, ℕ, ◌≤◌, sym, subst, take, arith, GraphData, IsGraph, offered, Between}
 use Rattle.std.proofs.lemmas.List.{take_all}
-use Rattle.road_graph.specs.GraphData.{GraphData, IsGraph}
-use Rattle.path_algebra.specs.Walks.{offered}
-use Rattle.path_plain.specs.Rounds.{Between}
 use Rattle.path_plain.proofs.Known.{opening_more}
 use Rattle.path_plain.proofs.Rounds.{starting}
 use Rattle.path_plain.proofs.Running.{same_search}

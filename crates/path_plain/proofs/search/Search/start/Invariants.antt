@@ -1,6 +1,4 @@
-use Rattle.std.proofs.Common.{take}
-use Rattle.path_plain.specs.Opening.{AreOpening}
-use Rattle.path_plain.specs.Searching.{IsSameSearch}
+use Rattle.path_plain.proofs.Words.{take, AreOpening, IsSameSearch}
 use Rattle.path_plain.proofs.search.Search.start.Given as goal
 
 abbrev pub invariant-loop-source : goal.invariant-loop-source

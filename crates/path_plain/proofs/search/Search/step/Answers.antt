@@ -1,6 +1,5 @@
-use Rattle.std.proofs.Common.{◌≡◌, subst}
+use Rattle.path_plain.proofs.Words.{◌≡◌, subst, IsLawful}
 use Rattle.std.proofs.lemmas.Result.{IfOk-weaker}
-use Rattle.path_algebra.specs.Algebra.{IsLawful}
 use Rattle.path_plain.proofs.Running.{stepped, stops}
 use Rattle.path_plain.proofs.search.Search.step.Goals as goal
 

@@ -1,7 +1,4 @@
-use Rattle.std.proofs.Common.{◌≡◌, ◌∷◌, [], ◌∙◌, sym, subst, Some}
-use Rattle.road_graph.specs.GraphData.{GraphData}
-use Rattle.path_plain.specs.Rounds.{IsSearchedAsFar}
-use Rattle.path_plain.specs.UpTo.{AreBestUpTo}
+use Rattle.path_plain.proofs.Words.{◌≡◌, ◌∷◌, [], ◌∙◌, sym, subst, Some, GraphData, IsSearchedAsFar, AreBestUpTo}
 use Rattle.path_plain.proofs.Running.{searched, kept_from}
 use Rattle.path_plain.proofs.searcher.Searcher.solve_to.Goals as goal
 

@@ -1,6 +1,4 @@
-use Rattle.std.proofs.Common.{◌<◌, arith, ◌∙◌, ap, refl, sym, subst}
-use Rattle.post_floor.specs.Boxes.{empty, origin}
-use Rattle.post_floor.specs.Floor.{read_claims}
+use Rattle.post_floor.proofs.Words.{◌<◌, arith, ◌∙◌, ap, refl, sym, subst, empty, origin, read_claims}
 use Rattle.post_floor.specs.Plays.{at_word, end_read, ClearOutcome}
 use Rattle.post_floor.proofs.Claiming.{first_empty}
 use Rattle.post_floor.proofs.Seated.{seated, inside, slot_at, row_next, moved_on, read_next_at, read_between, read_claim, read_ring, read_less, still_at, placed, released, renamed}

@@ -1,8 +1,5 @@
 use Rattle.std.proofs.Common.{map, rules, arith, ◌≡◌, ◌<◌, ℕ, ap, sym, ◌∙◌, subst, IsTrue}
-use mathlib.Core.Option.{some}
-use Rattle.shard_store.specs.Totals.{total, is}
-use Rattle.post_floor.specs.Floor.{FinalView}
-use Rattle.post_floor.specs.Closing.{AllSeated}
+use Rattle.post_floor.proofs.Words.{some, total, is, FinalView, AllSeated}
 use Rattle.post_floor.proofs.Closing.{settles, join_last}
 use Rattle.post_floor.proofs.floor.Floor.close.Goals as goal
 

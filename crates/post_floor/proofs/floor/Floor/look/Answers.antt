@@ -1,7 +1,4 @@
-use Rattle.std.proofs.Common.{refl, ℕ, arith, inl, inr}
-use Rattle.std.proofs.lemmas.Bool.{cases_eq}
-use Rattle.std.proofs.lemmas.Grind.{common_steps}
-use Rattle.post_floor.specs.Boxes.{done_now}
+use Rattle.post_floor.proofs.Words.{refl, ℕ, arith, inl, inr, cases_eq, common_steps, done_now}
 use Rattle.post_floor.proofs.Seated.{seated, still, placed}
 use Rattle.post_floor.proofs.floor.Floor.look.Goals as goal
 

@@ -1,12 +1,5 @@
-use Rattle.std.proofs.Common.{rules, arith, ◌<◌, ◌+◌, [], length, map, ap, sym, ◌∙◌, subst, replicate}
-use Rattle.shard_store.specs.Setup.{IsPlanned}
-use Rattle.shard_part.specs.Opening.{opened_parts}
+use Rattle.post_floor.proofs.Words.{rules, arith, ◌<◌, ◌+◌, [], length, map, ap, sym, ◌∙◌, subst, replicate, IsPlanned, opened_parts, box_count, FloorInvariant, knows, seat_of, length-replicate}
 use Rattle.atomic_table.specs.Table.{opening}
-use Rattle.post_floor.specs.Boxes.{box_count}
-use Rattle.post_floor.specs.Floor.{FloorInvariant}
-use Rattle.post_floor.specs.Seats.{knows}
-use Rattle.post_floor.specs.Data.{seat_of}
-use Rattle.std.proofs.lemmas.List.{length-replicate}
 use Rattle.post_floor.proofs.Opening.{opens}
 use Rattle.post_floor.proofs.Opened.{opened_first, opened_long, all_opened}
 use Rattle.post_floor.proofs.floor.Floor.open.Goals as goal

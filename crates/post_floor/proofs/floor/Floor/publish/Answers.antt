@@ -1,7 +1,4 @@
-use Rattle.std.proofs.Common.{◌<◌, arith, ◌∙◌, ap, sym, subst}
-use Rattle.post_floor.specs.Boxes.{full}
-use Rattle.post_floor.specs.Floor.{fill_claims}
-use Rattle.post_floor.specs.Plays.{at_word, end_fill}
+use Rattle.post_floor.proofs.Words.{◌<◌, arith, ◌∙◌, ap, sym, subst, full, fill_claims, at_word, end_fill}
 use Rattle.post_floor.proofs.Claiming.{first_empty}
 use Rattle.post_floor.proofs.Seated.{seated, inside, slot_at, row_next, moved_on, fill_next, fill_between, fill_claim, fill_ring, fill_less, still_at, placed, released, renamed}
 use Rattle.post_floor.proofs.floor.Floor.publish.Goals as goal

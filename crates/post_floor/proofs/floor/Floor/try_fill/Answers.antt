@@ -1,6 +1,4 @@
-use Rattle.std.proofs.Common.{rules, arith, ◌∙◌, sym, refl}
-use Rattle.post_floor.specs.Boxes.{empty}
-use Rattle.post_floor.specs.Plays.{at_word, begin_fill}
+use Rattle.post_floor.proofs.Words.{rules, arith, ◌∙◌, sym, refl, empty, at_word, begin_fill}
 use Rattle.post_floor.proofs.Seated.{seated, inside, slot_at, fill_next_at, fill_end, still, placed, claimed, renamed}
 use Rattle.post_floor.proofs.floor.Floor.try_fill.Goals as goal
 

@@ -1,6 +1,4 @@
-use Rattle.std.proofs.Common.{rules, arith, ◌∙◌, ap, sym, refl}
-use Rattle.post_floor.specs.Boxes.{full}
-use Rattle.post_floor.specs.Plays.{at_word, begin_read}
+use Rattle.post_floor.proofs.Words.{rules, arith, ◌∙◌, ap, sym, refl, full, at_word, begin_read}
 use Rattle.post_floor.proofs.Seated.{seated, inside, slot_at, read_next_at, read_between, read_end, still, placed, claimed, renamed}
 use Rattle.post_floor.proofs.floor.Floor.try_read.Goals as goal
 

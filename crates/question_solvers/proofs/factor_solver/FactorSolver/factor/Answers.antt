@@ -1,7 +1,5 @@
-use Rattle.std.proofs.Common.{◌≡◌, ◌∙◌, ℕ, Some, ap, sym}
+use Rattle.question_solvers.proofs.Words.{◌≡◌, ◌∙◌, ℕ, Some, ap, sym, cost_of, CountsFit, Heavy}
 use Rattle.std.specs.Option.{option_map}
-use Rattle.path_algebra.specs.Counted.{cost_of, CountsFit}
-use Rattle.question_solvers.specs.declared.factor_solver.NoFactors.TheVariants.{Heavy}
 use Rattle.question_solvers.proofs.FactorCosts.{recorded}
 use Rattle.question_solvers.proofs.factor_solver.FactorSolver.factor.Goals as goal
 

@@ -1,6 +1,4 @@
-use Rattle.std.proofs.Common.{◌≡◌, length, subst, sym}
-use Rattle.std.specs.Option.{ForSome}
-use Rattle.road_graph.specs.GraphData.{GraphData}
+use Rattle.question_solvers.proofs.Words.{◌≡◌, length, subst, sym, ForSome, GraphData}
 use Rattle.question_solvers.proofs.FactorCosts.{kept}
 use Rattle.question_solvers.proofs.factor_solver.FactorSolver.new.Goals as goal
 

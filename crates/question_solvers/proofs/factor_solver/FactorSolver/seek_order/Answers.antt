@@ -1,6 +1,4 @@
-use Rattle.std.proofs.Common.{◌≡◌, ℕ, length}
-use Rattle.path_algebra.specs.Counted.{cost_of, CountsFit}
-use Rattle.question_solvers.specs.declared.factor_solver.NoFactors.TheVariants.{Heavy}
+use Rattle.question_solvers.proofs.Words.{◌≡◌, ℕ, length, cost_of, CountsFit, Heavy}
 use Rattle.question_solvers.proofs.FactorCosts.{recorded}
 use Rattle.question_solvers.proofs.factor_solver.FactorSolver.seek_order.Goals as goal
 

@@ -1,7 +1,5 @@
-use Rattle.std.proofs.Common.{◌∙◌}
+use Rattle.road_files.proofs.Words.{◌∙◌, bundle_with, bundle_rules, bundle_so_far}
 use Rattle.text_lines.proofs.ParserLaws.{on_ok, gives_taken, gives_broken}
-use Rattle.road_files.specs.BundleFiles.{bundle_with, bundle_rules}
-use Rattle.road_files.specs.BundleTakes.{bundle_so_far}
 use Rattle.road_files.proofs.BundleParserLaws.{kept_rule}
 use Rattle.road_files.proofs.bundle_parser.BundleParserLineParser.line.Goals as goal
 

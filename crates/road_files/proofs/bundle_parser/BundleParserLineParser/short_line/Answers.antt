@@ -1,8 +1,5 @@
 use Rattle.std.proofs.Common.{rules, ◌≡◌}
-use Rattle.text_lines.proofs.ParserLaws.{gives_taken}
-use Rattle.graph_text.specs.GraphTakes.{taken_of}
-use Rattle.road_files.specs.BundleFiles.{InGraph, bundle_with, bundle_rules}
-use Rattle.road_files.specs.BundleTakes.{bundle_so_far}
+use Rattle.road_files.proofs.Words.{gives_taken, taken_of, InGraph, bundle_with, bundle_rules, bundle_so_far}
 use Rattle.road_files.proofs.BundleParserLaws.{short_rule}
 use Rattle.road_files.proofs.bundle_parser.BundleParserLineParser.short_line.Goals as goal
 

@@ -1,7 +1,4 @@
-use Rattle.std.proofs.Common.{◌<◌, ◌∙◌, ap, arith}
-use Rattle.text_lines.specs.Words.{Word}
-use Rattle.road_files.specs.QuestionFiles.{one_vertex_more}
-use Rattle.road_files.specs.QuestionTakes.{sources_given}
+use Rattle.road_files.proofs.Words.{◌<◌, ◌∙◌, ap, arith, Word, one_vertex_more, sources_given}
 use Rattle.road_files.proofs.ListFields.{next_field, on_both}
 use Rattle.road_files.proofs.present_list.PresentList.field.Goals as goal
 

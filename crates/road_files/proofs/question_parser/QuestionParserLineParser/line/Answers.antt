@@ -1,5 +1,4 @@
-use Rattle.std.proofs.Common.{◌∙◌}
-use Rattle.road_files.specs.QuestionTakes.{questions_begun}
+use Rattle.road_files.proofs.Words.{◌∙◌, questions_begun}
 use Rattle.text_lines.proofs.ParserLaws.{broken_is}
 use Rattle.road_files.proofs.QuestionParserLaws.{line_taken, line_broken}
 use Rattle.road_files.proofs.question_parser.QuestionParserLineParser.line.Goals as goal

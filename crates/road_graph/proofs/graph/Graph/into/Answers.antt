@@ -1,7 +1,4 @@
-use Rattle.std.proofs.Common.{◌≡◌, ◌-◌, List, ℕ, take, drop, refl, subst, sym, get_or}
-use Rattle.road_graph.specs.GraphData.{GraphData, HasVertex, ListsArcsInto}
-use Rattle.road_graph.specs.Making.{AreRows}
-use Rattle.road_graph.specs.declared.Side.TheVariants.{Head}
+use Rattle.road_graph.proofs.Words.{◌≡◌, ◌-◌, List, ℕ, take, drop, refl, subst, sym, get_or, GraphData, HasVertex, ListsArcsInto, AreRows, Head}
 use Rattle.road_graph.proofs.Reading.{row_lists_into}
 use Rattle.road_graph.proofs.graph.Graph.into.Goals as goal
 

@@ -1,5 +1,4 @@
-use Rattle.std.proofs.Common.{◌∙◌, subst}
-use Rattle.road_graph.specs.GraphData.{GraphData}
+use Rattle.road_graph.proofs.Words.{◌∙◌, subst, GraphData}
 use Rattle.road_graph.specs.Making.{IsEnds, IsIndex}
 use Rattle.road_graph.proofs.Entries.{road_by_entry}
 use Rattle.road_graph.proofs.graph.Graph.road.Goals as goal

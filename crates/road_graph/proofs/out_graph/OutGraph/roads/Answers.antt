@@ -1,8 +1,4 @@
-use Rattle.std.proofs.Common.{◌≡◌, ℕ, List, subst, sym}
-use Rattle.road_graph.specs.declared.Side.TheVariants.{Tail}
-use Rattle.road_graph.specs.declared.OutRoad.{OutRoad}
-use Rattle.road_graph.specs.GraphData.{GraphData, roads_of}
-use Rattle.road_graph.specs.Making.{AreNumbers}
+use Rattle.road_graph.proofs.Words.{◌≡◌, ℕ, List, subst, sym, Tail, OutRoad, GraphData, roads_of, AreNumbers}
 use Rattle.road_graph.proofs.OneRows.{with_roads}
 use Rattle.road_graph.proofs.out_graph.OutGraph.roads.Goals as goal
 

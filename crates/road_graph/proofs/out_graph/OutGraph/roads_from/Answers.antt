@@ -1,5 +1,4 @@
-use Rattle.std.proofs.Common.{◌≡◌, ◌-◌, take, drop, subst, sym, ◌∙◌, get_or}
-use Rattle.road_graph.specs.GraphData.{GraphData, HasVertex, ListsRoadsFrom}
+use Rattle.road_graph.proofs.Words.{◌≡◌, ◌-◌, take, drop, subst, sym, ◌∙◌, get_or, GraphData, HasVertex, ListsRoadsFrom}
 use Rattle.road_graph.proofs.Reading.{row_lists_roads}
 use Rattle.road_graph.proofs.out_graph.OutGraph.roads_from.Goals as goal
 

@@ -1,7 +1,4 @@
-use Rattle.std.proofs.Common.{◌≡◌, ℕ, List, subst, sym}
-use Rattle.road_graph.specs.declared.Side.TheVariants.{Tail}
-use Rattle.road_graph.specs.GraphData.{GraphData}
-use Rattle.road_graph.specs.Making.{AreRows, AreNumbers}
+use Rattle.road_graph.proofs.Words.{◌≡◌, ℕ, List, subst, sym, Tail, GraphData, AreRows, AreNumbers}
 use Rattle.road_graph.proofs.OneRows.{with_starts}
 use Rattle.road_graph.proofs.out_graph.OutGraph.starts.Goals as goal
 

@@ -1,6 +1,5 @@
-use Rattle.std.proofs.Common.{length-set, sym, subst}
+use Rattle.route_tree.proofs.Words.{length-set, sym, subst, GraphData, HasVertex}
 use Rattle.std.proofs.lemmas.List.Elements.{All-push}
-use Rattle.road_graph.specs.GraphData.{GraphData, HasVertex}
 use Rattle.route_tree.proofs.Blank.{found_more, found_marked}
 use Rattle.route_tree.proofs.backward.Backward.mark.Goals as goal
 

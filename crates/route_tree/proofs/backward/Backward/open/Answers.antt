@@ -1,7 +1,4 @@
-use Rattle.std.proofs.Common.{◌-◌, [], ap, set, true, false, length, length-set, ◌∙◌}
-use Rattle.std.proofs.lemmas.List.{length-replicate}
-use Rattle.std.proofs.lemmas.List.Elements.{All-nil, All-cons}
-use Rattle.road_graph.specs.GraphData.{HasVertex}
+use Rattle.route_tree.proofs.Words.{◌-◌, [], ap, set, true, false, length, length-set, ◌∙◌, length-replicate, All-nil, All-cons, HasVertex}
 use Rattle.route_tree.proofs.Blank.{found_first}
 use Rattle.route_tree.proofs.backward.Backward.open.Goals as goal
 

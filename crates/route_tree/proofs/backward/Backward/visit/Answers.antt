@@ -1,9 +1,5 @@
-use Rattle.std.proofs.Common.{◌≡◌, ◌<◌, length, refl, ap, sym, ◌∙◌, arith, subst, get_or}
-use Rattle.std.proofs.lemmas.List.{get_or_default}
+use Rattle.route_tree.proofs.Words.{◌≡◌, ◌<◌, length, refl, ap, sym, ◌∙◌, arith, subst, get_or, get_or_default, OutRoad, label_of, passes_back}
 use Rattle.road_graph.specs.GraphData.{GraphData, IsGraph, HasVertex, ListsRoadsInto, arc_of}
-use Rattle.road_graph.specs.declared.OutRoad.{OutRoad}
-use Rattle.path_algebra.specs.Walks.{label_of}
-use Rattle.route_tree.specs.Backward.{passes_back}
 use Rattle.route_tree.proofs.VisitingBack.{back_open, back_once, row_done, as_long, turned_at}
 use Rattle.route_tree.proofs.backward.Backward.visit.Goals as goal
 

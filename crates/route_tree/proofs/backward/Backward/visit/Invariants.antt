@@ -1,8 +1,4 @@
-use Rattle.std.proofs.Common.{◌≡◌, ℕ, ◌+◌, List, [], ◌∷◌, length, drop, map}
-use Rattle.std.specs.Prelude.{Contains, ◌↔◌}
-use Rattle.road_graph.specs.GraphData.{HasArc, arc_of, road_of, reversed_arc}
-use Rattle.route_tree.specs.Regions.{VisitingBack, unmarked}
-use Rattle.route_tree.specs.Backward.{passes_back}
+use Rattle.route_tree.proofs.Words.{◌≡◌, ℕ, ◌+◌, List, [], ◌∷◌, length, drop, map, Contains, ◌↔◌, HasArc, arc_of, road_of, reversed_arc, VisitingBack, unmarked, passes_back}
 use Rattle.route_tree.proofs.backward.Backward.visit.Given as goal
 
 abbrev pub invariant-loop-road : goal.invariant-loop-road

@@ -1,5 +1,4 @@
-use Rattle.std.proofs.Common.{arith, ◌∙◌}
-use Rattle.route_tree.specs.Backward.{passes_back}
+use Rattle.route_tree.proofs.Words.{arith, ◌∙◌, passes_back}
 use Rattle.route_tree.proofs.VisitingBack.{level_once, level_done}
 use Rattle.route_tree.proofs.backward.Backward.visit_all.Goals as goal
 

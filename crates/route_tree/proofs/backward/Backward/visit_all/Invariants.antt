@@ -1,6 +1,4 @@
-use Rattle.std.proofs.Common.{◌≡◌, ℕ, ◌+◌, [], length, drop}
-use Rattle.route_tree.specs.Regions.{VisitingBack, unmarked}
-use Rattle.route_tree.specs.Backward.{passes_back}
+use Rattle.route_tree.proofs.Words.{◌≡◌, ℕ, ◌+◌, [], length, drop, VisitingBack, unmarked, passes_back}
 use Rattle.route_tree.proofs.backward.Backward.visit_all.Given as goal
 
 abbrev pub invariant-loop-v : goal.invariant-loop-v

@@ -1,8 +1,6 @@
-use Rattle.std.proofs.Common.{◌≡◌, [], ℕ, List, sym, subst}
+use Rattle.route_tree.proofs.Words.{◌≡◌, [], ℕ, List, sym, subst, is_tight, VisitingBack}
 use Rattle.std.specs.Prelude.{OnOk}
 use Rattle.std.proofs.lemmas.Result.{on_ok_weaker}
-use Rattle.path_algebra.specs.Walks.{is_tight}
-use Rattle.route_tree.specs.Regions.{VisitingBack}
 use Rattle.route_tree.specs.Backward.{BackwardState, VisitsLevelBack}
 use Rattle.route_tree.proofs.VisitingBack.{back_level}
 use Rattle.route_tree.proofs.backward.Backward.visit_level.Goals as goal

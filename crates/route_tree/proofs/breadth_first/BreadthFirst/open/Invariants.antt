@@ -1,5 +1,4 @@
-use Rattle.std.proofs.Common.{◌≡◌, None, replicate, take}
-use Rattle.route_tree.specs.Levels.{IsMarked}
+use Rattle.route_tree.proofs.Words.{◌≡◌, None, replicate, take, IsMarked}
 use Rattle.route_tree.proofs.breadth_first.BreadthFirst.open.Given as goal
 
 abbrev pub invariant-loop-s : goal.invariant-loop-s

@@ -1,7 +1,5 @@
-use Rattle.std.proofs.Common.{◌≡◌, get_or, arith, sym, ◌∙◌, subst, refl}
+use Rattle.route_tree.proofs.Words.{◌≡◌, get_or, arith, sym, ◌∙◌, subst, refl, OutRoad, label_of}
 use Rattle.road_graph.specs.GraphData.{GraphData, IsGraph, HasVertex, ListsRoadsFrom}
-use Rattle.road_graph.specs.declared.OutRoad.{OutRoad}
-use Rattle.path_algebra.specs.Walks.{label_of}
 use Rattle.route_tree.specs.BreadthFirst.{passes, passes_road}
 use Rattle.route_tree.proofs.OneVertex.{visit_open, visit_road, arcs_done, same_length, road_at, is_tight_by_road}
 use Rattle.route_tree.proofs.breadth_first.BreadthFirst.visit.Goals as goal

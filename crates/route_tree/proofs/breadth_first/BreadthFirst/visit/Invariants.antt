@@ -1,7 +1,4 @@
-use Rattle.std.proofs.Common.{◌≡◌, ℕ, ◌+◌, List, [], ◌∷◌, length, drop}
-use Rattle.road_graph.specs.GraphData.{ListsArcsFrom, roads_of}
-use Rattle.route_tree.specs.Levels.{Visiting, unreached}
-use Rattle.route_tree.specs.BreadthFirst.{IsSameSearch, passes}
+use Rattle.route_tree.proofs.Words.{◌≡◌, ℕ, ◌+◌, List, [], ◌∷◌, length, drop, ListsArcsFrom, roads_of, Visiting, unreached, IsSameSearch, passes}
 use Rattle.route_tree.proofs.breadth_first.BreadthFirst.visit.Given as goal
 
 abbrev pub invariant-loop-road : goal.invariant-loop-road

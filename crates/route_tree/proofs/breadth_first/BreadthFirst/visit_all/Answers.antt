@@ -1,5 +1,4 @@
-use Rattle.std.proofs.Common.{arith, ◌∙◌}
-use Rattle.route_tree.specs.BreadthFirst.{passes}
+use Rattle.route_tree.proofs.Words.{arith, ◌∙◌, passes}
 use Rattle.route_tree.proofs.OneVertex.{level_once, level_done}
 use Rattle.route_tree.proofs.breadth_first.BreadthFirst.visit_all.Goals as goal
 

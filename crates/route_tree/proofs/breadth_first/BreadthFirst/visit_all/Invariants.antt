@@ -1,6 +1,4 @@
-use Rattle.std.proofs.Common.{◌≡◌, ℕ, ◌+◌, List, [], length, drop}
-use Rattle.route_tree.specs.Levels.{Visiting, unreached}
-use Rattle.route_tree.specs.BreadthFirst.{IsSameSearch, passes}
+use Rattle.route_tree.proofs.Words.{◌≡◌, ℕ, ◌+◌, List, [], length, drop, Visiting, unreached, IsSameSearch, passes}
 use Rattle.route_tree.proofs.breadth_first.BreadthFirst.visit_all.Given as goal
 
 abbrev pub invariant-loop-v : goal.invariant-loop-v

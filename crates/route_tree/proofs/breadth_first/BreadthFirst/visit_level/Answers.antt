@@ -1,6 +1,4 @@
-use Rattle.std.proofs.Common.{◌≡◌, ◌+◌, [], ℕ, List, sym, subst}
-use Rattle.route_tree.specs.Levels.{Visiting}
-use Rattle.route_tree.specs.Regions.{is_tight_into}
+use Rattle.route_tree.proofs.Words.{◌≡◌, ◌+◌, [], ℕ, List, sym, subst, Visiting, is_tight_into}
 use Rattle.route_tree.specs.BreadthFirst.{SearchState, passes}
 use Rattle.route_tree.proofs.OneVertex.{visit_level}
 use Rattle.route_tree.proofs.breadth_first.BreadthFirst.visit_level.Goals as goal

@@ -1,6 +1,5 @@
-use Rattle.std.proofs.Common.{◌≡◌, List, ℕ, map, take, sym, ap, ◌∙◌, arith}
+use Rattle.route_tree.proofs.Words.{◌≡◌, List, ℕ, map, take, sym, ap, ◌∙◌, arith, arc_of, road_of, reversed_arc}
 use Rattle.std.proofs.lemmas.List.{take_all}
-use Rattle.road_graph.specs.GraphData.{arc_of, road_of, reversed_arc}
 use Rattle.route_tree.proofs.entering.GraphEntering.list_into.Goals as goal
 
 pub tail-requires : goal.tail-requires

@@ -1,5 +1,4 @@
-use Rattle.std.proofs.Common.{◌≡◌, map, take}
-use Rattle.road_graph.specs.GraphData.{arc_of, road_of, reversed_arc}
+use Rattle.route_tree.proofs.Words.{◌≡◌, map, take, arc_of, road_of, reversed_arc}
 use Rattle.route_tree.proofs.entering.GraphEntering.list_into.Given as goal
 
 abbrev pub invariant-loop-a : goal.invariant-loop-a

@@ -1,9 +1,5 @@
-use Rattle.std.proofs.Common.{◌≡◌, ◌∷◌, [], ◌∙◌, ap, sym, subst, length, arith}
-use Rattle.std.proofs.lemmas.List.Elements.{All-nil, All-cons}
-use Rattle.road_graph.specs.GraphData.{HasVertex}
-use Rattle.path_algebra.proofs.Walks.{all_inside}
+use Rattle.route_tree.proofs.Words.{◌≡◌, ◌∷◌, [], ◌∙◌, ap, sym, subst, length, arith, All-nil, All-cons, HasVertex, all_inside, AreFound}
 use Rattle.path_algebra.specs.Walks.{IsBest, IsBestLabel, is_tight}
-use Rattle.route_tree.specs.Blank.{AreFound}
 use Rattle.route_tree.proofs.Blank.{same_region, marks_blank, hops_blank, parents_blank}
 use Rattle.route_tree.proofs.UpTo.{pair_found_up_to}
 use Rattle.route_tree.proofs.route_finder.RouteFinder.route.Goals as goal

@@ -1,6 +1,4 @@
-use Rattle.std.proofs.Common.{ap, ◌∙◌, refl, cond, Some, length-set}
-use Rattle.scholten_core.specs.CoreView.{network_of}
-use Rattle.scholten_core.specs.Diffusion.{improves, engaged_by, answer_to}
+use Rattle.scholten_core.proofs.Words.{ap, ◌∙◌, refl, cond, Some, length-set, network_of, improves, engaged_by, answer_to}
 use Rattle.scholten_core.proofs.Written.{arrive_leaves, answered_busy}
 use Rattle.scholten_core.proofs.Sized.{still_sized, busy_seen, label_place, engager_place}
 use Rattle.scholten_core.proofs.core_tables.CoreTables.arrive.Goals as goal

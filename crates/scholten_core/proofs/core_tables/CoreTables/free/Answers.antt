@@ -1,5 +1,4 @@
-use Rattle.std.proofs.Common.{refl}
-use Rattle.scholten_core.specs.CoreView.{network_of}
+use Rattle.scholten_core.proofs.Words.{refl, network_of}
 use Rattle.scholten_core.proofs.Written.{free_leaves}
 use Rattle.scholten_core.proofs.Sized.{freed_sized, freed_least, busy_seen, tail_seen, vertex_seen}
 use Rattle.scholten_core.proofs.core_tables.CoreTables.free.Goals as goal

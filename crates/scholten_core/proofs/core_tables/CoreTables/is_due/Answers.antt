@@ -1,6 +1,4 @@
-use Rattle.std.proofs.Common.{ap, ◌∙◌, sym}
-use Rattle.scholten_core.specs.CoreView.{network_of, state_of}
-use Rattle.scholten_core.specs.Diffusion.{same_label, is_idle}
+use Rattle.scholten_core.proofs.Words.{ap, ◌∙◌, sym, network_of, state_of, same_label, is_idle}
 use Rattle.scholten_core.proofs.Written.{due_then, due_else}
 use Rattle.scholten_core.proofs.core_tables.CoreTables.is_due.Goals as goal
 

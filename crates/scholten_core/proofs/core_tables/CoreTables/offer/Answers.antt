@@ -1,6 +1,4 @@
-use Rattle.std.proofs.Common.{◌∙◌, sym, refl, arith}
-use Rattle.scholten_core.specs.CoreView.{network_of, state_of}
-use Rattle.scholten_core.specs.Diffusion.{extend_label}
+use Rattle.scholten_core.proofs.Words.{◌∙◌, sym, refl, arith, network_of, state_of, extend_label}
 use Rattle.scholten_core.proofs.Written.{offer_leaves, refuse_leaves, not_due_leaves}
 use Rattle.scholten_core.proofs.Sized.{sent_sized, counter_most, vertex_seen, arc_seen, idle_seen, tail_of_seen, token_place, told_place}
 use Rattle.scholten_core.proofs.core_tables.CoreTables.offer.Goals as goal

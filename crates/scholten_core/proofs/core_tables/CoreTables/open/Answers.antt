@@ -1,6 +1,4 @@
-use Rattle.std.proofs.Common.{rules, ◌+◌, length, ap, ◌∙◌, refl, replicate, set, None}
-use Rattle.scholten_core.specs.declared.token.Token.TheVariants.{Message, Idle}
-use Rattle.scholten_core.specs.Network.{network}
+use Rattle.scholten_core.proofs.Words.{rules, ◌+◌, length, ap, ◌∙◌, refl, replicate, set, None, Message, Idle, network}
 use Rattle.scholten_core.proofs.Opened.{opened_state, opened_sized}
 use Rattle.scholten_core.proofs.core_tables.CoreTables.open.Goals as goal
 

@@ -1,7 +1,4 @@
-use Rattle.std.proofs.Common.{arith, ◌≤◌, ◌∙◌, sym, subst}
-use Rattle.std.proofs.lemmas.List.{get_or_default}
-use Rattle.scholten_core.specs.CoreView.{network_of}
-use Rattle.scholten_core.specs.DiffusionData.{network_in}
+use Rattle.scholten_core.proofs.Words.{arith, ◌≤◌, ◌∙◌, sym, subst, get_or_default, network_of, network_in}
 use Rattle.scholten_core.proofs.Networks.{out_at}
 use Rattle.scholten_core.proofs.Pumping.{offered_step, offered_end}
 use Rattle.scholten_core.proofs.core_tables.CoreTables.pump.Goals as goal

@@ -1,5 +1,4 @@
-use Rattle.std.proofs.Common.{◌≡◌}
-use Rattle.scholten_core.specs.CoreView.{network_of, state_of}
+use Rattle.scholten_core.proofs.Words.{◌≡◌, network_of, state_of}
 use Rattle.scholten_core.proofs.Offered.{Offered}
 use Rattle.scholten_core.proofs.core_tables.CoreTables.pump.Given as goal
 

@@ -1,6 +1,4 @@
-use Rattle.std.proofs.Common.{rules, ap, ◌∙◌, sym, refl, eq-eqb, ne_eqb, arith, length-set}
-use Rattle.scholten_core.specs.CoreView.{network_of, state_of}
-use Rattle.scholten_core.specs.Diffusion.{is_idle}
+use Rattle.scholten_core.proofs.Words.{rules, ap, ◌∙◌, sym, refl, eq-eqb, ne_eqb, arith, length-set, network_of, state_of, is_idle}
 use Rattle.scholten_core.proofs.Written.{rest_leaves, busy_leaves}
 use Rattle.scholten_core.proofs.Sized.{still_sized, busy_seen, engager_place, held_place}
 use Rattle.scholten_core.proofs.Quick.{out_idle_counted}

@@ -1,7 +1,4 @@
-use Rattle.std.proofs.Common.{ap, ◌∙◌, sym, subst}
-use Rattle.path_algebra.specs.Algebra.{IsLawful}
-use Rattle.scholten_core.specs.CoreView.{network_of, state_of}
-use Rattle.scholten_core.specs.Diffusion.{arrive}
+use Rattle.scholten_core.proofs.Words.{ap, ◌∙◌, sym, subst, IsLawful, network_of, state_of, arrive}
 use Rattle.scholten_core.proofs.Pumping.{pump_leaves, unimproved_pump}
 use Rattle.scholten_core.proofs.core_tables.CoreTables.take_message.Goals as goal
 

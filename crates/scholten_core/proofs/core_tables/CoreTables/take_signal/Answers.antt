@@ -1,7 +1,4 @@
-use Rattle.std.proofs.Common.{ap, ◌∙◌, subst}
-use Rattle.path_algebra.specs.Algebra.{IsLawful}
-use Rattle.scholten_core.specs.CoreView.{network_of, state_of}
-use Rattle.scholten_core.specs.Diffusion.{freed}
+use Rattle.scholten_core.proofs.Words.{ap, ◌∙◌, subst, IsLawful, network_of, state_of, freed}
 use Rattle.scholten_core.proofs.Pumping.{offer_then, freed_pump}
 use Rattle.scholten_core.proofs.core_tables.CoreTables.take_signal.Goals as goal
 

@@ -1,8 +1,4 @@
-use Rattle.std.proofs.Common.{◌≡◌, ap, ◌∙◌, sym, subst, arith}
-use Rattle.path_algebra.specs.Algebra.{IsLawful}
-use Rattle.scholten_core.specs.declared.event.Event.TheVariants.{Accept}
-use Rattle.scholten_core.specs.CoreView.{network_of, state_of}
-use Rattle.scholten_core.specs.Diffusion.{is_signal, step}
+use Rattle.scholten_core.proofs.Words.{◌≡◌, ap, ◌∙◌, sym, subst, arith, IsLawful, Accept, network_of, state_of, is_signal, step}
 use Rattle.scholten_core.proofs.GraphReads.{is_entry, not_entry}
 use Rattle.scholten_core.proofs.CoreSteps.{accept_leaves, accept_entry_leaves, reached_step, busy_in, busy_tail, told_at, freed_held}
 use Rattle.scholten_core.proofs.running.Core.accept.Goals as goal

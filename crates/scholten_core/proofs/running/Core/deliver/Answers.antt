@@ -1,6 +1,4 @@
-use Rattle.std.proofs.Common.{◌∙◌, subst}
-use Rattle.path_algebra.specs.Algebra.{IsLawful}
-use Rattle.scholten_core.specs.declared.event.Event.TheVariants.{Deliver}
+use Rattle.scholten_core.proofs.Words.{◌∙◌, subst, IsLawful, Deliver}
 use Rattle.scholten_core.proofs.CoreSteps.{deliver_leaves, reached_step, busy_in, busy_head, told_at, arrived_held}
 use Rattle.scholten_core.proofs.running.Core.deliver.Goals as goal
 

@@ -1,7 +1,4 @@
-use Rattle.std.proofs.Common.{◌∙◌, sym, ap, subst}
-use Rattle.path_algebra.specs.Algebra.{IsLawful}
-use Rattle.scholten_core.specs.Diffusion.{is_idle}
-use Rattle.scholten_core.proofs.Basics.{idle-true}
+use Rattle.scholten_core.proofs.Words.{◌∙◌, sym, ap, subst, IsLawful, is_idle, idle-true}
 use Rattle.scholten_core.proofs.RunReads.{quiet_at, best_at, going_at}
 use Rattle.scholten_core.proofs.running.Core.ended.Goals as goal
 

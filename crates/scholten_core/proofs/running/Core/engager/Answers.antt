@@ -1,5 +1,4 @@
-use Rattle.std.proofs.Common.{subst}
-use Rattle.path_algebra.specs.Algebra.{IsLawful}
+use Rattle.scholten_core.proofs.Words.{subst, IsLawful}
 use Rattle.scholten_core.proofs.RunReads.{engager_held, rooted_at}
 use Rattle.scholten_core.proofs.running.Core.engager.Goals as goal
 

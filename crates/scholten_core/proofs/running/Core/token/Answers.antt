@@ -1,5 +1,4 @@
-use Rattle.std.proofs.Common.{◌∙◌, sym, subst}
-use Rattle.path_algebra.specs.Algebra.{IsLawful}
+use Rattle.scholten_core.proofs.Words.{◌∙◌, sym, subst, IsLawful}
 use Rattle.scholten_core.proofs.RunReads.{message_walk}
 use Rattle.scholten_core.proofs.running.Core.token.Goals as goal
 

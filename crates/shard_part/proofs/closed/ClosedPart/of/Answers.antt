@@ -1,8 +1,5 @@
-use Rattle.std.proofs.Common.{map, refl, sym, ap, ◌∙◌, subst}
-use Rattle.shard_part.specs.PartState.{PartData}
+use Rattle.shard_part.proofs.Words.{map, refl, sym, ap, ◌∙◌, subst, PartData, RepInvariant, rows_of}
 use Rattle.shard_part.specs.Readings.{tally_in}
-use Rattle.shard_part.specs.Moves.{RepInvariant}
-use Rattle.shard_store.specs.Rows.{rows_of}
 use Rattle.shard_part.proofs.closed.ClosedPart.of.Goals as goal
 
 pub invariant_of-result : goal.invariant_of-result

@@ -1,5 +1,4 @@
-use Rattle.std.proofs.Common.{ap, ◌∙◌}
-use Rattle.shard_part.specs.Readings.{has_ended}
+use Rattle.shard_part.proofs.Words.{ap, ◌∙◌, has_ended}
 use Rattle.shard_part.proofs.Receiving.{entry_row, ended_then, ended_else}
 use Rattle.shard_part.proofs.part.Part.ended.Goals as goal
 

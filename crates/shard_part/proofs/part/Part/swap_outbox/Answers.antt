@@ -1,5 +1,4 @@
-use Rattle.std.proofs.Common.{sym, subst}
-use Rattle.shard_part.specs.Part.{OwnIdleIsTold}
+use Rattle.shard_part.proofs.Words.{sym, subst, OwnIdleIsTold}
 use Rattle.shard_part.proofs.part.Part.swap_outbox.Goals as goal
 
 pub invariant_of-self : goal.invariant_of-self

@@ -1,5 +1,4 @@
-use Rattle.std.proofs.Common.{false, get_or, ap, sym, ◌∙◌}
-use Rattle.road_graph.specs.declared.RoadArc.{RoadArc}
+use Rattle.shard_part.proofs.Words.{false, get_or, ap, sym, ◌∙◌, RoadArc}
 use Rattle.shard_part.proofs.Receiving.{arc_is, tail_is, head_is, await_then, await_else}
 use Rattle.shard_part.proofs.state.PartState.awaits.Goals as goal
 

@@ -1,7 +1,5 @@
-use Rattle.std.proofs.Common.{◌≡◌, ◌∙◌, ap, sym, subst, eq-eqb, not}
-use Rattle.std.specs.Prelude.{IfSome}
+use Rattle.shard_part.proofs.Words.{◌≡◌, ◌∙◌, ap, sym, subst, eq-eqb, not, IfSome, IsOutgoing}
 use Rattle.std.proofs.lemmas.Bool.{true≢false}
-use Rattle.shard_part.specs.Part.{IsOutgoing}
 use Rattle.shard_part.proofs.Ahead.{better_kept, for_another}
 use Rattle.shard_part.proofs.state.PartState.best_for_others.Goals.{then-ne, else-ne}
 use Rattle.shard_part.proofs.state.PartState.best_for_others.Goals as goal

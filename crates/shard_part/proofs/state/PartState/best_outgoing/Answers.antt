@@ -1,7 +1,4 @@
-use Rattle.std.proofs.Common.{◌≡◌, ◌<◌, ◌∙◌, ap, map, length, arith, sym, subst}
-use Rattle.std.specs.Prelude.{IfSome}
-use Rattle.std.proofs.lemmas.List.{length-map}
-use Rattle.shard_part.specs.Part.{IsOutgoingTo}
+use Rattle.shard_part.proofs.Words.{◌≡◌, ◌<◌, ◌∙◌, ap, map, length, arith, sym, subst, IfSome, length-map, IsOutgoingTo}
 use Rattle.shard_part.proofs.Ahead.{in_outbox}
 use Rattle.shard_part.proofs.state.PartState.best_outgoing.Goals as goal
 

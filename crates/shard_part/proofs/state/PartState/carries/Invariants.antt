@@ -1,6 +1,5 @@
-use Rattle.std.proofs.Common.{◌≡◌, drop}
+use Rattle.shard_part.proofs.Words.{◌≡◌, drop, counted}
 use Rattle.shard_part.proofs.BatchFits.{outs_counted}
-use Rattle.shard_store.specs.Totals.{counted}
 use Rattle.shard_part.proofs.state.PartState.carries.Given as goal
 
 abbrev pub invariant-loop-out : goal.invariant-loop-out

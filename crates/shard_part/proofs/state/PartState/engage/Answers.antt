@@ -1,6 +1,5 @@
-use Rattle.std.proofs.Common.{Some, ap}
+use Rattle.shard_part.proofs.Words.{Some, ap, VertexAt}
 use Rattle.shard_part.proofs.Moves.{engage_keeps, engager_leaves}
-use Rattle.shard_store.specs.Places.{VertexAt}
 use Rattle.shard_part.proofs.state.PartState.engage.Goals as goal
 
 pub invariant_of-self : goal.invariant_of-self

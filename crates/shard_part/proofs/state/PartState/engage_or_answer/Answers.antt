@@ -1,5 +1,4 @@
-use Rattle.std.proofs.Common.{ap, ◌∙◌}
-use Rattle.shard_store.specs.Setup.{place_in}
+use Rattle.shard_part.proofs.Words.{ap, ◌∙◌, place_in}
 use Rattle.shard_part.proofs.Moves.{mine_at}
 use Rattle.shard_part.proofs.state.PartState.engage_or_answer.Goals as goal
 

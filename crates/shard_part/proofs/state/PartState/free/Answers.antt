@@ -1,6 +1,5 @@
-use Rattle.std.proofs.Common.{false, ap}
+use Rattle.shard_part.proofs.Words.{false, ap, VertexAt, ArcAt}
 use Rattle.shard_part.proofs.Busy.{free_keeps, busy_leaves}
-use Rattle.shard_store.specs.Places.{VertexAt, ArcAt}
 use Rattle.shard_part.proofs.state.PartState.free.Goals as goal
 
 pub overflow_sub-deficit : goal.overflow_sub-deficit

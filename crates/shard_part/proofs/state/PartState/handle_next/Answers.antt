@@ -1,5 +1,4 @@
-use Rattle.std.proofs.Common.{ap, ◌∙◌}
-use Rattle.shard_part.specs.Moves.{with_taken}
+use Rattle.shard_part.proofs.Words.{ap, ◌∙◌, with_taken}
 use Rattle.shard_part.proofs.ToldKept.{next_taken, next_told}
 use Rattle.shard_part.proofs.state.PartState.handle_next.Goals as goal
 

@@ -1,5 +1,4 @@
-use Rattle.std.proofs.Common.{◌∙◌}
-use Rattle.scholten_core.specs.Diffusion.{same_label}
+use Rattle.shard_part.proofs.Words.{◌∙◌, same_label}
 use Rattle.shard_part.proofs.Offers.{due_read}
 use Rattle.shard_part.proofs.state.PartState.is_due.Goals as goal
 

@@ -1,6 +1,5 @@
-use Rattle.std.proofs.Common.{ap}
+use Rattle.shard_part.proofs.Words.{ap, VertexAt}
 use Rattle.shard_part.proofs.Moves.{label_read}
-use Rattle.shard_store.specs.Places.{VertexAt}
 use Rattle.shard_part.proofs.state.PartState.label_at.Goals as goal
 
 pub returns : goal.returns

@@ -1,6 +1,5 @@
-use Rattle.std.proofs.Common.{ap}
+use Rattle.shard_part.proofs.Words.{ap, ArcAt}
 use Rattle.shard_part.proofs.Moves.{told_read}
-use Rattle.shard_store.specs.Places.{ArcAt}
 use Rattle.shard_part.proofs.state.PartState.last_offer.Goals as goal
 
 pub returns : goal.returns

@@ -1,6 +1,4 @@
-use Rattle.std.proofs.Common.{ap, ◌∙◌}
-use Rattle.road_graph.specs.declared.OutRoad.{OutRoad}
-use Rattle.scholten_core.specs.Diffusion.{extend_label}
+use Rattle.shard_part.proofs.Words.{ap, ◌∙◌, OutRoad, extend_label}
 use Rattle.shard_part.proofs.Graphs.{head_told}
 use Rattle.shard_part.proofs.Offers.{tail_mine, still_idle, weight_told, shard_told, offer_made}
 use Rattle.shard_part.proofs.state.PartState.make_offer.Goals as goal

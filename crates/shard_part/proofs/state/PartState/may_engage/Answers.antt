@@ -1,7 +1,4 @@
-use Rattle.std.proofs.Common.{ap, ◌∙◌}
-use Rattle.shard_part.specs.PartState.{state_in}
-use Rattle.shard_part.specs.LocalInvariant.{names}
-use Rattle.road_graph.specs.declared.RoadArc.{RoadArc}
+use Rattle.shard_part.proofs.Words.{ap, ◌∙◌, state_in, names, RoadArc}
 use Rattle.shard_part.proofs.Receiving.{tail_is, head_is, engage_then, engage_else}
 use Rattle.shard_part.proofs.state.PartState.may_engage.Goals as goal
 

@@ -1,6 +1,5 @@
-use Rattle.std.proofs.Common.{true, rules, ap}
+use Rattle.shard_part.proofs.Words.{true, rules, ap, VertexAt, ArcAt}
 use Rattle.shard_part.proofs.Busy.{occupy_keeps, busy_leaves, deficit_few}
-use Rattle.shard_store.specs.Places.{VertexAt, ArcAt}
 use Rattle.shard_part.proofs.state.PartState.occupy.Goals as goal
 
 pub overflow_add-deficit : goal.overflow_add-deficit

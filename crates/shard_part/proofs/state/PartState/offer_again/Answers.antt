@@ -1,5 +1,4 @@
-use Rattle.std.proofs.Common.{ap, ◌∙◌}
-use Rattle.road_graph.specs.GraphData.{arc_of, road_of}
+use Rattle.shard_part.proofs.Words.{ap, ◌∙◌, arc_of, road_of}
 use Rattle.shard_part.proofs.state.PartState.offer_again.Goals as goal
 
 pub make_offer-requires-clause-road : goal.make_offer-requires-clause-road

@@ -1,5 +1,4 @@
-use Rattle.std.proofs.Common.{◌≡◌, ap, refl, sym, subst, ◌∙◌, length}
-use Rattle.std.proofs.lemmas.List.Sorted.{IsPermutation-refl}
+use Rattle.shard_part.proofs.Words.{◌≡◌, ap, refl, sym, subst, ◌∙◌, length, IsPermutation-refl}
 use Rattle.shard_part.proofs.Rings.{pop_leaves}
 use Rattle.shard_part.proofs.Taking.{newest_found, newest_arc, ranked_fewer, more_reordered, end_leaves, newest_given, newest_popped, best_popped, none_waits}
 use Rattle.shard_part.proofs.state.PartState.pop_best.Goals as goal

@@ -1,8 +1,4 @@
-use Rattle.std.proofs.Common.{◌≡◌, ◌-◌, length, map}
-use Rattle.std.specs.List.Sorted.{IsPermutation}
-use Rattle.shard_store.specs.Rows.{rows_of}
-use Rattle.shard_store.specs.Setup.{setup_of}
-use Rattle.shard_part.specs.Moves.{RepInvariant, abstraction}
+use Rattle.shard_part.proofs.Words.{◌≡◌, ◌-◌, length, map, IsPermutation, rows_of, setup_of, RepInvariant, abstraction}
 use Rattle.shard_part.proofs.state.PartState.pop_best.Given as goal
 
 -- the items stand in another order, and nothing else has changed

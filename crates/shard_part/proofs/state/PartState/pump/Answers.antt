@@ -1,9 +1,5 @@
-use Rattle.std.proofs.Common.{refl, sym, ap, ◌∙◌, arith, ◌<◌, ◌≤◌, length}
-use Rattle.std.proofs.lemmas.List.{get_or_read}
-use Rattle.road_graph.specs.GraphData.{arc_of, road_of}
-use Rattle.shard_part.specs.Moves.{offered}
+use Rattle.shard_part.proofs.Words.{refl, sym, ap, ◌∙◌, arith, ◌<◌, ◌≤◌, length, get_or_read, arc_of, road_of, offered, VertexAt}
 use Rattle.shard_part.proofs.Pumping.{vertex_at, offered_none, inside_of, arc_at, arc_out, listed_at, offered_more, offered_same, pump_done}
-use Rattle.shard_store.specs.Places.{VertexAt}
 use Rattle.shard_part.proofs.state.PartState.pump.Goals as goal
 
 pub out-outgoing-requires : goal.out-outgoing-requires

@@ -1,5 +1,4 @@
-use Rattle.std.proofs.Common.{◌≡◌, take}
-use Rattle.shard_part.specs.Moves.{offered_all}
+use Rattle.shard_part.proofs.Words.{◌≡◌, take, offered_all}
 use Rattle.shard_part.proofs.state.PartState.pump.Given as goal
 
 abbrev pub invariant-loop-k : goal.invariant-loop-k

@@ -1,7 +1,4 @@
-use Rattle.std.proofs.Common.{◌≡◌, ℕ, Option, Some, None, refl, ap}
-use Rattle.std.specs.Prelude.{IsSome, IfSome}
-use Rattle.shard_part.specs.PartState.{state_in}
-use Rattle.shard_store.specs.Places.{VertexAt}
+use Rattle.shard_part.proofs.Words.{◌≡◌, ℕ, Option, Some, None, refl, ap, IsSome, IfSome, state_in, VertexAt}
 use Rattle.shard_part.proofs.Moves.{release_keeps, engager_leaves}
 use Rattle.shard_part.proofs.state.PartState.release.Goals as goal
 

@@ -1,9 +1,6 @@
 use Rattle.shard_part.proofs.Offers.{rested_then, rested_busy}
-use Rattle.std.proofs.Common.{◌≡◌, ℕ, Option, sym, ap, subst, ◌∙◌, arith}
+use Rattle.shard_part.proofs.Words.{◌≡◌, ℕ, Option, sym, ap, subst, ◌∙◌, arith, network_of, place_in, IsArc, IsClear}
 use Rattle.std.specs.Prelude.{is_some, IfSome}
-use Rattle.shard_store.specs.Setup.{network_of, place_in}
-use Rattle.shard_part.specs.PartState.{IsArc}
-use Rattle.shard_part.specs.LocalInvariant.{IsClear}
 use Rattle.shard_part.proofs.state.PartState.rest.Goals as goal
 
 pub release-requires-clause-engaged : goal.release-requires-clause-engaged

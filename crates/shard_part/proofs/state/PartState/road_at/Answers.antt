@@ -1,6 +1,5 @@
-use Rattle.std.proofs.Common.{◌∙◌, ◌<◌, length, rules, ap}
+use Rattle.shard_part.proofs.Words.{◌∙◌, ◌<◌, length, rules, ap, VertexAt}
 use Rattle.shard_part.proofs.Pumping.{vertex_at, road_found}
-use Rattle.shard_store.specs.Places.{VertexAt}
 use Rattle.shard_part.proofs.state.PartState.road_at.Goals as goal
 
 pub roads_from-requires : goal.roads_from-requires

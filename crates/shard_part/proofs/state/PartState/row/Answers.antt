@@ -1,7 +1,6 @@
-use Rattle.std.proofs.Common.{arith, ap}
+use Rattle.shard_part.proofs.Words.{arith, ap, VertexAt}
 use Rattle.shard_part.proofs.Busy.{rows_few}
 use Rattle.shard_part.proofs.Graphs.{row_leaves}
-use Rattle.shard_store.specs.Places.{VertexAt}
 use Rattle.shard_part.proofs.state.PartState.row.Goals as goal
 
 pub overflow_add-result : goal.overflow_add-result

@@ -1,7 +1,4 @@
-use Rattle.std.proofs.Common.{◌<◌, length, get_or, sym, ap, subst, ◌∙◌}
-use Rattle.shard_store.specs.Setup.{network_of}
-use Rattle.shard_store.specs.Outgoing.{outgoing}
-use Rattle.shard_part.specs.Moves.{IsArcRow}
+use Rattle.shard_part.proofs.Words.{◌<◌, length, get_or, sym, ap, subst, ◌∙◌, network_of, outgoing, IsArcRow}
 use Rattle.shard_part.proofs.state.PartState.row_of.Goals as goal
 
 pub row-requires-clause-arc : goal.row-requires-clause-arc

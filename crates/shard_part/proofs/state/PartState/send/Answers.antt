@@ -1,7 +1,4 @@
-use Rattle.std.proofs.Common.{rules, ap, refl, sym, subst, ◌∙◌, ◌++◌, ◌∷◌, [], length, ◌<◌, eqb-true, eq-eqb}
-use Rattle.std.proofs.lemmas.Bool.{false≢true}
-use Rattle.shard_store.specs.Queue.{line}
-use Rattle.shard_part.specs.Moves.{MaySend}
+use Rattle.shard_part.proofs.Words.{rules, ap, refl, sym, subst, ◌∙◌, ◌++◌, ◌∷◌, [], length, ◌<◌, eqb-true, eq-eqb, false≢true, line, MaySend}
 use Rattle.shard_part.proofs.Rings.{put_here_leaves, put_there_leaves, there_in}
 use Rattle.shard_part.proofs.state.PartState.send.Goals as goal
 

@@ -1,6 +1,5 @@
-use Rattle.std.proofs.Common.{Some, ap}
+use Rattle.shard_part.proofs.Words.{Some, ap, VertexAt}
 use Rattle.shard_part.proofs.Moves.{label_leaves}
-use Rattle.shard_store.specs.Places.{VertexAt}
 use Rattle.shard_part.proofs.state.PartState.set_label.Goals as goal
 
 pub returns : goal.returns

@@ -1,7 +1,5 @@
-use Rattle.std.proofs.Common.{◌<◌, arith, ap, refl, sym, ◌∙◌, [], set, get_or}
+use Rattle.shard_part.proofs.Words.{◌<◌, arith, ap, refl, sym, ◌∙◌, [], set, get_or, network_of, place_in, outbox_bound}
 use Rattle.circular_buffer.specs.Buffer.{buffer}
-use Rattle.shard_store.specs.Setup.{network_of, place_in}
-use Rattle.shard_store.specs.Capacities.{outbox_bound}
 use Rattle.shard_part.proofs.Receiving.{swap_leaves}
 use Rattle.shard_part.proofs.state.PartState.swap_outbox.Goals as goal
 

@@ -1,5 +1,4 @@
-use Rattle.std.proofs.Common.{ap, ◌∙◌}
-use Rattle.shard_store.specs.Setup.{network_of}
+use Rattle.shard_part.proofs.Words.{ap, ◌∙◌, network_of}
 use Rattle.shard_part.proofs.Graphs.{arc_within}
 use Rattle.shard_part.proofs.state.PartState.tail.Goals as goal
 

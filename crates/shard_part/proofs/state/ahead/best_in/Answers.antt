@@ -1,6 +1,5 @@
-use Rattle.std.proofs.Common.{ℕ, sym, subst}
+use Rattle.shard_part.proofs.Words.{ℕ, sym, subst, MessageOn}
 use Rattle.std.specs.Prelude.{Contains, IfSome}
-use Rattle.scholten_core.specs.declared.item.Item.TheVariants.{Message as MessageOn}
 use Rattle.shard_part.proofs.Ahead.{better_kept}
 use Rattle.shard_part.proofs.state.ahead.best_in.Goals as goal
 

@@ -1,8 +1,4 @@
-use Rattle.std.proofs.Common.{◌+◌, ◌<◌, length, length-set, get_or, arith, ap, sym, ◌∙◌}
-use Rattle.road_graph.specs.GraphData.{arc_of}
-use Rattle.road_graph.specs.declared.RoadArc.{RoadArc}
-use Rattle.shard_store.specs.Plans.{shard_in}
-use Rattle.shard_store.specs.Layout.{ShardLayoutData}
+use Rattle.shard_store.proofs.Words.{◌+◌, ◌<◌, length, length-set, get_or, arith, ap, sym, ◌∙◌, arc_of, RoadArc, shard_in, ShardLayoutData}
 use Rattle.shard_store.proofs.ShardLayouts.{planned_at, into_at, item_into, coming_most, coming_other, coming_own, coming_done, differs, agrees}
 use Rattle.shard_store.proofs.layout.ShardLayout.add_into.Goals as goal
 use Rattle.shard_store.proofs.layout.ShardLayout.add_into.Goals.{then-ne, else-ne}

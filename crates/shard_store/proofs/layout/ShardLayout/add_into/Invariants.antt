@@ -1,6 +1,4 @@
-use Rattle.std.proofs.Common.{◌≡◌, ◌+◌, ◌<◌, ℕ, length, get_or, take}
-use Rattle.shard_store.specs.Setup.{network_of, place_in}
-use Rattle.shard_store.specs.Layout.{coming_from}
+use Rattle.shard_store.proofs.Words.{◌≡◌, ◌+◌, ◌<◌, ℕ, length, get_or, take, network_of, place_in, coming_from}
 use Rattle.shard_store.proofs.layout.ShardLayout.add_into.Given as goal
 
 abbrev pub invariant-loop-a : goal.invariant-loop-a

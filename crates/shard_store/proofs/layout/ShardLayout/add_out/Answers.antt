@@ -1,8 +1,4 @@
-use Rattle.std.proofs.Common.{◌+◌, ◌<◌, length, length-set, get_or, arith, ap, ◌∙◌}
-use Rattle.road_graph.specs.GraphData.{arc_of}
-use Rattle.road_graph.specs.declared.RoadArc.{RoadArc}
-use Rattle.shard_store.specs.Plans.{shard_in}
-use Rattle.shard_store.specs.Layout.{ShardLayoutData}
+use Rattle.shard_store.proofs.Words.{◌+◌, ◌<◌, length, length-set, get_or, arith, ap, ◌∙◌, arc_of, RoadArc, shard_in, ShardLayoutData}
 use Rattle.shard_store.proofs.ShardLayouts.{planned_at, from_at, item_from, leading_most, leading_more, leading_done}
 use Rattle.shard_store.proofs.layout.ShardLayout.add_out.Goals as goal
 

@@ -1,6 +1,4 @@
-use Rattle.std.proofs.Common.{◌≡◌, ◌+◌, ◌<◌, ℕ, length, get_or, take}
-use Rattle.shard_store.specs.Setup.{network_of, place_in}
-use Rattle.shard_store.specs.Layout.{leading_to}
+use Rattle.shard_store.proofs.Words.{◌≡◌, ◌+◌, ◌<◌, ℕ, length, get_or, take, network_of, place_in, leading_to}
 use Rattle.shard_store.proofs.layout.ShardLayout.add_out.Given as goal
 
 abbrev pub invariant-loop-a : goal.invariant-loop-a

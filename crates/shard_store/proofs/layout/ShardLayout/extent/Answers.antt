@@ -1,7 +1,4 @@
-use Rattle.std.proofs.Common.{◌+◌, sym, ◌∙◌, refl, subst, arith}
-use Rattle.shard_store.specs.Tables.{placed}
-use Rattle.shard_store.specs.Setup.{place_in}
-use Rattle.shard_store.specs.Layout.{IsExtent}
+use Rattle.shard_store.proofs.Words.{◌+◌, sym, ◌∙◌, refl, subst, arith, placed, place_in, IsExtent}
 use Rattle.shard_store.proofs.Counting.{placed_then, placed_else, placed_long}
 use Rattle.shard_store.proofs.ShardLayouts.{extent_none, extent_within}
 use Rattle.shard_store.proofs.layout.ShardLayout.extent.Goals as goal

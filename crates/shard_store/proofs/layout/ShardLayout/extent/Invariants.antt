@@ -1,6 +1,4 @@
-use Rattle.shard_store.specs.Tables.{placed}
-use Rattle.shard_store.specs.Setup.{place_in}
-use Rattle.shard_store.specs.Layout.{IsExtent}
+use Rattle.shard_store.proofs.Words.{placed, place_in, IsExtent}
 use Rattle.shard_store.proofs.layout.ShardLayout.extent.Given as goal
 
 abbrev pub invariant-loop-i : goal.invariant-loop-i

@@ -1,5 +1,4 @@
-use Rattle.std.proofs.Common.{◌+◌, ◌++◌, [], ◌∷◌, ap, sym, ◌∙◌, refl}
-use Rattle.shard_store.specs.Setup.{place_in}
+use Rattle.shard_store.proofs.Words.{◌+◌, ◌++◌, [], ◌∷◌, ap, sym, ◌∙◌, refl, place_in}
 use Rattle.shard_store.proofs.Counting.{placed_then, placed_else, placed_start}
 use Rattle.shard_store.proofs.layout.ShardLayout.list_own.Goals as goal
 use Rattle.shard_store.proofs.layout.ShardLayout.list_own.Goals.{then-has+in_ok-push-2, else-has}

@@ -1,6 +1,4 @@
-use Rattle.std.proofs.Common.{◌≡◌, ◌∷◌}
-use Rattle.shard_store.specs.Tables.{placed}
-use Rattle.shard_store.specs.Setup.{place_in}
+use Rattle.shard_store.proofs.Words.{◌≡◌, ◌∷◌, placed, place_in}
 use Rattle.shard_store.proofs.layout.ShardLayout.list_own.Given as goal
 
 abbrev pub invariant-loop-i : goal.invariant-loop-i

@@ -1,7 +1,4 @@
-use Rattle.std.proofs.Common.{◌≡◌, ◌+◌, length, get_or, set, length-set, arith, ap, ◌∙◌, sym, refl}
-use Rattle.shard_store.specs.Tables.{VertexLists}
-use Rattle.shard_store.specs.Setup.{network_of}
-use Rattle.shard_store.specs.Outgoing.{arcs_out}
+use Rattle.shard_store.proofs.Words.{◌≡◌, ◌+◌, length, get_or, set, length-set, arith, ap, ◌∙◌, sym, refl, VertexLists, network_of, arcs_out}
 use Rattle.shard_store.proofs.ShardLayouts.{starts_few, own_within, starts_next, starts_more, some_arc}
 use Rattle.shard_store.proofs.layout.ShardLayout.write_starts.Goals as goal
 

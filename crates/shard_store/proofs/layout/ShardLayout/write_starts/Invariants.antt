@@ -1,6 +1,4 @@
-use Rattle.std.proofs.Common.{◌≡◌, ◌<◌, ℕ, length, get_or, take}
-use Rattle.shard_store.specs.Setup.{network_of}
-use Rattle.shard_store.specs.Outgoing.{arcs_out}
+use Rattle.shard_store.proofs.Words.{◌≡◌, ◌<◌, ℕ, length, get_or, take, network_of, arcs_out}
 use Rattle.shard_store.proofs.layout.ShardLayout.write_starts.Given as goal
 
 abbrev pub invariant-loop-j : goal.invariant-loop-j

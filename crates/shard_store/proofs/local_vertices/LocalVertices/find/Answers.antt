@@ -1,7 +1,5 @@
-use Rattle.std.proofs.Common.{◌≡◌, ◌<◌, List, ℕ, ◌∷◌, length, get_or, ap, sym, ◌∙◌, subst}
+use Rattle.shard_store.proofs.Words.{◌≡◌, ◌<◌, List, ℕ, ◌∷◌, length, get_or, ap, sym, ◌∙◌, subst, range_with_len, listed, ArePlacesInRange}
 use Rattle.std.specs.Prelude.{Contains}
-use Rattle.std.specs.List.{range_with_len}
-use Rattle.shard_store.specs.Tables.{listed, ArePlacesInRange}
 use Rattle.shard_store.proofs.Increasing.{run_found}
 use Rattle.shard_store.proofs.local_vertices.LocalVertices.find.Goals as goal
 

@@ -1,6 +1,4 @@
-use Rattle.std.proofs.Common.{length, ap, sym, ◌∙◌, arith}
-use Rattle.std.proofs.lemmas.List.FromFn.{length-range_with_len}
-use Rattle.shard_store.specs.Tables.{listed}
+use Rattle.shard_store.proofs.Words.{length, ap, sym, ◌∙◌, arith, length-range_with_len, listed}
 use Rattle.shard_store.proofs.local_vertices.LocalVertices.len.Goals as goal
 
 pub returns-in-Run : goal.returns-in-Run

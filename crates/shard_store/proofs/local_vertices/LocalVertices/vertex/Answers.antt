@@ -1,7 +1,4 @@
-use Rattle.std.proofs.Common.{◌≡◌, ◌<◌, List, ℕ, ◌∷◌, length, get_or, ap, sym, ◌∙◌, subst, arith}
-use Rattle.std.specs.List.{range_with_len}
-use Rattle.std.proofs.lemmas.List.FromFn.{length-range_with_len}
-use Rattle.shard_store.specs.Tables.{listed, ArePlacesInRange}
+use Rattle.shard_store.proofs.Words.{◌≡◌, ◌<◌, List, ℕ, ◌∷◌, length, get_or, ap, sym, ◌∙◌, subst, arith, range_with_len, length-range_with_len, listed, ArePlacesInRange}
 use Rattle.shard_store.proofs.Increasing.{run_read}
 use Rattle.shard_store.proofs.local_vertices.LocalVertices.vertex.Goals as goal
 

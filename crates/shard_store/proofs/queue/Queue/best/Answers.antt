@@ -1,6 +1,4 @@
-use Rattle.std.proofs.Common.{◌++◌, drop, map, sym, ap, ◌∙◌, subst}
-use Rattle.std.specs.BinaryHeap.{heap_items}
-use Rattle.shard_store.specs.Queue.{ranked_item, IsBestWaiting}
+use Rattle.shard_store.proofs.Words.{◌++◌, drop, map, sym, ap, ◌∙◌, subst, heap_items, ranked_item, IsBestWaiting}
 use Rattle.shard_store.proofs.Ranking.{dropped_none}
 use Rattle.shard_store.proofs.queue.Queue.best.Goals as goal
 

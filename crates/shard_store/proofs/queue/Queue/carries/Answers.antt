@@ -1,7 +1,4 @@
-use Rattle.std.proofs.Common.{ap, sym, ◌∙◌, leb, drop, map, ◌++◌}
-use Rattle.std.specs.BinaryHeap.{heap_items}
-use Rattle.shard_store.specs.Totals.{counted}
-use Rattle.shard_store.specs.Queue.{ranked_item}
+use Rattle.shard_store.proofs.Words.{ap, sym, ◌∙◌, leb, drop, map, ◌++◌, heap_items, counted, ranked_item}
 use Rattle.shard_store.proofs.Totals.{in_one}
 use Rattle.shard_store.proofs.Ranking.{in_second, in_third}
 use Rattle.shard_store.proofs.queue.Queue.carries.Goals.{then-is_ranked, else-is_ranked}

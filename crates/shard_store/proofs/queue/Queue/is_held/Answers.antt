@@ -1,6 +1,4 @@
-use Rattle.std.proofs.Common.{◌++◌, ap, sym, subst, drop, map}
-use Rattle.std.specs.BinaryHeap.{heap_items}
-use Rattle.shard_store.specs.Queue.{ranked_item, IsWorseMessage, IsHeldBy}
+use Rattle.shard_store.proofs.Words.{◌++◌, ap, sym, subst, drop, map, heap_items, ranked_item, IsWorseMessage, IsHeldBy}
 use Rattle.shard_store.proofs.Holding.{all_first, all_second}
 use Rattle.shard_store.proofs.queue.Queue.is_held.Goals as goal
 

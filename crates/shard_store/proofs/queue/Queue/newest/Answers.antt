@@ -1,8 +1,4 @@
-use Rattle.std.proofs.Common.{◌≤◌, ◌-◌, ap, ◌∙◌, drop, map, length, arith}
-use Rattle.std.specs.BinaryHeap.{heap_items}
-use Rattle.std.specs.Prelude.{slice_get}
-use Rattle.std.proofs.lemmas.List.{length-map}
-use Rattle.shard_store.specs.Queue.{ranked_item}
+use Rattle.shard_store.proofs.Words.{◌≤◌, ◌-◌, ap, ◌∙◌, drop, map, length, arith, heap_items, slice_get, length-map, ranked_item}
 use Rattle.shard_store.proofs.Ranking.{newest_is}
 use Rattle.shard_store.proofs.queue.Queue.newest.Goals as goal
 

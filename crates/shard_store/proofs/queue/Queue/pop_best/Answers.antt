@@ -1,7 +1,4 @@
-use Rattle.std.proofs.Common.{◌++◌, ap, sym, ◌∙◌, drop, map}
-use Rattle.std.specs.BinaryHeap.{heap_items}
-use Rattle.std.proofs.lemmas.List.{length-map}
-use Rattle.shard_store.specs.Queue.{ranked_item}
+use Rattle.shard_store.proofs.Words.{◌++◌, ap, sym, ◌∙◌, drop, map, heap_items, length-map, ranked_item}
 use Rattle.shard_store.proofs.Ranking.{best_leaves, best_alone, rest_empty}
 use Rattle.shard_store.proofs.queue.Queue.pop_best.Goals as goal
 

@@ -1,7 +1,6 @@
-use Rattle.std.proofs.Common.{◌≡◌, ap, refl, ◌∙◌, rules, length, arith}
+use Rattle.shard_store.proofs.Words.{◌≡◌, ap, refl, ◌∙◌, rules, length, arith, ranked_item}
 use Rattle.std.specs.Prelude.{vec_len}
 use Rattle.std.specs.BinaryHeap.{heap_items, heap_len}
-use Rattle.shard_store.specs.Queue.{ranked_item}
 use Rattle.shard_store.proofs.Ranking.{joined, newest_fits, newest_ranked, still_queue}
 use Rattle.shard_store.proofs.queue.Queue.rank_newest.Goals as goal
 

@@ -1,6 +1,5 @@
-use Rattle.std.proofs.Common.{arith, refl, sym, subst}
+use Rattle.shard_store.proofs.Words.{arith, refl, sym, subst, IsWorseMessage}
 use Rattle.std.proofs.lemmas.List.Elements.{All-get_or, AllWithin-more, All-from_all_within, at_read}
-use Rattle.shard_store.specs.Queue.{IsWorseMessage}
 use Rattle.shard_store.proofs.queue.holding.are_worse.Goals as goal
 
 pub loop-i-preserved : goal.loop-i-preserved

@@ -1,6 +1,5 @@
-use Rattle.std.proofs.Common.{◌++◌, ◌∷◌, [], take, sym, ap, ◌∙◌, subst, arith, append_assoc}
+use Rattle.shard_store.proofs.Words.{◌++◌, ◌∷◌, [], take, sym, ap, ◌∙◌, subst, arith, append_assoc, IsBestWaiting}
 use Rattle.std.proofs.lemmas.List.{append-nil, take_more, take_all}
-use Rattle.shard_store.specs.Queue.{IsBestWaiting}
 use Rattle.shard_store.proofs.queue.holding.best_with.Goals as goal
 
 pub loop-i-init : goal.loop-i-init

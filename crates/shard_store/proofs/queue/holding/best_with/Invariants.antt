@@ -1,6 +1,4 @@
-use Rattle.std.proofs.Common.{List, ◌++◌, take}
-use Rattle.scholten_core.specs.declared.item.Item.{Item}
-use Rattle.shard_store.specs.Queue.{IsBestWaiting}
+use Rattle.shard_store.proofs.Words.{List, ◌++◌, take, Item, IsBestWaiting}
 use Rattle.shard_store.proofs.queue.holding.best_with.Given as goal
 
 abbrev pub invariant-loop-i : goal.invariant-loop-i

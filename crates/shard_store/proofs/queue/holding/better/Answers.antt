@@ -1,6 +1,4 @@
-use Rattle.std.proofs.Common.{◌++◌, ◌∷◌, [], sym, subst}
-use Rattle.scholten_core.specs.declared.item.Item.TheVariants.{Message as MessageOn}
-use Rattle.shard_store.specs.Queue.{IsBestWaiting}
+use Rattle.shard_store.proofs.Words.{◌++◌, ◌∷◌, [], sym, subst, MessageOn, IsBestWaiting}
 use Rattle.shard_store.proofs.Holding.{message_more}
 use Rattle.shard_store.proofs.queue.holding.better.Goals as goal
 

@@ -1,7 +1,5 @@
-use Rattle.std.proofs.Common.{sym, ap, ◌∙◌, map, not}
-use Rattle.std.specs.BinaryHeap.{heap_items}
+use Rattle.shard_store.proofs.Words.{sym, ap, ◌∙◌, map, not, heap_items, ranked_item}
 use Rattle.std.proofs.lemmas.Bool.{not-true}
-use Rattle.shard_store.specs.Queue.{ranked_item}
 use Rattle.shard_store.proofs.Ranking.{top_is_best}
 use Rattle.shard_store.proofs.Holding.{all_worse, top_worse}
 use Rattle.shard_store.proofs.queue.holding.is_top_worse.Goals as goal

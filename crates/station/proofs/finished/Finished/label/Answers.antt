@@ -1,6 +1,4 @@
-use Rattle.std.proofs.Common.{◌≡◌, ◌∷◌, [], refl, sym, subst}
-use Rattle.path_algebra.specs.Walks.{IsBestLabel}
-use Rattle.shard_store.specs.Plans.{HasPlanned, shard_in}
+use Rattle.station.proofs.Words.{◌≡◌, ◌∷◌, [], refl, sym, subst, IsBestLabel, HasPlanned, shard_in}
 use Rattle.station.proofs.Places.{own_of}
 use Rattle.station.proofs.finished.Finished.label.Goals as goal
 

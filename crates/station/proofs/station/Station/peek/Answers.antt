@@ -1,6 +1,4 @@
-use Rattle.std.proofs.Common.{subst, sym, IfSome, ◌∷◌, []}
-use Rattle.path_algebra.specs.Walks.{IsWalkValue}
-use Rattle.shard_part.specs.Readings.{IsOwn}
+use Rattle.station.proofs.Words.{subst, sym, IfSome, ◌∷◌, [], IsWalkValue, IsOwn}
 use Rattle.station.proofs.Turns.{walks}
 use Rattle.station.proofs.station.Station.peek.Goals as goal
 

@@ -1,6 +1,4 @@
-use Rattle.std.proofs.Common.{true, false, subst, sym, ap, ◌∙◌}
-use Rattle.station.specs.Station.{BelongsTo}
-use Rattle.station.specs.Turn.{Turned}
+use Rattle.station.proofs.Words.{true, false, subst, sym, ap, ◌∙◌, BelongsTo, Turned}
 use Rattle.station.proofs.Stepping.{went_on}
 use Rattle.station.proofs.Turns.{rested, turned}
 use Rattle.station.proofs.station.Station.turn.Goals as goal

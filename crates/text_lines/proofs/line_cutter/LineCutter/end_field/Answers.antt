@@ -1,8 +1,4 @@
-use Rattle.std.proofs.Common.{◌≡◌, ◌<◌, sym, ap, ◌∙◌, subst, arith, length}
-use Rattle.std.proofs.lemmas.Bool.{eqb-true}
-use Rattle.std.proofs.lemmas.Grind.{common_steps}
-use Rattle.text_lines.specs.Scans.{scan_of}
-use Rattle.text_lines.specs.Words.{Word}
+use Rattle.text_lines.proofs.Words.{◌≡◌, ◌<◌, sym, ap, ◌∙◌, subst, arith, length, eqb-true, common_steps, scan_of, Word}
 use Rattle.text_lines.proofs.ScanLaws.{told_on, told_same}
 use Rattle.text_lines.proofs.line_cutter.LineCutter.end_field.Goals as goal
 

@@ -1,6 +1,4 @@
-use Rattle.std.proofs.Common.{ap, ◌∙◌}
-use Rattle.text_lines.specs.Scans.{Scan, past}
-use Rattle.std.specs.Str.Lines.{strip_carriage_return}
+use Rattle.text_lines.proofs.Words.{ap, ◌∙◌, Scan, past, strip_carriage_return}
 use Rattle.text_lines.proofs.ScanLaws.{shows_fields}
 use Rattle.text_lines.proofs.line_cutter.LineCutter.end_line.Goals as goal
 

@@ -1,8 +1,4 @@
-use Rattle.std.proofs.Common.{◌≡◌, ◌∷◌, [], ◌++◌, ap, ◌∙◌, sym, subst, true, false}
-use Rattle.text_lines.specs.Lines.{is_gap}
-use Rattle.text_lines.specs.Scans.{Scan, Shows, past, scan_of}
-use Rattle.text_lines.specs.Words.{no_word}
-use Rattle.text_lines.specs.Cuts.{Holds}
+use Rattle.text_lines.proofs.Words.{◌≡◌, ◌∷◌, [], ◌++◌, ap, ◌∙◌, sym, subst, true, false, is_gap, Scan, Shows, past, scan_of, no_word, Holds}
 use Rattle.text_lines.proofs.ScanLaws.{shows_gap, shows_other}
 use Rattle.text_lines.proofs.TextLaws.{shows_whole, holds_return, holds_other}
 use Rattle.text_lines.proofs.line_cutter.LineCutter.present_byte.Goals as goal

@@ -1,6 +1,4 @@
-use Rattle.std.proofs.Common.{◌++◌, List, ℕ, sym, ◌∙◌, subst, true, false}
-use Rattle.text_lines.specs.Scans.{Scan, Shows, scan_of, word_with}
-use Rattle.text_lines.specs.Cuts.{Holds}
+use Rattle.text_lines.proofs.Words.{◌++◌, List, ℕ, sym, ◌∙◌, subst, true, false, Scan, Shows, scan_of, word_with, Holds}
 use Rattle.text_lines.proofs.TextLaws.{shows_whole, holds_run}
 use Rattle.text_lines.proofs.line_cutter.LineCutter.present_run.Goals as goal
 

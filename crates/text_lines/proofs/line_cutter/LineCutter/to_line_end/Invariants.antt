@@ -1,5 +1,4 @@
-use Rattle.std.proofs.Common.{ℕ, ◌-◌, ◌≤◌, List, ◌++◌, take, length}
-use Rattle.text_lines.specs.Cuts.{IsPresent}
+use Rattle.text_lines.proofs.Words.{ℕ, ◌-◌, ◌≤◌, List, ◌++◌, take, length, IsPresent}
 use Rattle.text_lines.proofs.line_cutter.LineCutter.to_line_end.Given as goal
 
 -- the bytes so far go on with the present line

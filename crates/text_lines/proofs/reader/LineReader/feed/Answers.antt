@@ -1,5 +1,4 @@
-use Rattle.std.proofs.Common.{List, ℕ, ◌+◌, arith}
-use Rattle.std.proofs.lemmas.List.{take_all}
+use Rattle.text_lines.proofs.Words.{List, ℕ, ◌+◌, arith, take_all}
 use Rattle.text_lines.proofs.ReaderLaws.{halts_in, rest_gives_further}
 use Rattle.text_lines.proofs.reader.LineReader.feed.Goals as goal
 

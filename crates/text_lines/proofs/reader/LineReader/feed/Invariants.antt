@@ -1,6 +1,4 @@
-use Rattle.std.proofs.Common.{Bool, ◌≡◌, ℕ, ◌+◌, ◌-◌, ◌≤◌, List, ◌++◌, take, length, Result, false}
-use Rattle.text_lines.specs.declared.faults.ReadFault.{ReadFault}
-use Rattle.text_lines.specs.Reading.{RestGives}
+use Rattle.text_lines.proofs.Words.{Bool, ◌≡◌, ℕ, ◌+◌, ◌-◌, ◌≤◌, List, ◌++◌, take, length, Result, false, ReadFault, RestGives}
 use Rattle.text_lines.proofs.reader.LineReader.feed.Given as goal
 
 -- what follows gives, the bytes so far and then that give; and the bytes are counted

@@ -1,5 +1,4 @@
-use Rattle.std.proofs.lemmas.Result.{IfOk-weaker, IfErr-weaker}
-use Rattle.std.proofs.Common.{Ok}
+use Rattle.text_lines.proofs.Words.{IfOk-weaker, IfErr-weaker, Ok}
 use Rattle.text_lines.proofs.ReaderLaws.{rest_gives_end, end_halts, last_gives, last_end_halts, last_halts}
 use Rattle.text_lines.proofs.reader.LineReader.finish.Goals as goal
 

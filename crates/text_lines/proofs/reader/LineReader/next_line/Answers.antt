@@ -1,7 +1,5 @@
-use Rattle.std.proofs.Common.{◌≡◌, ◌≤◌, ℕ, ◌+◌, ◌-◌, ◌++◌, List, length, take, drop, arith, sym, ap, ◌∙◌, take-append-drop}
+use Rattle.text_lines.proofs.Words.{◌≡◌, ◌≤◌, ℕ, ◌+◌, ◌-◌, ◌++◌, List, length, take, drop, arith, sym, ap, ◌∙◌, take-append-drop, EndsLine, StaysInLine, SoFarOf}
 use Rattle.std.proofs.lemmas.List.{take_all, take-take, length-take, length-take-le}
-use Rattle.text_lines.specs.Cuts.{EndsLine, StaysInLine}
-use Rattle.text_lines.specs.Reading.{SoFarOf}
 use Rattle.text_lines.proofs.ReaderLaws.{none_fits, line_goes_on, line_taken, line_halts}
 use Rattle.text_lines.proofs.reader.LineReader.next_line.Goals as goal
 

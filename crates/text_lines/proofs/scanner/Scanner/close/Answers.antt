@@ -1,8 +1,4 @@
-use Rattle.std.proofs.Common.{◌≡◌, ◌<◌, length, sym, ap, ◌∙◌, subst, arith}
-use Rattle.std.proofs.lemmas.Bool.{eqb-true}
-use Rattle.std.proofs.lemmas.Grind.{common_steps}
-use Rattle.text_lines.specs.Scans.{scan_of}
-use Rattle.text_lines.specs.Words.{Word, no_word}
+use Rattle.text_lines.proofs.Words.{◌≡◌, ◌<◌, length, sym, ap, ◌∙◌, subst, arith, eqb-true, common_steps, scan_of, Word, no_word}
 use Rattle.text_lines.proofs.ScanLaws.{past_none, past_full, past_kept}
 use Rattle.text_lines.proofs.ScannerLaws.{words_count}
 use Rattle.text_lines.proofs.scanner.Scanner.close.Goals as goal

@@ -1,6 +1,5 @@
-use Rattle.std.proofs.Common.{sym}
+use Rattle.text_lines.proofs.Words.{sym, word_in}
 use Rattle.std.proofs.lemmas.List.{take-map}
-use Rattle.text_lines.specs.Slots.{word_in}
 use Rattle.text_lines.proofs.scanner.Scanner.fields.Goals as goal
 
 pub returns : goal.returns

@@ -1,6 +1,4 @@
-use Rattle.std.proofs.Common.{arith}
-use Rattle.std.proofs.lemmas.Grind.{common_steps}
-use Rattle.text_lines.specs.Scans.{word_on}
+use Rattle.text_lines.proofs.Words.{arith, common_steps, word_on}
 use Rattle.text_lines.proofs.slots.Slot.add.Goals as goal
 
 pub returns : goal.returns

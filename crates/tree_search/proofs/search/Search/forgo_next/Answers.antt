@@ -1,6 +1,4 @@
-use Rattle.std.proofs.Common.{◌≡◌, ℕ, ◌+◌, ◌-◌, ◌∙◌, refl, ap, subst, set, length, arith, true}
-use Rattle.tree_search.specs.Searching.{SearchState, Forgoes}
-use Rattle.tree_search.specs.declared.step.Step.TheVariants.{Settled}
+use Rattle.tree_search.proofs.Words.{◌≡◌, ℕ, ◌+◌, ◌-◌, ◌∙◌, refl, ap, subst, set, length, arith, true, SearchState, Forgoes, Settled}
 use Rattle.tree_search.proofs.Steps.{top_place, top_settled, search_drops, search_settles}
 use Rattle.tree_search.proofs.search.Search.forgo_next.Goals as goal
 

@@ -1,5 +1,4 @@
-use Rattle.std.proofs.Common.{◌≡◌, ◌-◌, ◌<◌, length, ◌∙◌, arith, refl, sym}
-use Rattle.tree_search.specs.Marks.{unsettled}
+use Rattle.tree_search.proofs.Words.{◌≡◌, ◌-◌, ◌<◌, length, ◌∙◌, arith, refl, sym, unsettled}
 use Rattle.tree_search.proofs.Steps.{search_offers, search_lessens}
 use Rattle.tree_search.proofs.search.Search.offer.Goals as goal
 

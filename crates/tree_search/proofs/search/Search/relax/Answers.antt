@@ -1,9 +1,7 @@
-use Rattle.std.proofs.Common.{◌≡◌, [], length, drop, arith, sym, ap, subst, ◌∙◌}
+use Rattle.tree_search.proofs.Words.{◌≡◌, [], length, drop, arith, sym, ap, subst, ◌∙◌, GraphData, Relaxes}
 use Rattle.std.proofs.lemmas.Grind.{common_steps}
 use Rattle.std.proofs.Math.ListN.{drop_of_length-le}
-use Rattle.road_graph.specs.GraphData.{GraphData}
 use Rattle.path_plain.proofs.Offering.{head_in, roads_short}
-use Rattle.tree_search.specs.Searching.{Relaxes}
 use Rattle.tree_search.proofs.Relaxing.{relaxed_by_roads, relaxed_is}
 use Rattle.tree_search.proofs.search.Search.relax.Goals as goal
 

@@ -1,5 +1,4 @@
-use Rattle.std.proofs.Common.{◌≡◌, ◌+◌, ◌≤◌, drop}
-use Rattle.tree_search.specs.Searching.{IsSameSearch}
+use Rattle.tree_search.proofs.Words.{◌≡◌, ◌+◌, ◌≤◌, drop, IsSameSearch}
 use Rattle.tree_search.proofs.Relaxing.{relaxed_by_roads}
 use Rattle.tree_search.proofs.search.Search.relax.Given as goal
 

@@ -1,6 +1,4 @@
-use Rattle.std.proofs.Common.{◌+◌, ◌∙◌, subst, arith}
-use Rattle.tree_search.specs.Searching.{SearchState, Proceeds}
-use Rattle.tree_search.specs.declared.step.Step.TheVariants.{Settled}
+use Rattle.tree_search.proofs.Words.{◌+◌, ◌∙◌, subst, arith, SearchState, Proceeds, Settled}
 use Rattle.tree_search.proofs.Steps.{top_place, top_hops, top_settled, search_drops, search_settles, settles_one}
 use Rattle.tree_search.proofs.search.Search.settle_next.Goals as goal
 

@@ -1,5 +1,4 @@
-use Rattle.std.proofs.Common.{◌≡◌, ℕ, ◌≤◌, ◌∙◌, refl, sym, subst}
-use Rattle.tree_search.specs.Marks.{marked, source_mark}
+use Rattle.tree_search.proofs.Words.{◌≡◌, ℕ, ◌≤◌, ◌∙◌, refl, sym, subst, marked, source_mark}
 use Rattle.tree_search.proofs.Opening.{opening_none, opening_more}
 use Rattle.tree_search.proofs.search.Search.start.Goals as goal
 

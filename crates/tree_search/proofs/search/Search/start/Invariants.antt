@@ -1,6 +1,4 @@
-use Rattle.std.proofs.Common.{take}
-use Rattle.tree_search.specs.Opening.{AreOpening}
-use Rattle.tree_search.specs.Searching.{IsSameSearch}
+use Rattle.tree_search.proofs.Words.{take, AreOpening, IsSameSearch}
 use Rattle.tree_search.proofs.search.Search.start.Given as goal
 
 abbrev pub invariant-loop-source : goal.invariant-loop-source

@@ -1,6 +1,5 @@
-use Rattle.std.proofs.Common.{arith, None}
+use Rattle.tree_search.proofs.Words.{arith, None, get_or_default}
 use Rattle.std.proofs.lemmas.Bool.{le-leb, lt-leb}
-use Rattle.std.proofs.lemmas.List.{get_or_default}
 use Rattle.tree_search.proofs.Rows.{counts, mark_at}
 use Rattle.tree_search.proofs.table.MarkTable.is_lesser.Goals as goal
 use Rattle.tree_search.proofs.table.MarkTable.is_lesser.Goals.{else-no_worse-via-then-no_worse+else-not-new-number, else-no_worse-via-else-no_worse}

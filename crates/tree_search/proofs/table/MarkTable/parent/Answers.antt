@@ -1,5 +1,4 @@
-use Rattle.std.proofs.Common.{arith, None}
-use Rattle.std.proofs.lemmas.List.{get_or_default}
+use Rattle.tree_search.proofs.Words.{arith, None, get_or_default}
 use Rattle.tree_search.proofs.Rows.{counts, parents_are}
 use Rattle.tree_search.proofs.table.MarkTable.parent.Goals as goal
 

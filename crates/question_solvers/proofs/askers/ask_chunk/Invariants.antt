@@ -1,6 +1,5 @@
-use Rattle.std.proofs.Common.{◌≡◌}
-use Rattle.question_solvers.specs.Tasks.{AreFoundIn}
-use Rattle.question_solvers.proofs.askers.ask_run.Given as goal
+use Rattle.question_solvers.proofs.Words.{◌≡◌, AreFoundIn}
+use Rattle.question_solvers.proofs.askers.ask_chunk.Given as goal
 
 abbrev pub invariant-loop-place : goal.invariant-loop-place
 invariant-loop-place g l = record {

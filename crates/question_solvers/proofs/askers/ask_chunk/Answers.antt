@@ -1,9 +1,6 @@
-use Rattle.std.proofs.Common.{rules, [], ◌∷◌, ◌++◌, ◌∙◌}
-use Rattle.std.proofs.lemmas.List.Elements.{All-push, All-same}
-use Rattle.road_files.specs.Asked.{asked_of}
-use Rattle.question_solvers.specs.Solved.{IsSearched}
+use Rattle.question_solvers.proofs.Words.{rules, [], ◌∷◌, ◌++◌, ◌∙◌, All-push, All-same, asked_of, IsSearched}
 use Rattle.question_solvers.proofs.Searches.{at_own}
-use Rattle.question_solvers.proofs.askers.ask_run.Goals as goal
+use Rattle.question_solvers.proofs.askers.ask_chunk.Goals as goal
 
 pub loop-place-preserved : goal.loop-place-preserved
 loop-place-preserved g c =

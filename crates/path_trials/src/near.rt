@@ -1,6 +1,6 @@
 //! Pairs of five vertices by searches that may give up, worked out by hand.
 use crate::graphs::graph_of;
-use crate::samples::{FIVE, is_found};
+use crate::samples::{FIVE, arc, is_found};
 use path_algebra::Shortest;
 use path_plain::{Halt, Stop};
 use road_graph::{InGraph, OutGraph, Vertex};
@@ -90,4 +90,30 @@ fn a_search_looks_at_its_stop_now_and_then(rt: HostRuntime) {
     assert!(rt; halt.is_due());
     let none = None;
     assert!(rt; !Halt::by(&none).is_due());
+}
+
+/// How many vertices the road has: fewer than a search's steps between two looks at its stop.
+const ON_THE_ROAD: u32 = 700;
+
+// The search takes 700 steps, and the way back along tight arcs and forth 700 each.
+#[test]
+fn a_stop_ends_the_search_for_a_route(rt: HostRuntime) {
+    let mut arcs = Vec::new(rt.alloc());
+    for v in 1..ON_THE_ROAD {
+        arcs.push(arc(v, v + 1, 1)).expect(&rt, "memory");
+    }
+    let road = OutGraph::new(rt.alloc(), ON_THE_ROAD, arcs).expect(&rt, "refused");
+    let rows = InGraph::of(rt.alloc(), &road).expect(&rt, "memory");
+    let mut searcher = PairSearcher::new(rt.alloc(), Shortest, &road).expect(&rt, "memory");
+    let pair = (Vertex(1), Vertex(ON_THE_ROAD));
+    assert!(rt; road.has(pair.0) && road.has(pair.1));
+    let stop = Stop::new(rt.alloc()).expect(&rt, "memory");
+    stop.set(true);
+    let stop = Some(stop);
+    let near = searcher.solve_unless(&road, &rows, pair, &mut Halt::by(&stop));
+    assert!(rt; is_near(&near.expect(&rt, "memory"), None));
+    match searcher.solve(&road, &rows, pair).expect(&rt, "memory") {
+        Some(found) => assert!(rt; found.hops == ON_THE_ROAD - 1),
+        None => panic!(rt; "no route"),
+    }
 }

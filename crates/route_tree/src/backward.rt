@@ -1,17 +1,21 @@
 //! The search from a target back over tight arcs, level by level, for the vertices that a route to
 //! it may go through.
 
-ghost use Rattle.std.specs.Prelude.{◌≡◌, ◌+◌, ◌-◌, ◌≤◌, ◌<◌, [], ◌∷◌, ◌++◌, All, Contains, IfOk, OnOk, cond, eqb, false, length, replicate, slice_set, true};
+ghost use Rattle.std.specs.Prelude.{◌≡◌, ◌+◌, ◌-◌, ◌≤◌, ◌<◌, [], ◌∷◌, ◌++◌, All, Contains, IfErr, IfOk, OnOk, cond, eqb, false, length, replicate, slice_set, true};
 ghost use Rattle.road_graph.specs.GraphData.{HasVertex};
 ghost use Rattle.path_algebra.specs.Walks.{is_marked, is_tight};
+ghost use Rattle.path_plain.specs.Halting.{CanHalt};
 ghost use Rattle.route_tree.specs.Blank.{AreFound};
 ghost use Rattle.route_tree.specs.Regions.{Covers, LeadTo, unmarked};
 ghost use Rattle.route_tree.specs.Backward.{VisitsBack, VisitsAllBack, VisitsLevelBack, finds_tail};
+ghost use Rattle.route_tree.specs.declared.unfinished.Unfinished.TheVariants.{Halted};
 
 use crate::entering::Entering;
 use crate::routes::push;
 use crate::tightness::is_tight;
+use crate::unfinished::Unfinished;
 use path_algebra::{Labels, PathAlgebra};
+use path_plain::Halt;
 use road_graph::{Memory, OutRoad, Vertex};
 use std::alloc::Global;
 use std::marker::Model;
@@ -142,17 +146,27 @@ impl<'g, A: PathAlgebra, G: Entering> Backward<'g, A, G> {
         Ok(())
     }
 
-    /// Visits each vertex of a list.
-    fn visit_all(&mut self, list: &[Vertex], row: &mut Vec<OutRoad>) -> Result<(), Memory>
+    /// Visits each vertex of a list, each a step of what may be told to give up.
+    fn visit_all(
+        &mut self,
+        list: &[Vertex],
+        row: &mut Vec<OutRoad>,
+        halt: &mut Halt<'_>,
+    ) -> Result<(), Unfinished>
         requires { All (HasVertex self.old.over.roads) list.now }
         ensures visits { OnOk result (VisitsAllBack (A.meaning self.old.over.algebra) list.now
             self.old self.new) }
         ensures over { OnOk result (self.new.over ≡ self.old.over) }
         ensures size { OnOk result (unmarked self.new.marks + length self.new.next ≡ unmarked
             self.old.marks + length self.old.next) }
+        ensures halts { IfErr result (λ e. e ≡ Halted → CanHalt halt.old) }
+        ensures kind { CanHalt halt.new → CanHalt halt.old }
     {
         for v in list {
             self.visit(*v, row)?;
+            if halt.is_due() {
+                return Err(Unfinished::Halted);
+            }
         }
         Ok(())
     }
@@ -166,16 +180,23 @@ impl<'g, A: PathAlgebra, G: Entering> Backward<'g, A, G> {
 
     /// Visits the vertices that were found last; those that it finds are one arc further from the
     /// target.
-    fn visit_level(&mut self, alloc: Global, row: &mut Vec<OutRoad>) -> Result<(), Memory>
+    fn visit_level(
+        &mut self,
+        alloc: Global,
+        row: &mut Vec<OutRoad>,
+        halt: &mut Halt<'_>,
+    ) -> Result<(), Unfinished>
         requires waiting { 1 ≤ length self.old.next }
         ensures visits { OnOk result (VisitsLevelBack (A.meaning self.old.over.algebra) self.old
             self.new) }
         ensures over { OnOk result (self.new.over ≡ self.old.over) }
         ensures fewer { OnOk result (unmarked self.new.marks + length self.new.next < unmarked
             self.old.marks + length self.old.next) }
+        ensures halts { IfErr result (λ e. e ≡ Halted → CanHalt halt.old) }
+        ensures kind { CanHalt halt.new → CanHalt halt.old }
     {
         let level = mem::replace(&mut self.next, Vec::new(alloc));
-        self.visit_all(&level, row)
+        self.visit_all(&level, row, halt)
     }
 
     /// The marks, and the vertices that have one.
@@ -199,33 +220,36 @@ fn list_of(alloc: Global, v: Vertex) -> Result<Vec<Vertex>, Memory>
 
 /// Marks of the vertices from which walks of tight arcs lead to the target, level by level until
 /// the source is among them; and a list of the source and these vertices. No vertex has a mark
-/// before.
+/// before. It may be told to give up.
 pub(crate) fn marks_back<A: PathAlgebra, G: Entering>(
     alloc: Global,
     algebra: A,
     by_head: &G,
     labels: &Labels<A::Value>,
-    source: Vertex,
-    target: Vertex,
+    ends: (Vertex, Vertex),
     marks: Vec<bool>,
-) -> Result<(Vec<bool>, Vec<Vertex>), Memory>
-    requires source { HasVertex (G.roads by_head.now) source }
-    requires target { HasVertex (G.roads by_head.now) target }
+    halt: &mut Halt<'_>,
+) -> Result<(Vec<bool>, Vec<Vertex>), Unfinished>
+    requires source { HasVertex (G.roads by_head.now) ends.0 }
+    requires target { HasVertex (G.roads by_head.now) ends.1 }
     requires labels { length labels.now ≡ (G.roads by_head.now).vertices }
     requires marks { marks.items ≡ replicate (G.roads by_head.now).vertices false }
     ensures covers { IfOk result (λ r. Covers (G.roads by_head.now) (is_tight (A.meaning algebra)
-        (G.roads by_head.now) labels.now) source target r.0.items) }
+        (G.roads by_head.now) labels.now) ends.0 ends.1 r.0.items) }
     ensures lead { IfOk result (λ r. LeadTo (G.roads by_head.now) (is_tight (A.meaning algebra)
-        (G.roads by_head.now) labels.now) target r.0.items) }
+        (G.roads by_head.now) labels.now) ends.1 r.0.items) }
     ensures count { IfOk result (λ r. length r.0.items ≡ (G.roads by_head.now).vertices) }
     ensures found { IfOk result (λ r. AreFound (G.roads by_head.now) r.0.items r.1.items) }
-    ensures source { IfOk result (λ r. Contains r.1.items source) }
+    ensures source { IfOk result (λ r. Contains r.1.items ends.0) }
+    ensures halts { IfErr result (λ e. e ≡ Halted → CanHalt halt.old) }
+    ensures kind { CanHalt halt.new → CanHalt halt.old }
 {
     by_head.holds();
+    let (source, target) = ends;
     let mut row = Vec::new(alloc);
     let mut search = Backward::open(alloc, algebra, by_head, labels, target, marks)?;
     while !search.is_done() && !search.has(source) {
-        search.visit_level(alloc, &mut row)?;
+        search.visit_level(alloc, &mut row, halt)?;
     }
     let (marks, mut found) = search.into_parts();
     push(&mut found, source)?;

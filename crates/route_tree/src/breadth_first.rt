@@ -1,17 +1,21 @@
 //! A breadth-first search over tight arcs, level by level: from the vertices at k hops to those at
 //! k + 1.
 
-ghost use Rattle.std.specs.Prelude.{◌≡◌, ◌+◌, ◌≤◌, ◌<◌, All, IfOk, None, OnOk, cond, eqb, length, replicate};
+ghost use Rattle.std.specs.Prelude.{◌≡◌, ◌+◌, ◌≤◌, ◌<◌, All, IfErr, IfOk, None, OnOk, cond, eqb, length, replicate};
 ghost use Rattle.road_graph.specs.GraphData.{HasVertex};
 ghost use Rattle.path_algebra.specs.Walks.{label_of};
+ghost use Rattle.path_plain.specs.Halting.{CanHalt};
 ghost use Rattle.route_tree.specs.Levels.{IsMarked, hops_if, is_near, lesser, next_if, parents_if, unreached};
 ghost use Rattle.route_tree.specs.BreadthFirst.{IsSameSearch, VisitsVertex, VisitsAll, VisitsLevel, passes_road};
+ghost use Rattle.route_tree.specs.declared.unfinished.Unfinished.TheVariants.{Halted};
 
 use crate::hops_and_parents::Tree;
 use crate::region::Region;
 use crate::slot::NumberSlot;
 use crate::tightness::is_tight;
+use crate::unfinished::Unfinished;
 use path_algebra::{Labels, PathAlgebra};
+use path_plain::Halt;
 use road_graph::{Memory, OutGraph, OutRoad, Vertex};
 use std::alloc::{AllocError, Global};
 use std::marker::Model;
@@ -225,17 +229,22 @@ impl<'g, A: PathAlgebra> BreadthFirst<'g, A> {
         Ok(())
     }
 
-    /// Visits each vertex of a list.
-    fn visit_all(&mut self, list: &[Vertex]) -> Result<(), Memory>
+    /// Visits each vertex of a list, each a step of what may be told to give up.
+    fn visit_all(&mut self, list: &[Vertex], halt: &mut Halt<'_>) -> Result<(), Unfinished>
         requires { All (HasVertex self.old.over.roads) list.now }
         ensures visits { OnOk result (VisitsAll (A.meaning self.old.over.algebra) list.now self.old
             self.new) }
         ensures same { OnOk result (IsSameSearch self.old self.new) }
         ensures size { OnOk result (unreached self.new.hops + length self.new.next ≡ unreached
             self.old.hops + length self.old.next) }
+        ensures halts { IfErr result (λ e. e ≡ Halted → CanHalt halt.old) }
+        ensures kind { CanHalt halt.new → CanHalt halt.old }
     {
         for v in list {
             self.visit(*v)?;
+            if halt.is_due() {
+                return Err(Unfinished::Halted);
+            }
         }
         Ok(())
     }
@@ -248,7 +257,11 @@ impl<'g, A: PathAlgebra> BreadthFirst<'g, A> {
     }
 
     /// Visits the vertices that were found last; those that it finds are the next level.
-    pub(crate) fn visit_level(&mut self, alloc: Global) -> Result<(), Memory>
+    pub(crate) fn visit_level(
+        &mut self,
+        alloc: Global,
+        halt: &mut Halt<'_>,
+    ) -> Result<(), Unfinished>
         requires waiting { 1 ≤ length self.old.next }
         ensures visits { OnOk result (VisitsLevel (A.meaning self.old.over.algebra) self.old
             self.new) }
@@ -256,9 +269,11 @@ impl<'g, A: PathAlgebra> BreadthFirst<'g, A> {
         ensures region { OnOk result (self.new.region ≡ self.old.region) }
         ensures fewer { OnOk result (unreached self.new.hops + length self.new.next < unreached
             self.old.hops + length self.old.next) }
+        ensures halts { IfErr result (λ e. e ≡ Halted → CanHalt halt.old) }
+        ensures kind { CanHalt halt.new → CanHalt halt.old }
     {
         let level = mem::replace(&mut self.next, Vec::new(alloc));
-        self.visit_all(&level)?;
+        self.visit_all(&level, halt)?;
         self.level += 1;
         Ok(())
     }

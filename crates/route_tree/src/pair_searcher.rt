@@ -39,6 +39,16 @@ impl<A: PathAlgebra> Model for PairSearcher<A> {
     ghost invariant = { λ s. s.finder ≡ s.searcher.roads.vertices };
 }
 
+/// What a search that has decided its pair may give up by: a stop alone.
+fn stop_of<'s>(halt: &Halt<'s>) -> Halt<'s>
+    ensures { CanHalt result → CanHalt halt.now }
+{
+    match halt {
+        Halt::Stopped(stop, left) => Halt::Stopped(*stop, *left),
+        _ => Halt::Never,
+    }
+}
+
 impl<A: PathAlgebra> PairSearcher<A> {
     /// A searcher for the pairs of this graph. The only error is want of memory.
     pub fn new(alloc: Global, algebra: A, graph: &OutGraph) -> Result<Self, Memory>
@@ -73,27 +83,29 @@ impl<A: PathAlgebra> PairSearcher<A> {
         self.searcher.is_from(source)
     }
 
-    /// What is found of a pair, by labels that are best up to its target.
+    /// What is found of a pair, by labels that are best up to its target, unless the search for the
+    /// route is to give up.
     fn find(
         &mut self,
         graph: &OutGraph,
         by_head: &InGraph,
         pair: (Vertex, Vertex),
-    ) -> Result<Option<Found>, Memory>
+        halt: &mut Halt<'_>,
+    ) -> Result<Nearby, Memory>
         requires graph { graph.now ≡ self.old.roads }
         requires by_head { by_head.now ≡ graph.now }
         requires source { HasVertex graph.now pair.0 }
         requires target { HasVertex graph.now pair.1 }
         requires labels { AreBestUpTo (A.meaning self.old.algebra) graph.now (pair.0 ∷ []) pair.1
             self.old.labels }
-        ensures found { IfOk result (IsPairFound (A.meaning self.old.algebra) graph.now pair.0 pair.1) }
+        ensures found { IfOk result (IsFoundIfNear (A.meaning self.old.algebra) graph.now pair.0 pair.1) }
+        ensures halts { IfOk result (λ near. near ≡ Undecided → CanHalt halt.old) }
         ensures same { self.new ≡ self.old }
     {
-        let (source, target) = pair;
         let algebra = self.searcher.algebra();
         let labels = self.searcher.labels();
         self.finder
-            .route(algebra, graph, by_head, labels, source, target)
+            .route(algebra, graph, by_head, labels, pair, halt)
     }
 
     /// The best value of a pair's target over all walks from its source, and the route to it; none
@@ -114,11 +126,15 @@ impl<A: PathAlgebra> PairSearcher<A> {
         ensures same { IsOfSameGraph self.old self.new }
     {
         self.searcher.solve_to(graph, pair.0, pair.1)?;
-        self.find(graph, by_head, pair)
+        match self.find(graph, by_head, pair, &mut Halt::Never)? {
+            Nearby::Decided(found) => Ok(found),
+            Nearby::Undecided => unreachable!(),
+        }
     }
 
     /// The same by a search that may be told to give up: then the pair is undecided, and a later
-    /// call from the same source goes on from there.
+    /// call from the same source goes on from there. Once it has decided the pair, it gives up by a
+    /// stop alone.
     pub fn solve_unless(
         &mut self,
         graph: &OutGraph,
@@ -135,10 +151,10 @@ impl<A: PathAlgebra> PairSearcher<A> {
         ensures source { OnOk result (self.new.source ≡ Some pair.0) }
         ensures same { IsOfSameGraph self.old self.new }
     {
+        let mut last = stop_of(halt);
         if !self.searcher.solve_unless(graph, pair.0, pair.1, halt)? {
             return Ok(Nearby::Undecided);
         }
-        let found = self.find(graph, by_head, pair)?;
-        Ok(Nearby::Decided(found))
+        self.find(graph, by_head, pair, &mut last)
     }
 }

@@ -1,19 +1,23 @@
 //! Routes between pairs of one graph, one after the other: the lists of the search stay.
 
-ghost use Rattle.std.specs.Prelude.{◌≡◌, ◌∷◌, [], IfOk};
+ghost use Rattle.std.specs.Prelude.{◌≡◌, ◌∷◌, [], IfErr, IfOk};
 ghost use Rattle.road_graph.specs.GraphData.{HasVertex};
 ghost use Rattle.path_plain.specs.UpTo.{AreBestUpTo};
-ghost use Rattle.route_tree.specs.Found.{IsPairFound};
+ghost use Rattle.path_plain.specs.Halting.{CanHalt};
+ghost use Rattle.route_tree.specs.Found.{IsFoundIfNear, IsPairFound};
+ghost use Rattle.route_tree.specs.declared.found.Nearby.TheVariants.{Undecided};
+ghost use Rattle.route_tree.specs.declared.unfinished.Unfinished.TheVariants.{Halted};
 
 use crate::backward::marks_back;
 use crate::entering::Entering;
-use crate::found::Found;
+use crate::found::{Found, Nearby};
 use crate::lists::Lists;
 use crate::region::Region;
 use crate::routes::found_in;
 use crate::tight_tree::tree_into;
+use crate::unfinished::Unfinished;
 use path_algebra::{Labels, PathAlgebra, laws_hold};
-use path_plain::best_values_exist;
+use path_plain::{Halt, best_values_exist};
 use road_graph::{Memory, OutGraph, Vertex};
 use std::alloc::Global;
 use std::marker::Model;
@@ -63,9 +67,55 @@ impl RouteFinder {
         }
     }
 
-    /// The best value of a target and the route to it, for labels that are best up to the target;
-    /// none if no walk has a value. `by_head` is the same graph, for steps back along its arcs. The
-    /// only error is `Memory`; after it the next call is right too.
+    /// What is found of a pair, its source first, unless the search for the route is to give up.
+    fn find<A: PathAlgebra, G: Entering>(
+        &mut self,
+        algebra: A,
+        graph: &OutGraph,
+        by_head: &G,
+        labels: &Labels<A::Value>,
+        ends: (Vertex, Vertex),
+        halt: &mut Halt<'_>,
+    ) -> Result<Option<Found>, Unfinished>
+        requires count { graph.now.vertices ≡ self.old }
+        requires by_head { G.roads by_head.now ≡ graph.now }
+        requires source { HasVertex graph.now ends.0 }
+        requires target { HasVertex graph.now ends.1 }
+        requires labels { AreBestUpTo (A.meaning algebra) graph.now (ends.0 ∷ []) ends.1 labels.now }
+        ensures found { IfOk result (IsPairFound (A.meaning algebra) graph.now ends.0 ends.1) }
+        ensures same { self.new ≡ self.old }
+        ensures halts { IfErr result (λ e. e ≡ Halted → CanHalt halt.old) }
+    {
+        laws_hold(algebra);
+        best_values_exist(algebra);
+        graph.holds();
+        let (source, target) = ends;
+        let Some(value) = labels.of(target) else {
+            return Ok(None);
+        };
+        let alloc = self.alloc;
+        let (marks, blank) = self.take_lists()?.into_parts();
+        let (marks, found) = marks_back(alloc, algebra, by_head, labels, ends, marks, halt)?;
+        let region = Region::marked(marks);
+        let tree = tree_into(
+            alloc,
+            algebra,
+            graph,
+            labels,
+            &region,
+            &[source],
+            blank,
+            halt,
+        )?;
+        let pair = found_in(alloc, &tree, algebra.code(value), target)?;
+        self.lists = Some(Lists::put_back(region.into_marks(), tree, found.as_slice()));
+        Ok(pair)
+    }
+
+    /// The best value of a pair's target, which is its second, and the route to it, for labels that
+    /// are best up to the target; none if no walk has a value. `by_head` is the same graph, for
+    /// steps back along its arcs. The search for the route may be told to give up: then the pair is
+    /// undecided. The only error is `Memory`. After either the next call is right too.
     ///
     /// The route is that of the whole tree: a walk of tight arcs to the target passes only vertices
     /// whose labels are best.
@@ -75,30 +125,22 @@ impl RouteFinder {
         graph: &OutGraph,
         by_head: &G,
         labels: &Labels<A::Value>,
-        source: Vertex,
-        target: Vertex,
-    ) -> Result<Option<Found>, Memory>
+        ends: (Vertex, Vertex),
+        halt: &mut Halt<'_>,
+    ) -> Result<Nearby, Memory>
         requires count { graph.now.vertices ≡ self.old }
         requires by_head { G.roads by_head.now ≡ graph.now }
-        requires source { HasVertex graph.now source }
-        requires target { HasVertex graph.now target }
-        requires labels { AreBestUpTo (A.meaning algebra) graph.now (source ∷ []) target labels.now }
-        ensures found { IfOk result (IsPairFound (A.meaning algebra) graph.now source target) }
+        requires source { HasVertex graph.now ends.0 }
+        requires target { HasVertex graph.now ends.1 }
+        requires labels { AreBestUpTo (A.meaning algebra) graph.now (ends.0 ∷ []) ends.1 labels.now }
+        ensures found { IfOk result (IsFoundIfNear (A.meaning algebra) graph.now ends.0 ends.1) }
         ensures same { self.new ≡ self.old }
+        ensures halts { IfOk result (λ near. near ≡ Undecided → CanHalt halt.old) }
     {
-        laws_hold(algebra);
-        best_values_exist(algebra);
-        graph.holds();
-        let Some(value) = labels.of(target) else {
-            return Ok(None);
-        };
-        let alloc = self.alloc;
-        let (marks, blank) = self.take_lists()?.into_parts();
-        let (marks, found) = marks_back(alloc, algebra, by_head, labels, source, target, marks)?;
-        let region = Region::marked(marks);
-        let tree = tree_into(alloc, algebra, graph, labels, &region, &[source], blank)?;
-        let pair = found_in(alloc, &tree, algebra.code(value), target)?;
-        self.lists = Some(Lists::put_back(region.into_marks(), tree, found.as_slice()));
-        Ok(pair)
+        match self.find(algebra, graph, by_head, labels, ends, halt) {
+            Ok(found) => Ok(Nearby::Decided(found)),
+            Err(Unfinished::Halted) => Ok(Nearby::Undecided),
+            Err(Unfinished::Memory) => Err(Memory),
+        }
     }
 }

@@ -6,10 +6,11 @@ ghost use Rattle.path_algebra.specs.Walks.{AreBest};
 ghost use Rattle.route_tree.specs.Found.{IsFoundIn, IsPairFound};
 ghost use Rattle.route_tree.specs.Tree.{IsRoute, hops_of};
 
-use crate::found::Found;
+use crate::found::{Found, Nearby};
 use crate::hops_and_parents::Tree;
 use crate::route_finder::RouteFinder;
 use path_algebra::{Labels, PathAlgebra, laws_hold};
+use path_plain::Halt;
 use road_graph::{Graph, Memory, Vertex};
 use std::alloc::{AllocError, Global};
 
@@ -87,5 +88,9 @@ pub fn route_between<A: PathAlgebra>(
     laws_hold(algebra);
     graph.holds();
     let mut finder = RouteFinder::new(alloc, graph.vertices());
-    finder.route(algebra, graph.outgoing(), graph, labels, source, target)
+    let (ends, halt) = ((source, target), &mut Halt::Never);
+    match finder.route(algebra, graph.outgoing(), graph, labels, ends, halt)? {
+        Nearby::Decided(found) => Ok(found),
+        Nearby::Undecided => unreachable!(),
+    }
 }

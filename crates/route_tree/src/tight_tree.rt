@@ -1,21 +1,25 @@
 //! The tree of best labels, over the arcs that are tight by them.
 
-ghost use Rattle.std.specs.Prelude.{◌≡◌, All, IfOk, None, length, replicate};
+ghost use Rattle.std.specs.Prelude.{◌≡◌, All, IfErr, IfOk, None, length, replicate};
 ghost use Rattle.road_graph.specs.GraphData.{HasVertex};
 ghost use Rattle.path_algebra.specs.Walks.{AreBest};
+ghost use Rattle.path_plain.specs.Halting.{CanHalt};
 ghost use Rattle.route_tree.specs.Levels.{AreLeast, AreLeastTails};
 ghost use Rattle.route_tree.specs.Regions.{is_tight_into};
 ghost use Rattle.route_tree.specs.Tree.{IsTree};
+ghost use Rattle.route_tree.specs.declared.unfinished.Unfinished.TheVariants.{Halted};
 
 use crate::breadth_first::BreadthFirst;
 use crate::hops_and_parents::Tree;
 use crate::region::Region;
+use crate::unfinished::Unfinished;
 use path_algebra::{Labels, PathAlgebra, laws_hold};
+use path_plain::Halt;
 use road_graph::{Graph, Memory, OutGraph, Vertex};
 use std::alloc::Global;
 
 /// The least hops and the least parents over the tight arcs that lead into a region. `blank` is
-/// room for them.
+/// room for them. It may be told to give up.
 pub(crate) fn tree_into<A: PathAlgebra>(
     alloc: Global,
     algebra: A,
@@ -24,7 +28,8 @@ pub(crate) fn tree_into<A: PathAlgebra>(
     region: &Region,
     sources: &[Vertex],
     blank: Tree,
-) -> Result<Tree, Memory>
+    halt: &mut Halt<'_>,
+) -> Result<Tree, Unfinished>
     requires sources { All (HasVertex graph.now) sources.now }
     requires labels { length labels.now ≡ graph.now.vertices }
     requires hops { blank.hops ≡ replicate graph.now.vertices None }
@@ -33,11 +38,13 @@ pub(crate) fn tree_into<A: PathAlgebra>(
         graph.now labels.now region.now) sources.now tree.hops) }
     ensures parents { IfOk result (λ tree. AreLeastTails graph.now
         (is_tight_into (A.meaning algebra) graph.now labels.now region.now) tree.hops tree.parents) }
+    ensures halts { IfErr result (λ e. e ≡ Halted → CanHalt halt.old) }
+    ensures kind { CanHalt halt.new → CanHalt halt.old }
 {
     graph.holds();
     let mut search = BreadthFirst::open(alloc, algebra, graph, labels, region, sources, blank)?;
     while !search.is_done() {
-        search.visit_level(alloc)?;
+        search.visit_level(alloc, halt)?;
     }
     let (hops, parents) = search.into_parts();
     Ok(Tree { hops, parents })
@@ -61,16 +68,13 @@ pub fn tree_outgoing<A: PathAlgebra>(
     laws_hold(algebra);
     graph.holds();
     let blank = Tree::blank(alloc, graph.vertices() as usize)?;
-    let tree = tree_into(
-        alloc,
-        algebra,
-        graph,
-        labels,
-        &Region::all(),
-        sources,
-        blank,
-    )?;
-    Ok(tree)
+    let region = Region::all();
+    let halt = &mut Halt::Never;
+    match tree_into(alloc, algebra, graph, labels, &region, sources, blank, halt) {
+        Ok(tree) => Ok(tree),
+        Err(Unfinished::Memory) => Err(Memory),
+        Err(Unfinished::Halted) => unreachable!(),
+    }
 }
 
 /// The same, in a graph that has its arcs by number and by head too.

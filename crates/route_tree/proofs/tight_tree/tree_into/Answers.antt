@@ -15,6 +15,7 @@ loop-alloc-init g c =
       region = c.in_ok-search.ensures.region;
       visiting = subst (λ (k : ℕ). Visiting roads test c.args.sources.now k search.hops search.parents search.next [] []) (sym c.in_ok-search.ensures.level)
           (subst (λ (parents : List (Option ℕ)). Visiting roads test c.args.sources.now 0 search.hops parents search.next [] []) (sym c.in_ok-search.ensures.parents) start);
+      kind = λ can. can;
     }
 
 pub loop-alloc-preserved : goal.loop-alloc-preserved
@@ -24,6 +25,7 @@ loop-alloc-preserved g c =
       over = c.in_ok-visit_level.ensures.over ∙ known.over;
       region = c.in_ok-visit_level.ensures.region ∙ known.region;
       visiting = (rw (known.over, known.region) at c.in_ok-visit_level.ensures.visits) c.args.sources.now known.visiting;
+      kind = λ can. known.kind (c.visit_level.ensures.kind can);
     }
 
 pub visit_level-requires-clause-waiting : goal.visit_level-requires-clause-waiting

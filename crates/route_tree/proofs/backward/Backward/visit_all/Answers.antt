@@ -12,6 +12,7 @@ loop-v-preserved g c =
           c.loop-v.v-index c.v-item.result _ _ c.loop-v-test.true c.v-item.is (visits target k) (c.loop-v.invariant.goes target k known);
       over = c.in_ok-visit.ensures.over ∙ over;
       size = c.in_ok-visit.ensures.size ∙ c.loop-v.invariant.size;
+      kind = λ can. c.loop-v.invariant.kind (c.is_due.ensures.kind.0 can);
     }
 
 pub returns-clause-visits : goal.returns-clause-visits

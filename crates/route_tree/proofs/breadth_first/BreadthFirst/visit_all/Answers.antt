@@ -17,6 +17,7 @@ loop-v-preserved g c =
         level = c.in_ok-visit.ensures.same.level ∙ same.level;
       };
       size = c.in_ok-visit.ensures.size ∙ c.loop-v.invariant.size;
+      kind = λ can. c.loop-v.invariant.kind (c.is_due.ensures.kind.0 can);
     }
 
 pub returns-clause-visits : goal.returns-clause-visits

@@ -2,7 +2,7 @@ use Rattle.route_tree.proofs.Words.{◌≡◌, ◌∷◌, [], ◌∙◌, ap, sym
 use Rattle.path_algebra.specs.Walks.{IsBest, IsBestLabel, is_tight}
 use Rattle.route_tree.proofs.Blank.{same_region, marks_blank, hops_blank, parents_blank}
 use Rattle.route_tree.proofs.UpTo.{pair_found_up_to}
-use Rattle.route_tree.proofs.route_finder.RouteFinder.route.Goals as goal
+use Rattle.route_tree.proofs.route_finder.RouteFinder.find.Goals as goal
 
 pub put_back-requires-clause-marks : goal.put_back-requires-clause-marks
 put_back-requires-clause-marks g c =
@@ -12,7 +12,7 @@ put_back-requires-clause-marks g c =
     let count : length marks ≡ G.vertices = rw c.requires.by_head at c.in_ok-marks.ensures.count in
     let test = is_tight (g.A.PathAlgebra.meaning c.args.algebra) G c.args.labels.now in
     let same : c.into_marks.result.items ≡ marks = same_region (sym c.into_marks.ensures ∙ c.marked-region.ensures) in
-    rw (c.as_slice.ensures.value, same) (marks_blank G c.holds.ensures test c.args.source marks c.in_ok-marks.found.items found count c.in_ok-marks.ensures.source)
+    rw (c.as_slice.ensures.value, same) (marks_blank G c.holds.ensures test c.args.ends.0 marks c.in_ok-marks.found.items found count c.in_ok-marks.ensures.source)
 
 pub put_back-requires-clause-hops : goal.put_back-requires-clause-hops
 put_back-requires-clause-hops g c =
@@ -21,7 +21,7 @@ put_back-requires-clause-hops g c =
     let found : AreFound G marks c.in_ok-marks.found.items = rw c.requires.by_head at c.in_ok-marks.ensures.found in
     let count : length marks ≡ G.vertices = rw c.requires.by_head at c.in_ok-marks.ensures.count in
     let test = is_tight (g.A.PathAlgebra.meaning c.args.algebra) G c.args.labels.now in
-    rw c.as_slice.ensures.value (hops_blank G c.holds.ensures test c.args.source marks c.in_ok-marks.found.items found count c.in_ok-marks.ensures.source
+    rw c.as_slice.ensures.value (hops_blank G c.holds.ensures test c.args.ends.0 marks c.in_ok-marks.found.items found count c.in_ok-marks.ensures.source
     c.in_ok-tree.tree.hops c.in_ok-tree.tree.parents (rw (c.marked-region.ensures) at c.in_ok-tree.ensures.hops) (rw (c.marked-region.ensures) at c.in_ok-tree.ensures.parents))
 
 pub put_back-requires-clause-parents : goal.put_back-requires-clause-parents
@@ -31,7 +31,7 @@ put_back-requires-clause-parents g c =
     let found : AreFound G marks c.in_ok-marks.found.items = rw c.requires.by_head at c.in_ok-marks.ensures.found in
     let count : length marks ≡ G.vertices = rw c.requires.by_head at c.in_ok-marks.ensures.count in
     let test = is_tight (g.A.PathAlgebra.meaning c.args.algebra) G c.args.labels.now in
-    rw c.as_slice.ensures.value (parents_blank G c.holds.ensures test c.args.source marks c.in_ok-marks.found.items found count c.in_ok-marks.ensures.source
+    rw c.as_slice.ensures.value (parents_blank G c.holds.ensures test c.args.ends.0 marks c.in_ok-marks.found.items found count c.in_ok-marks.ensures.source
     c.in_ok-tree.tree.hops c.in_ok-tree.tree.parents (rw (c.marked-region.ensures) at c.in_ok-tree.ensures.hops) (rw (c.marked-region.ensures) at c.in_ok-tree.ensures.parents))
 
 pub put_back-requires-clause-count : goal.put_back-requires-clause-count
@@ -53,18 +53,18 @@ invariant_of-self g c =
 
 pub returns-in_default-clause-found : goal.returns-in_default-clause-found
 returns-in_default-clause-found g c =
-    subst (IsBestLabel (g.A.PathAlgebra.meaning c.args.algebra) c.args.graph.now (c.args.source ∷ []) c.args.target) (sym c.of.ensures ∙ c.in_default.is) c.requires.labels.at_target
+    subst (IsBestLabel (g.A.PathAlgebra.meaning c.args.algebra) c.args.graph.now (c.args.ends.0 ∷ []) c.args.ends.1) (sym c.of.ensures ∙ c.in_default.is) c.requires.labels.at_target
 
 pub returns-clause-found : goal.returns-clause-found
 returns-clause-found g c =
     let A = g.A.PathAlgebra.meaning c.args.algebra in
     let G = c.args.graph.now in
-    let sources = c.args.source ∷ [] in
-    let inside = All-cons (HasVertex G) c.args.source [] c.requires.source (All-nil (HasVertex G)) in
+    let sources = c.args.ends.0 ∷ [] in
+    let inside = All-cons (HasVertex G) c.args.ends.0 [] c.requires.source (All-nil (HasVertex G)) in
     let whole = c.best_values_exist.ensures G c.holds.ensures sources inside in
-    let best : IsBest A G sources c.args.target c.in-Some.value =
-    subst (IsBestLabel A G sources c.args.target) (sym c.of.ensures ∙ c.in-Some.is) c.requires.labels.at_target in
-    pair_found_up_to A c.laws_hold.ensures.lawful G c.holds.ensures c.args.source c.args.target inside (all_inside G sources inside) c.requires.target
+    let best : IsBest A G sources c.args.ends.1 c.in-Some.value =
+    subst (IsBestLabel A G sources c.args.ends.1) (sym c.of.ensures ∙ c.in-Some.is) c.requires.labels.at_target in
+    pair_found_up_to A c.laws_hold.ensures.lawful G c.holds.ensures c.args.ends.0 c.args.ends.1 inside (all_inside G sources inside) c.requires.target
     whole.0 whole.1 c.args.labels.now c.requires.labels c.in_ok-marks.marks.items (rw c.requires.by_head at c.in_ok-marks.ensures.covers)
     (rw c.requires.by_head at c.in_ok-marks.ensures.lead)
     c.in_ok-tree.tree.hops c.in_ok-tree.tree.parents (rw (c.marked-region.ensures) at c.in_ok-tree.ensures.hops) (rw (c.marked-region.ensures) at c.in_ok-tree.ensures.parents)

@@ -1,0 +1,23 @@
+//! Why a pass over tight arcs has not ended.
+ghost use Rattle.std.specs.Prelude.{◌≡◌};
+
+use road_graph::Memory;
+
+/// Why a pass over tight arcs has not ended.
+#[derive(Drop)]
+pub(crate) enum Unfinished {
+    /// Out of memory.
+    Memory,
+    /// It was told to give up.
+    Halted,
+}
+
+impl From<Memory> for Unfinished {
+    ghost use Rattle.route_tree.specs.declared.unfinished.Unfinished.TheVariants.{Memory};
+
+    ghost from_gives = { λ _ e. e ≡ Memory };
+
+    fn from(_error: Memory) -> Unfinished {
+        Unfinished::Memory
+    }
+}

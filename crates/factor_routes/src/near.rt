@@ -17,13 +17,13 @@ const FEWEST: u32 = 32;
 /// The most steps after which a search gives up: most near pairs need fewer.
 const MOST: u32 = 500;
 
-/// For how many vertices of its graph a search takes a step: factors of a small graph are asked in
-/// the time of few steps.
-const VERTICES_A_STEP: u32 = 200;
+/// For how many vertices of its graph a search takes a step: in vain it then takes a third of what
+/// factors of a small graph take.
+const VERTICES_A_STEP: u32 = 600;
 
 /// When a search for a pair gives up, so that factors are asked, on a graph of so many vertices.
 fn near_halt(vertices: u32) -> Halt<'static>
-    ensures { result ≡ After (min (max (vertices / 200) 32) 500) }
+    ensures { result ≡ After (min (max (vertices / 600) 32) 500) }
 {
     Halt::After((vertices / VERTICES_A_STEP).max(FEWEST).min(MOST))
 }

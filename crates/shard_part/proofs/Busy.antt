@@ -19,7 +19,7 @@ module _ {S V : Type 0} where
       ≡ one_if (eqb ((network_of p.setup).tail k) u && not (is_idle ((state_in p).token k)))
   term_other p u b x k n = ap (λ z. one_if (eqb ((network_of p.setup).tail k) u && not (is_idle {V = V} (token_if z)))) (get_or-set_other p.busy b k x false n)
 
-  busy_other : (p : PartData S V) (u b : ℕ) (x : Bool) (n : ℕ) → (network_of p.setup).tail b ≢ u
+  pub busy_other : (p : PartData S V) (u b : ℕ) (x : Bool) (n : ℕ) → (network_of p.setup).tail b ≢ u
       → busy_out (network_of p.setup) u (state_in (record p { busy = set p.busy b x })) n ≡ busy_out (network_of p.setup) u (state_in p) n
   busy_other p u b x n ne = sum_below_same (λ k. one_if
       (eqb ((network_of p.setup).tail k) u && not (is_idle ((state_in (record p { busy = set p.busy b x })).token k))))

@@ -1,5 +1,5 @@
 -- What the moves do with the item whose turn it is is one item taken.
-use Rattle.shard_part.proofs.Words.{◌≡◌, ◌≢◌, ℕ, zero, suc, ◌<◌, ◌≤◌, Bool, true, false, cond, Option, Some, None, List, [], ◌∷◌, ◌++◌, length, set, get_or, refl, sym, ap, ◌∙◌, subst, inl, inr, arith, length-set, get_or-set_same, get_or-set_other, eqb-true, eq-eqb, Contains, cond-true, cond-false, IsPermutation, Idle, Item, MessageOn, SignalOn, Algebra, Lawful, Network, WellFormed, item_arc, item_of, pump_made, settle_made, IsDistinct, IsOutList, counted_on, top, PartData, state_in, token_if, mine, vertex_of, IsArc, SetupData, network_of, place_in, IsPlanned, Channels, channels_of, message_weight, signal_weight, total, routes, route, arrive_here, settle_here, taken, made, IsInTurn, HandledItemIn, outgoing, Room, Rows, OwnIdleIsTold, table_long, not_in_empty, here_as, head_or_tail}
+use Rattle.shard_part.proofs.Words.{◌≡◌, ◌≢◌, ℕ, zero, suc, ◌<◌, ◌≤◌, Bool, true, false, cond, Option, Some, None, List, [], ◌∷◌, ◌++◌, length, set, get_or, refl, sym, ap, ◌∙◌, subst, inl, inr, arith, length-set, get_or-set_same, get_or-set_other, eqb-true, eq-eqb, Contains, cond-true, cond-false, IsPermutation, Idle, Item, MessageOn, SignalOn, Algebra, Lawful, Network, WellFormed, item_arc, item_of, pump_made, settle_made, IsDistinct, IsOutList, counted_on, top, PartData, state_in, token_if, mine, vertex_of, IsArc, SetupData, network_of, place_in, IsPlanned, Channels, channels_of, message_weight, signal_weight, total, routes, route, arrive_here, settle_here, taken, made, IsInTurn, HandledItemIn, outgoing, Room, Rows, OwnIdleIsTold, table_long, not_in_empty, here_as, head_or_tail, IsFit}
 use Rattle.scholten_core.specs.Diffusion.{CoreState, put, is_idle, is_due, improves, better_of, engaged_by, answer_to, freed}
 use Rattle.scholten_core.proofs.Basics.{put_tells, due_tells, put_set}
 use Rattle.shard_part.specs.Moves.{RepInvariant, IsPopped, engaged_or_answered, offered, offered_all, rested, with_value, with_free, with_taken}
@@ -11,17 +11,6 @@ use Rattle.scholten_core.proofs.Quick.{HasTold, quiet_signal, made_nothing, made
 use Rattle.shard_part.proofs.Quick.{quiet_message}
 use Rattle.shard_part.proofs.OffersArePumped.{counted_none, counted_top}
 use Rattle.shard_part.proofs.VertexSettles.{Made, settles, made_after}
-
--- the tables have a place for each vertex and each arc, and no counter is past its top
-pub record IsFit {S V : Type 0} (p : PartData S V) : Type 0 where
-  pub labels : length p.labels ≡ suc p.setup.diffusion.roads.vertices
-  pub engagers : length p.engagers ≡ suc p.setup.diffusion.roads.vertices
-  pub busy : length p.busy ≡ suc (length p.setup.diffusion.roads.arcs)
-  pub told : length p.told ≡ suc (length p.setup.diffusion.roads.arcs)
-  pub sent : p.sent ≤ top
-  pub delivered : p.delivered ≤ top
-  pub signalled : p.signalled ≤ top
-  pub accepted : p.accepted ≤ top
 
 pub stored_fit : {S V : Type 0} (p : PartData S V) (r : Rows V) (n : Room) (ns : List ℕ) → RepInvariant p r n ns → IsFit p
 stored_fit p r n ns D = record {
@@ -239,7 +228,7 @@ module _ {S V : Type 0} (A : Algebra V) where
   }
 
   -- the item i is taken, with zs after it
-  handled : Lawful A → (p : PartData S V) (i : Item V) (zs : List (Item V)) → IsPlanned p.setup p.shard → IsFit p → OwnIdleIsTold p → IsPermutation p.queue (i ∷ zs) → IsInTurn A (network_of p.setup) p.setup.order (state_in p) p.queue i zs → IsArc (network_of p.setup) (item_arc i) →
+  pub handled : Lawful A → (p : PartData S V) (i : Item V) (zs : List (Item V)) → IsPlanned p.setup p.shard → IsFit p → OwnIdleIsTold p → IsPermutation p.queue (i ∷ zs) → IsInTurn A (network_of p.setup) p.setup.order (state_in p) p.queue i zs → IsArc (network_of p.setup) (item_arc i) →
       place_in p.setup (vertex_of (network_of p.setup) i) ≡ p.shard → HandledItemIn A (network_of p.setup) (place_in p.setup) p i (with_taken A i (record p { queue = zs }))
   handled L p (MessageOn a x) zs P F T left in_turn r here = handled_as p _ (MessageOn a x) zs (counted_on 1 p.delivered) p.accepted left in_turn refl (sym (counted_none p.accepted F.accepted))
       (message_taken L (record p { queue = zs; delivered = counted_on 1 p.delivered }) a x (formed p p.shard P) (counted_fit p zs (counted_on 1 p.delivered) p.accepted F (counted_top 1 p.delivered) F.accepted)

@@ -20,6 +20,9 @@ mod OffersArePumped
 mod VertexSettles
 mod ItemIsTaken
 mod ToldKept
+mod Repaying
+mod RepayingOffers
+mod RepaidRuns
 pub mod TakenCounts
 pub mod OnePartTakesTheBest
 mod Within

@@ -1,8 +1,8 @@
 -- The arcs out of a vertex are offered its label one after the other.
 use Rattle.shard_part.proofs.Words.{◌≡◌, ◌≢◌, ℕ, ◌+◌, ◌<◌, ◌≤◌, Bool, true, false, cond, Option, Some, None, List, [], ◌∷◌, ◌++◌, length, set, get_or, take, refl, sym, ap, ◌∙◌, subst, arith, Algebra, OutRoad, WellFormed, is_due, extend_label, improves, SetupData, network_of, PartData, state_in, IsArc, outgoing, local_vertices, Room, Rows, tail-arc}
-use Rattle.std.proofs.lemmas.List.{get_or_read, take_more, take_all}
+use Rattle.std.proofs.lemmas.List.{get_or_read, take_more}
 use Rattle.road_graph.specs.GraphData.{HasVertex, IsRank, ListsArcsFrom, ListsRoadsFrom, arc_of, road_of, roads_of}
-use Rattle.shard_part.specs.Moves.{RepInvariant, IsPlace, IsArcRow, IsArcOut, with_message, engaged_or_answered, labelled, offered, offered_all, rested, with_value}
+use Rattle.shard_part.specs.Moves.{RepInvariant, IsPlace, IsArcRow, IsArcOut, with_message, engaged_or_answered, labelled, offered, offered_all}
 use Rattle.shard_part.proofs.Graphs.{arc_in_graph}
 use Rattle.shard_store.proofs.Graphs.{out_is, roads_are, road_is}
 use Rattle.shard_part.proofs.Moves.{formed}
@@ -59,9 +59,6 @@ module _ {S V : Type 0} (A : Algebra V) where
       → new ≡ offered A v b mid → new ≡ offered_all A v (take (k + 1) xs) p
   offered_more p mid new v b k xs l h m w =
       w ∙ ap (offered A v b) m ∙ sym (offered_all-snoc v (take k xs) b p) ∙ ap (λ ys. offered_all A v ys p) (ap (λ (z : ℕ). take k xs ++ z ∷ []) (get_or_read xs k b l h 0) ∙ sym (take_more xs k 0 l))
-
-  pub pump_done : (p new : PartData S V) (v k : ℕ) (xs ys : List ℕ) → new ≡ offered_all A v (take k xs) p → length xs ≤ k → xs ≡ ys → new ≡ offered_all A v ys p
-  pump_done p new v k xs ys h l e = h ∙ ap (λ zs. offered_all A v zs p) (take_all k xs l ∙ e)
 
   pub improve_same : (x : V) (v : ℕ) (p : PartData S V) → ((labelled A x v p).setup ≡ p.setup) × ((labelled A x v p).shard ≡ p.shard) × ((state_in (labelled A x v p)).engager ≡ (state_in p).engager)
   improve_same x v p = go (improves A x ((state_in p).label v))
@@ -132,34 +129,3 @@ module _ {S V : Type 0} where
       road_is old.setup.diffusion.roads old.setup.diffusion.source v k (get_or (outgoing (network_of old.setup) v) k 0) rs d
       (roads_are p.setup.diffusion.roads p.setup.diffusion.source v rs h2.0 o
       ∙ ap (λ (u : PartData S V). roads_of u.setup.diffusion.roads (outgoing (network_of u.setup) v)) e) l refl
-
-  -- a message, step by step
-  pub message_handled : (meaning : S → Algebra V) (p p1 p2 p3 p4 : PartData S V) (a v w : ℕ) (x : V) (t : Bool) → v ≡ w
-      → p1 ≡ labelled (meaning p.setup.diffusion.algebra) x v p → p2 ≡ engaged_or_answered a v ((state_in p1).engager v) p1 →
-      t ≡ improves (meaning p.setup.diffusion.algebra) x ((state_in p).label v) → p3 ≡ cond t (offered_all (meaning p2.setup.diffusion.algebra) v (outgoing (network_of p2.setup) v) p2) p2 →
-      p4 ≡ rested (meaning p3.setup.diffusion.algebra) v p3 → p4 ≡ with_value (meaning p.setup.diffusion.algebra) a x w p
-  message_handled meaning p p1 p2 p3 p4 a v w x t vw e1 e2 et e3 e4 =
-      let L = improve_same (meaning p.setup.diffusion.algebra) x v p in
-      let s1 : p1.setup ≡ p.setup = ap (λ (u : PartData S V). u.setup) e1 ∙ L.0 in
-      let g1 : (state_in p1).engager v ≡ (state_in p).engager v = ap (λ (u : PartData S V). (state_in u).engager v) e1 ∙ ap (λ f. f v) L.2 in
-      let s2 : p2.setup ≡ p.setup = ap (λ (u : PartData S V). u.setup) e2 ∙ (engaged_or_answered_same (meaning p.setup.diffusion.algebra) a v ((state_in p1).engager v) p1).0 ∙ s1 in
-      let s3 : p3.setup ≡ p.setup = ap (λ (u : PartData S V). u.setup) e3 ∙ (pumped_same (meaning p2.setup.diffusion.algebra) t v (outgoing (network_of p2.setup) v) p2).0 ∙ s2 in
-      let q2 : p2 ≡ engaged_or_answered a v ((state_in p).engager v) (labelled (meaning p.setup.diffusion.algebra) x v p) = e2 ∙ (λ i. engaged_or_answered a v (g1 i) (e1 i)) in
-      let q3 : p3 ≡ cond (improves (meaning p.setup.diffusion.algebra) x ((state_in p).label v))
-      (offered_all (meaning p.setup.diffusion.algebra) v (outgoing (network_of p.setup) v)
-      (engaged_or_answered a v ((state_in p).engager v) (labelled (meaning p.setup.diffusion.algebra) x v p)))
-      (engaged_or_answered a v ((state_in p).engager v) (labelled (meaning p.setup.diffusion.algebra) x v p)) =
-      e3 ∙ (λ i. cond (et i) (offered_all (meaning (s2 i).diffusion.algebra) v (outgoing (network_of (s2 i)) v) (q2 i)) (q2 i)) in
-      e4 ∙ (λ i. rested (meaning (s3 i).diffusion.algebra) v (q3 i)) ∙ ap (λ z. with_value (meaning p.setup.diffusion.algebra) a x z p) vw
-
-  -- the part stays of its shard and setup
-  pub message_keeps : (meaning : S → Algebra V) (p p1 p2 p3 : PartData S V) (a v j : ℕ) (x : V) (t : Bool)
-      → p1 ≡ labelled (meaning p.setup.diffusion.algebra) x v p → p2 ≡ engaged_or_answered a v ((state_in p1).engager v) p1 →
-      p3 ≡ cond t (offered_all (meaning p2.setup.diffusion.algebra) v (outgoing (network_of p2.setup) v) p2) p2 → IsPlace p v j → IsPlace p3 v j
-  message_keeps meaning p p1 p2 p3 a v j x t e1 e2 e3 P =
-      let L = improve_same (meaning p.setup.diffusion.algebra) x v p in
-      let G = engaged_or_answered_same (meaning p.setup.diffusion.algebra) a v ((state_in p1).engager v) p1 in
-      let M = pumped_same (meaning p2.setup.diffusion.algebra) t v (outgoing (network_of p2.setup) v) p2 in
-      place_same (meaning p.setup.diffusion.algebra) p p3 v j
-      (ap (λ (u : PartData S V). u.setup) e3 ∙ M.0 ∙ ap (λ (u : PartData S V). u.setup) e2 ∙ G.0 ∙ ap (λ (u : PartData S V). u.setup) e1 ∙ L.0)
-      (ap (λ (u : PartData S V). u.shard) e3 ∙ M.1 ∙ ap (λ (u : PartData S V). u.shard) e2 ∙ G.1 ∙ ap (λ (u : PartData S V). u.shard) e1 ∙ L.1) P

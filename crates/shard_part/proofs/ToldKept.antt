@@ -1,8 +1,8 @@
 -- Each item that a part takes keeps what was offered on its idle arcs.
-use Rattle.shard_part.proofs.Words.{◌≡◌, ℕ, suc, true, List, length, None, sym, ap, ◌∙◌, subst, eq-eqb, Item, Algebra, Lawful, WellFormed, is_idle, PartData, state_in, mine, SetupData, network_of, place_in, IsPlanned, taken, HandledItem, HandledItemIn, Room, Rows, RepInvariant, IsPopped, with_taken, OwnIdleIsTold, opened_part}
+use Rattle.shard_part.proofs.Words.{◌≡◌, ℕ, suc, true, List, length, None, sym, ap, ◌∙◌, subst, eq-eqb, Item, Algebra, Lawful, WellFormed, is_idle, PartData, state_in, mine, SetupData, network_of, place_in, taken, HandledItemIn, Room, Rows, RepInvariant, OwnIdleIsTold, opened_part}
 use Rattle.scholten_core.proofs.Basics.{idle-true}
 use Rattle.shard_part.proofs.Quick.{taken_told}
-use Rattle.shard_part.proofs.ItemIsTaken.{IsFit, stored_fit, has_told, popped_taken}
+use Rattle.shard_part.proofs.ItemIsTaken.{has_told}
 use Rattle.shard_part.proofs.Moves.{formed}
 use Rattle.shard_part.proofs.VertexSettles.{of_one_shard}
 use Rattle.shard_part.proofs.Opened.{reads_same}
@@ -27,19 +27,6 @@ pub opened_told : {S V : Type 0} (A : Algebra V) (p : PartData S V) (t : SetupDa
 opened_told A p t s e = subst OwnIdleIsTold (sym e) (untold (opened_part A t s) (λ v. reads_same (suc t.diffusion.roads.vertices) None v)
     (λ b. reads_same (suc (length t.diffusion.roads.arcs)) None b))
 
--- of a part that took an item off its queue and handled it
 module _ {S V : Type 0} (meaning : S → Algebra V) where
   pub stored_formed : (p old : PartData S V) (r : Rows V) (n : Room) (ns : List ℕ) → p ≡ old → RepInvariant p r n ns → WellFormed (network_of old.setup)
   stored_formed p old r n ns e D = subst (λ (u : PartData S V). WellFormed (network_of u.setup)) e (formed p p.shard D.planned)
-
-  pub next_taken : (p old m q : PartData S V) (r : Rows V) (n : Room) (ns : List ℕ) (i : Item V) → p ≡ old → RepInvariant p r n ns
-      → Lawful (meaning p.setup.diffusion.algebra) → IsPopped (meaning old.setup.diffusion.algebra) old m i → q ≡ with_taken (meaning old.setup.diffusion.algebra) i m → OwnIdleIsTold old →
-      HandledItem meaning old i q
-  next_taken p old m q r n ns i e D L O w T = popped_taken (meaning old.setup.diffusion.algebra) (subst (λ (u : PartData S V). Lawful (meaning u.setup.diffusion.algebra)) e L) old m q i
-      (subst (λ (u : PartData S V). IsPlanned u.setup u.shard) e D.planned) (subst IsFit e (stored_fit p r n ns D)) T O w
-
-  pub next_told : (p old m q : PartData S V) (r : Rows V) (n : Room) (ns : List ℕ) (i : Item V) → p ≡ old → RepInvariant p r n ns
-      → Lawful (meaning p.setup.diffusion.algebra) → IsPopped (meaning old.setup.diffusion.algebra) old m i → q ≡ with_taken (meaning old.setup.diffusion.algebra) i m → OwnIdleIsTold old →
-      OwnIdleIsTold q
-  next_told p old m q r n ns i e D L O w T = told_kept (meaning old.setup.diffusion.algebra) (subst (λ (u : PartData S V). Lawful (meaning u.setup.diffusion.algebra)) e L) old i q
-      (stored_formed p old r n ns e D) T (next_taken p old m q r n ns i e D L O w T)

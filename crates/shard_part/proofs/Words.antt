@@ -11,7 +11,7 @@ pub use Rattle.scholten_core.proofs.Ended.{opening_kept}
 pub use Rattle.scholten_core.proofs.Items.{token_told}
 pub use Rattle.scholten_core.proofs.Networks.{head-arc, head-entry, tail-arc, tail-entry, well_formed}
 pub use Rattle.scholten_core.proofs.Shares.{out_idle_agree}
-pub use Rattle.scholten_core.specs.Deficit.{busy_out}
+pub use Rattle.scholten_core.specs.Deficit.{busy_out, deficit}
 pub use Rattle.scholten_core.specs.Diffusion.{CoreState, accepted, answer_to, arrive, better_of, count_enabled, delivered, extend_label, freed, improves, is_enabled, is_idle, is_message, is_signal, opening, out_idle, pump, put, run_from, same_label, settle, state_after, step}
 unfoldable pub use Rattle.scholten_core.specs.Diffusion.{is_due}
 pub use Rattle.scholten_core.specs.Items.{IsDistinct, IsOutList, item_arc, item_of, pump_made, settle_made}
@@ -28,12 +28,13 @@ pub use Rattle.scholten_core.specs.declared.token.Token.TheVariants.{Held, Idle,
 pub use Rattle.shard_part.specs.Exchange.{FitsAlone}
 pub use Rattle.shard_part.specs.Handling.{GoesAtOnce, HandledAll, HandledItem, HandledItemIn, IsInTurn, arrive_here, made, rest_here, route, routes, settle_here, settle_tail_here, taken}
 pub use Rattle.shard_part.specs.LocalInvariant.{IsClear, LocalInvariant, engages, idles, names}
-pub use Rattle.shard_part.specs.Moves.{AreRowDeficits, IsArcRow, IsPlace, IsPopped, MaySend, RepInvariant, abstraction, offered, rested, rested_by, with_message, with_taken}
+pub use Rattle.shard_part.specs.Moves.{AreRowDeficits, IsArcRow, IsPlace, IsPopped, MaySend, RepInvariant, abstraction, engaged_or_answered, labelled, offered, rested, rested_by, valued, with_free, with_item, with_message, with_taken, with_value}
 unfoldable pub use Rattle.shard_part.specs.Moves.{offered_all}
 pub use Rattle.shard_part.specs.Opening.{first_items, opened_part, opened_parts}
 pub use Rattle.shard_part.specs.Part.{IsOutgoing, IsOutgoingTo, OwnIdleIsTold}
 pub use Rattle.shard_part.specs.PartState.{IsArc, PartData, event_of, maker_of, mine, state_in, token_if, vertex_of}
 pub use Rattle.shard_part.specs.Readings.{has_ended}
+pub use Rattle.shard_part.specs.Repaying.{AnswersAtOnce, AreVoid, HandledAtOnce, HandledRun, IsFit, IsOff, IsVoid, OfferedOrNoted, Owes, OwesMany, RestsRepaid, TakenRepaid, all_busy, as_items, more}
 pub use Rattle.shard_part.specs.Represents.{HoldsShareIn, HoldsTables, Represents, RepresentsIn, core_of}
 pub use Rattle.shard_part.specs.Weights.{All, Channels, at_place, channels_of, channels_weight, in_flight, mail_weight, message_weight, outs_weight, part_weight, signal_weight}
 pub use Rattle.shard_store.proofs.Graphs.{arcs_first, place_below, place_source}
@@ -58,6 +59,6 @@ pub use Rattle.std.proofs.Common.{Bool, Contains, List, None, Option, Some, [], 
 pub use Rattle.std.proofs.lemmas.Bool.{and_from, cases_Bool, cases_eq, cases_lt, cond-false, cond-true, false≢true}
 pub use Rattle.std.proofs.lemmas.List.{get_or_read, length-map, map-set, take_all}
 pub use Rattle.std.proofs.lemmas.List.Elements.{All-cons}
-pub use Rattle.std.proofs.lemmas.List.Sorted.{All-permutation, IsPermutation-refl}
+pub use Rattle.std.proofs.lemmas.List.Sorted.{All-permutation, IsPermutation-refl, IsPermutation-to_front, IsPermutation-trans}
 pub use Rattle.std.specs.List.Sorted.{IsPermutation, IsStrictlyIncreasing}
 pub use Rattle.std.specs.Prelude.{All as AllOf, IfNone, IfSome, IsSome, IsTrue, ◌↔◌}

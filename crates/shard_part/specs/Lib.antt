@@ -7,6 +7,7 @@ pub mod Represents
 pub mod Waiting
 pub mod Moves
 pub mod Part
+pub mod Repaying
 pub mod Readings
 pub mod Closed
 pub mod Exchange

@@ -169,12 +169,15 @@ module _ {S V : Type 0} (A : Algebra V) where
   abbrev pub rested : ℕ → PartData S V → PartData S V
   rested v p = rested_by v ((state_in p).engager v) (out_idle A (network_of p.setup) v (state_in p)) p
 
-  -- what a message does: the label, the engager or the answer, then the arcs if the label improved,
-  -- then rest
-  abbrev pub with_value : ℕ → V → ℕ → PartData S V → PartData S V
-  with_value a x v p = rested v (cond (improves A x ((state_in p).label v))
+  -- what a message does before its head rests: the label, the engager or the answer, then the arcs
+  -- if the label improved
+  abbrev pub valued : ℕ → V → ℕ → PartData S V → PartData S V
+  valued a x v p = cond (improves A x ((state_in p).label v))
       (offered_all v (outgoing (network_of p.setup) v) (engaged_or_answered a v ((state_in p).engager v) (labelled x v p)))
-      (engaged_or_answered a v ((state_in p).engager v) (labelled x v p)))
+      (engaged_or_answered a v ((state_in p).engager v) (labelled x v p))
+
+  abbrev pub with_value : ℕ → V → ℕ → PartData S V → PartData S V
+  with_value a x v p = rested v (valued a x v p)
 
   abbrev pub with_free : ℕ → ℕ → PartData S V → PartData S V
   with_free zero v p = record p { busy = set p.busy zero false }
@@ -184,7 +187,3 @@ module _ {S V : Type 0} (A : Algebra V) where
   abbrev pub with_taken : Item V → PartData S V → PartData S V
   with_taken (MessageOn a x) p = with_value a x ((network_of p.setup).head a) (record p { delivered = counted_on 1 p.delivered })
   with_taken (SignalOn a) p = with_free a ((network_of p.setup).tail a) (record p { accepted = counted_on 1 p.accepted })
-
-  -- the front item is taken and handled
-  abbrev pub HandledOne : PartData S V → PartData S V → Type 0
-  HandledOne p q = (i : Item V) × (m : PartData S V) × IsPopped A p m i × (q ≡ with_taken i m)

@@ -1,5 +1,5 @@
 //! One shard's part of a diffusion: opened, run item by item, and closed.
-ghost use Rattle.std.specs.Prelude.{◌≡◌, ◌≢◌, ◌⊎◌, ◌+◌, ◌<◌, ◌≤◌, [], ◌++◌, length, get_or, set, IfOk, IsTrue, IsFalse};
+ghost use Rattle.std.specs.Prelude.{◌≡◌, ◌≢◌, ◌⊎◌, ◌+◌, ◌<◌, ◌≤◌, [], ◌++◌, length, get_or, set, IfOk, IsTrue};
 ghost use Rattle.circular_buffer.specs.Buffer.{buffer};
 ghost use Rattle.road_graph.specs.GraphData.{HasVertex};
 ghost use Rattle.scholten_core.specs.Network.{network};
@@ -10,7 +10,8 @@ ghost use Rattle.shard_part.specs.Represents.{HoldsShare};
 ghost use Rattle.shard_part.specs.Opening.{opened_part};
 ghost use Rattle.shard_part.specs.Exchange.{Fits};
 ghost use Rattle.shard_store.specs.declared.queue_order.QueueOrder.TheVariants.{BestFirst};
-ghost use Rattle.shard_part.specs.Part.{HandledNext, HandledMany, HandledWithin, IsHeldBack, RunsAhead, RunsOn};
+ghost use Rattle.shard_part.specs.Part.{HandledMany, HandledWithin, IsHeldBack, RunsAhead, RunsOn};
+ghost use Rattle.shard_part.specs.Repaying.{HandledRun};
 
 mod readings;
 
@@ -76,12 +77,15 @@ impl<'g, A: PathAlgebra> Part<'g, A> {
         Ok(Part { state })
     }
 
-    /// Takes the item whose turn it is off the queue and handles it, if there is one.
-    fn take_next(&mut self) -> bool
-        ensures taken { IsTrue result → HandledNext A.meaning self.old self.new }
-        ensures none { IsFalse result → (self.old.queue ≡ []) × (self.new ≡ self.old) }
+    /// Takes the item whose turn it is off the queue and handles it, if there is one, with others
+    /// that go at once. Says how many, at most `left`.
+    fn take_next(&mut self, left: u32) -> u32
+        requires { 0 < left }
+        ensures taken { 0 < result → HandledRun A.meaning self.old result self.new }
+        ensures none { result ≡ 0 → (self.old.queue ≡ []) × (self.new ≡ self.old) }
+        ensures left { result ≤ left }
     {
-        self.state.handle_next()
+        self.state.handle_next(left)
     }
 
     /// As `handle_within` without a limit: it goes on until the budget is used up or the queue is
@@ -120,18 +124,21 @@ impl<'g, A: PathAlgebra> Part<'g, A> {
     {
         laws_hold(self.state.algebra());
         self.state.note_outgoing();
-        for taken in 0..budget {
+        let mut taken = 0;
+        while taken < budget {
             if self.is_held(limit) {
                 return taken;
             }
             if self.runs_ahead(ahead) {
                 return taken;
             }
-            if !self.take_next() {
+            let more = self.take_next(budget - taken);
+            if more == 0 {
                 return taken;
             }
+            taken += more;
         }
-        budget
+        taken
     }
 
     /// Whether all that waits is messages worse than the limit, if there is one.

@@ -1,56 +1,75 @@
 //! How a part handles an item: the event, and the moves that it is made of.
-ghost use Rattle.std.specs.Prelude.{◌≡◌, ◌≢◌, [], Option, Some, None, IsTrue, IsFalse, true, false};
+ghost use Rattle.std.specs.Prelude.{◌≡◌, ◌≢◌, ◌+◌, ◌*◌, ◌<◌, ◌≤◌, []};
 ghost use Rattle.scholten_core.specs.Diffusion.{improves as improves_on};
 ghost use Rattle.scholten_core.specs.Items.{item_arc};
 ghost use Rattle.shard_store.specs.Tallies.{counted_on};
 ghost use Rattle.shard_store.specs.Setup.{network_of, place_in};
 ghost use Rattle.shard_part.specs.PartState.{state_in, vertex_of, IsArc};
 ghost use Rattle.shard_part.specs.LocalInvariant.{IsClear};
-ghost use Rattle.shard_part.specs.Part.{OwnIdleIsTold, HandledNext};
-ghost use Rattle.shard_part.specs.Moves.{IsPlace, HandledOne, engaged_or_answered, labelled, rested, with_value, with_free, with_taken};
+ghost use Rattle.shard_part.specs.Part.{OwnIdleIsTold};
+ghost use Rattle.shard_part.specs.Repaying.{HandledRun, RestsRepaid, TakenRepaid, repaid};
+ghost use Rattle.shard_store.specs.declared.queue_order.QueueOrder.TheVariants.{BestFirst};
+ghost use Rattle.shard_part.specs.Moves.{IsPlace, engaged_or_answered, labelled, rested, valued, with_free};
 
 use crate::state::PartState;
 use path_algebra::{PathAlgebra, laws_hold};
 use road_graph::ArcNo;
 use scholten_core::{Item, improves};
-use shard_store::{ArcPlace, VertexPlace};
+use shard_store::{ArcPlace, QueueOrder, VertexPlace};
 
 impl<'g, A: PathAlgebra> PartState<'g, A> {
-    /// Handles the item whose turn it is, if there is one.
-    pub(crate) fn handle_next(&mut self) -> bool
-        ensures taken { IsTrue result → HandledOne (A.meaning self.old.setup.diffusion.algebra)
-            self.old self.new }
-        ensures item { IsTrue result → OwnIdleIsTold self.old → HandledNext A.meaning self.old
+    /// Handles the item whose turn it is, if there is one, and with it messages that it makes and
+    /// that change nothing: each with its signal, so these are two items. Says how many items, at
+    /// most `left`.
+    pub(crate) fn handle_next(&mut self, left: u32) -> u32
+        requires { 0 < left }
+        ensures taken { 0 < result → OwnIdleIsTold self.old → HandledRun A.meaning self.old result
             self.new }
         ensures told { OwnIdleIsTold self.old → OwnIdleIsTold self.new }
-        ensures none { IsFalse result → (self.old.queue ≡ []) × (self.new ≡ self.old) }
+        ensures none { result ≡ 0 → (self.old.queue ≡ []) × (self.new ≡ self.old) }
+        ensures left { result ≤ left }
     {
         laws_hold(self.algebra);
+        let most = self.repayable(left);
         match self.pop() {
-            Some(item) => {
-                self.handle_item(item);
-                true
-            }
-            None => false,
+            Some(item) => 1 + 2 * self.handle_item(item, most),
+            None => 0,
         }
     }
 
-    /// Handles an item that was taken from the queue.
-    fn handle_item(&mut self, item: Item<A::Value>)
+    /// How many messages may be repaid with an item, if so many items are left: best first alone,
+    /// where they go at once.
+    fn repayable(&self, left: u32) -> u32
+        requires { 0 < left }
+        ensures left { 1 + 2 * result ≤ left }
+        ensures order { 0 < result → self.now.setup.order ≡ BestFirst }
+    {
+        match self.order {
+            QueueOrder::Arrival => 0,
+            QueueOrder::BestFirst => (left - 1) / 2,
+        }
+    }
+
+    /// Handles an item that was taken from the queue. Says how many messages, at most `most`, were
+    /// repaid.
+    fn handle_item(&mut self, item: Item<A::Value>, most: u32) -> u32
         requires arc { IsArc (network_of self.old.setup) (item_arc item) }
         requires here { place_in self.old.setup (vertex_of (network_of self.old.setup) item) ≡
             self.old.shard }
         requires clear { IsClear self.old (item_arc item) }
-        ensures { self.new ≡ with_taken (A.meaning self.old.setup.diffusion.algebra) item self.old }
+        ensures taken { TakenRepaid (A.meaning self.old.setup.diffusion.algebra) item result
+            self.old self.new }
+        ensures most { result ≤ most }
     {
         match item {
             Item::Message { arc, value } => {
                 self.count_delivered();
-                self.handle_message(arc, value);
+                self.handle_message(arc, value, most)
             }
             Item::Signal { arc } => {
                 self.count_accepted();
                 self.handle_signal(arc);
+                0
             }
         }
     }
@@ -69,20 +88,36 @@ impl<'g, A: PathAlgebra> PartState<'g, A> {
         self.accepted = self.accepted.saturating_add(1);
     }
 
-    /// A message is handled at its head.
-    fn handle_message(&mut self, a: ArcNo, value: A::Value)
+    /// Counts messages that were repaid as they were made.
+    fn count_repaid(&mut self, n: u32)
+        ensures { self.new ≡ repaid n self.old }
+    {
+        let n = u64::from(n);
+        self.sent = self.sent.saturating_add(n);
+        self.delivered = self.delivered.saturating_add(n);
+        self.signalled = self.signalled.saturating_add(n);
+        self.accepted = self.accepted.saturating_add(n);
+    }
+
+    /// A message is handled at its head. Says how many messages, at most `most`, were repaid.
+    fn handle_message(&mut self, a: ArcNo, value: A::Value, most: u32) -> u32
         requires arc { IsArc (network_of self.old.setup) a }
         requires here { place_in self.old.setup ((network_of self.old.setup).head a) ≡
             self.old.shard }
         requires clear { IsClear self.old a }
-        ensures { self.new ≡ with_value (A.meaning self.old.setup.diffusion.algebra) a value
-            ((network_of self.old.setup).head a) self.old }
+        ensures rests { RestsRepaid (A.meaning self.old.setup.diffusion.algebra)
+            ((network_of self.old.setup).head a) result
+            (valued (A.meaning self.old.setup.diffusion.algebra) a value
+            ((network_of self.old.setup).head a) self.old) self.new }
+        ensures most { result ≤ most }
     {
         let v = self.place(self.head(a));
         let improved = self.improve(v, value);
         self.engage_or_answer(a, v);
-        self.pump_if(v, improved);
+        let repaid = self.pump_if(v, improved, most);
+        self.count_repaid(repaid);
         self.rest(v);
+        repaid
     }
 
     /// A signal is handled at its tail.

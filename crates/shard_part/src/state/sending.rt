@@ -1,5 +1,5 @@
 //! What a part sends along its arcs, and where it goes.
-ghost use Rattle.std.specs.Prelude.{◌≡◌, ◌≢◌, ◌<◌, length, get_or, Option, Some, true, false, cond, not, ◌&&◌};
+ghost use Rattle.std.specs.Prelude.{◌≡◌, ◌≢◌, ◌<◌, ◌≤◌, IsTrue, length, get_or, Option, Some, true, false, cond, not, ◌&&◌};
 ghost use Rattle.road_graph.specs.GraphData.{arc_of, road_of};
 ghost use Rattle.scholten_core.specs.declared.item.Item.TheVariants.{Signal as SignalOn};
 ghost use Rattle.scholten_core.specs.Diffusion.{is_due as due};
@@ -7,57 +7,114 @@ ghost use Rattle.shard_store.specs.Setup.{network_of, place_in};
 ghost use Rattle.shard_part.specs.PartState.{state_in, IsArc};
 ghost use Rattle.shard_store.specs.Outgoing.{outgoing};
 ghost use Rattle.shard_part.specs.LocalInvariant.{IsClear};
+ghost use Rattle.shard_part.specs.Repaying.{AnswersAtOnce, IsVoidOffer, OfferedOrNoted, OwesMany};
 ghost use Rattle.shard_part.specs.Moves.{IsPlace, IsArcRow, IsArcOut, MaySend, put_item, counted_made, with_item, with_message, offered, offered_all};
 
 use crate::state::PartState;
 use path_algebra::{PathAlgebra, better_label};
 use road_graph::{ArcNo, OutRoad};
-use scholten_core::{Item, extended, is_same};
+use scholten_core::{Item, extended, improves, is_same};
 use shard_store::{ArcPlace, Shard, VertexPlace};
 
 impl<'g, A: PathAlgebra> PartState<'g, A> {
     /// Offers its label to each due arc out of the vertex at a place, if the label improved.
-    /// Otherwise none is due: each idle arc was offered it before.
-    pub(super) fn pump_if(&mut self, v: VertexPlace, improved: bool)
+    /// Otherwise none is due: each idle arc was offered it before. Says how many messages, at most
+    /// `most`, it has only noted, since they change nothing.
+    pub(super) fn pump_if(&mut self, v: VertexPlace, improved: bool, most: u32) -> u32
         requires place { IsPlace self.old v.vertex v.at }
         requires vertex { v.vertex ≢ 0 }
-        ensures { self.new ≡ cond improved (offered_all (A.meaning self.old.setup.diffusion.algebra)
-            v.vertex (outgoing (network_of self.old.setup) v.vertex) self.old) self.old }
+        ensures owes { OwesMany (A.meaning self.old.setup.diffusion.algebra) v.vertex result
+            (cond improved (offered_all (A.meaning self.old.setup.diffusion.algebra) v.vertex
+            (outgoing (network_of self.old.setup) v.vertex) self.old) self.old) self.new }
+        ensures most { result ≤ most }
     {
-        if improved {
-            self.pump(v);
-        }
+        let _ = &self.algebra;
+        if improved { self.pump(v, most) } else { 0 }
     }
 
-    /// Offers its label to each due arc out of the vertex at a place.
-    fn pump(&mut self, v: VertexPlace)
+    /// Offers its label to each due arc out of the vertex at a place. Says how many messages it has
+    /// only noted.
+    fn pump(&mut self, v: VertexPlace, most: u32) -> u32
         requires place { IsPlace self.old v.vertex v.at }
         requires vertex { v.vertex ≢ 0 }
-        ensures { self.new ≡ offered_all (A.meaning self.old.setup.diffusion.algebra) v.vertex
-            (outgoing (network_of self.old.setup) v.vertex) self.old }
+        ensures owes { OwesMany (A.meaning self.old.setup.diffusion.algebra) v.vertex result
+            (offered_all (A.meaning self.old.setup.diffusion.algebra) v.vertex
+            (outgoing (network_of self.old.setup) v.vertex) self.old) self.new }
+        ensures most { result ≤ most }
     {
         let graph = self.graph;
         let outgoing = graph.out(v.vertex);
+        let mut noted = 0;
         for (k, b) in outgoing.iter().enumerate() {
             let i = self.row(v, k);
             let road = self.road_at(v, k);
-            self.offer(v, ArcPlace { arc: *b, at: i }, road);
+            if self.offer(v, ArcPlace { arc: *b, at: i }, road, noted < most) {
+                noted += 1;
+            }
         }
+        noted
     }
 
-    /// Offers the label of the vertex at a place to the arc b out of it, if that is due.
-    fn offer(&mut self, v: VertexPlace, b: ArcPlace, road: OutRoad)
+    /// Offers the label of the vertex at a place to the arc b out of it, if that is due. If the
+    /// message changes nothing, it may only be noted; says whether it was.
+    fn offer(&mut self, v: VertexPlace, b: ArcPlace, road: OutRoad, may_note: bool) -> bool
         requires place { IsPlace self.old v.vertex v.at }
         requires vertex { v.vertex ≢ 0 }
         requires out { IsArcOut self.old v.vertex b.arc b.at }
         requires graph { b.arc ≢ 0 }
         requires road { road ≡ road_of (arc_of self.old.setup.diffusion.roads b.arc) }
-        ensures { self.new ≡ offered (A.meaning self.old.setup.diffusion.algebra) v.vertex b.arc
-            self.old }
+        ensures made { OfferedOrNoted (A.meaning self.old.setup.diffusion.algebra) v.vertex b.arc
+            result self.old self.new }
+        ensures may { IsTrue result → IsTrue may_note }
     {
-        if self.is_due(v, b) {
-            self.make_offer(v, b, road);
+        if !self.is_due(v, b) {
+            return false;
         }
+        if !may_note {
+            self.make_offer(v, b, road);
+            return false;
+        }
+        if self.is_void(v, b, &road) {
+            let label = self.label_at(v);
+            self.set_last_offer(b, label);
+            return true;
+        }
+        self.make_offer(v, b, road);
+        false
+    }
+
+    /// Whether a message along the arc b out of the vertex at a place would change nothing at its
+    /// head, another vertex of this shard.
+    fn is_void(&self, v: VertexPlace, b: ArcPlace, road: &OutRoad) -> bool
+        requires place { IsPlace self.now v.vertex v.at }
+        requires vertex { v.vertex ≢ 0 }
+        requires out { IsArcOut self.now v.vertex b.arc b.at }
+        requires graph { b.arc ≢ 0 }
+        requires road { road.now ≡ road_of (arc_of self.now.setup.diffusion.roads b.arc) }
+        ensures { IsTrue result → IsVoidOffer (A.meaning self.now.setup.diffusion.algebra)
+            self.now v.vertex b.arc }
+    {
+        let Some(value) = extended(self.algebra, self.label_at(v), road.weight) else {
+            return false;
+        };
+        let to = self.shard_of(road.head);
+        if to != self.shard || road.head == v.vertex {
+            return false;
+        }
+        let head = self.place(road.head);
+        if improves(self.algebra, value, self.label_at(head)) {
+            return false;
+        }
+        self.answers_at_once(head)
+    }
+
+    /// Whether the vertex at a place is neutral and no arc out of it is busy, or engaged and one is.
+    fn answers_at_once(&self, v: VertexPlace) -> bool
+        requires place { IsPlace self.now v.vertex v.at }
+        ensures { IsTrue result → AnswersAtOnce (network_of self.now.setup) (state_in self.now)
+            v.vertex }
+    {
+        self.engager_at(v).is_some() == (self.deficit_at(v) > 0)
     }
 
     /// The same for the k-th arc out of the vertex. Its head and weight are looked up only if it is

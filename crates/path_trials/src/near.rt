@@ -4,7 +4,7 @@ use crate::samples::{FIVE, arc, is_found};
 use path_algebra::Shortest;
 use path_plain::{Halt, Stop};
 use road_graph::{InGraph, OutGraph, Vertex};
-use route_tree::{Nearby, PairSearcher};
+use route_tree::{Found, Nearby, PairSearcher};
 use std::process::Abort;
 
 /// A pair, how many steps a search may take, and what is decided: the code and the route, which has
@@ -92,6 +92,14 @@ fn a_search_looks_at_its_stop_now_and_then(rt: HostRuntime) {
     assert!(rt; !Halt::by(&none).is_due());
 }
 
+/// Whether a route of so many arcs was found.
+fn has_hops(found: &Option<Found>, hops: u32) -> bool {
+    match found {
+        Some(found) => found.hops == hops,
+        None => false,
+    }
+}
+
 /// How many vertices the road has: fewer than a search's steps between two looks at its stop.
 const ON_THE_ROAD: u32 = 700;
 
@@ -102,18 +110,20 @@ fn a_stop_ends_the_search_for_a_route(rt: HostRuntime) {
     for v in 1..ON_THE_ROAD {
         arcs.push(arc(v, v + 1, 1)).expect(&rt, "memory");
     }
+    assert!(rt; arcs.len() < ON_THE_ROAD as usize);
     let road = OutGraph::new(rt.alloc(), ON_THE_ROAD, arcs).expect(&rt, "refused");
     let rows = InGraph::of(rt.alloc(), &road).expect(&rt, "memory");
     let mut searcher = PairSearcher::new(rt.alloc(), Shortest, &road).expect(&rt, "memory");
-    let pair = (Vertex(1), Vertex(ON_THE_ROAD));
-    assert!(rt; road.has(pair.0) && road.has(pair.1));
+    let (source, target) = (Vertex(1), Vertex(ON_THE_ROAD));
+    assert!(rt; road.has(source));
+    assert!(rt; road.has(target));
     let stop = Stop::new(rt.alloc()).expect(&rt, "memory");
     stop.set(true);
     let stop = Some(stop);
-    let near = searcher.solve_unless(&road, &rows, pair, &mut Halt::by(&stop));
+    let near = searcher.solve_unless(&road, &rows, (source, target), &mut Halt::by(&stop));
     assert!(rt; is_near(&near.expect(&rt, "memory"), None));
-    match searcher.solve(&road, &rows, pair).expect(&rt, "memory") {
-        Some(found) => assert!(rt; found.hops == ON_THE_ROAD - 1),
-        None => panic!(rt; "no route"),
-    }
+    let found = searcher
+        .solve(&road, &rows, (source, target))
+        .expect(&rt, "memory");
+    assert!(rt; has_hops(&found, ON_THE_ROAD - 1));
 }

@@ -1,4 +1,5 @@
 mod Words
+mod Ahead
 mod SourceByMore
 mod WrittenLines
 pub mod CauseCases

@@ -1,6 +1,7 @@
 -- The diffusions that wait: as they were gathered, and as the next is taken.
 use Rattle.batch_run.proofs.Words.{zero, suc, ◌≡◌, ℕ, ◌≤◌, ◌+◌, List, [], ◌∷◌, ◌++◌, length, map, take, drop, sym, ap, subst, ◌∙◌, arith, All, All-head, All-nil, All-tail, GraphData, Algebra, GatheredDiffusion, Settings}
 use Rattle.std.proofs.lemmas.List.{take-append-drop}
+use Rattle.road_files.specs.declared.questions.Kind.{Kind}
 use Rattle.batch_run.specs.declared.solve.queue.DiffusionQueue.{DiffusionQueue}
 use Rattle.batch_run.specs.Cut.{IsCut, pace_of}
 use Rattle.batch_run.specs.Diffusions.{AreNext, IsGatheredOver}
@@ -9,19 +10,19 @@ use Rattle.batch_run.specs.Diffusions.{AreNext, IsGatheredOver}
 abbrev pub sources_of_all : {V : Type 0} → List (GatheredDiffusion V) → List ℕ
 sources_of_all ds = map (λ d. d.source) ds
 
-module _ {V : Type 0} (A : Algebra V) (how : Settings) (g : GraphData) where
+module _ {V : Type 0} (A : Algebra V) (how : Settings) (g : GraphData) (kind : Kind) where
   -- none waits
-  pub none_waits : (to_come : List ℕ) (queue : DiffusionQueue V) → IsCut how g queue.plan × (queue.pace ≡ pace_of how g) → queue.waiting.items ≡ [] → AreNext A how g to_come queue
+  pub none_waits : (to_come : List ℕ) (queue : DiffusionQueue V) → IsCut how g queue.plan × (queue.pace ≡ pace_of how g) → queue.waiting.items ≡ [] → AreNext A how g kind to_come queue
   none_waits to_come queue chosen none = record {
     chosen = chosen;
-    gathered = rw none (All-nil (IsGatheredOver A how g));
+    gathered = rw none (All-nil (IsGatheredOver A how g kind));
     rest = to_come;
     sources_are = ap (λ (l : List (GatheredDiffusion V)). sources_of_all l ++ to_come) (sym none);
   }
 
   module _ (to_come : List ℕ) (w : ℕ) where
     -- those that were gathered together wait
-    pub group_waits : (queue : DiffusionQueue V) → sources_of_all queue.waiting.items ≡ take w to_come → IsCut how g queue.plan × (queue.pace ≡ pace_of how g) → All (IsGatheredOver A how g) queue.waiting.items → AreNext A how g to_come queue
+    pub group_waits : (queue : DiffusionQueue V) → sources_of_all queue.waiting.items ≡ take w to_come → IsCut how g queue.plan × (queue.pace ≡ pace_of how g) → All (IsGatheredOver A how g kind) queue.waiting.items → AreNext A how g kind to_come queue
     group_waits queue are chosen gathered = record {
       chosen = chosen;
       gathered = gathered;
@@ -40,17 +41,17 @@ module _ {V : Type 0} (A : Algebra V) (how : Settings) (g : GraphData) where
 
   -- the next is taken
   module _ (to_come left : List ℕ) (source : ℕ) (old new : DiffusionQueue V) (e : GatheredDiffusion V) (next : to_come ≡ source ∷ left)
-      (were : AreNext A how g to_come old) (is : old.waiting.items ≡ e ∷ new.waiting.items) where
+      (were : AreNext A how g kind to_come old) (is : old.waiting.items ≡ e ∷ new.waiting.items) where
     order : source ∷ left ≡ e.source ∷ (sources_of_all new.waiting.items ++ were.rest)
     order = sym next ∙ were.sources_are ∙ ap (λ (l : List (GatheredDiffusion V)). sources_of_all l ++ were.rest) is
 
-    all : All (IsGatheredOver A how g) (e ∷ new.waiting.items)
-    all = subst (All (IsGatheredOver A how g)) is were.gathered
+    all : All (IsGatheredOver A how g kind) (e ∷ new.waiting.items)
+    all = subst (All (IsGatheredOver A how g kind)) is were.gathered
 
     -- it is the next to come, it was gathered, and the others wait
-    pub taken : IsCut how g new.plan × (new.pace ≡ pace_of how g) → (to_come ≡ e.source ∷ left) × IsGatheredOver A how g e × AreNext A how g left new
+    pub taken : IsCut how g new.plan × (new.pace ≡ pace_of how g) → (to_come ≡ e.source ∷ left) × IsGatheredOver A how g kind e × AreNext A how g kind left new
     taken chosen = (
       let o = order in cc,
-      All-head (IsGatheredOver A how g) e new.waiting.items all,
-      record { chosen = chosen; gathered = All-tail (IsGatheredOver A how g) e new.waiting.items all; rest = were.rest; sources_are = let o = order in cc },
+      All-head (IsGatheredOver A how g kind) e new.waiting.items all,
+      record { chosen = chosen; gathered = All-tail (IsGatheredOver A how g kind) e new.waiting.items all; rest = were.rest; sources_are = let o = order in cc },
     )

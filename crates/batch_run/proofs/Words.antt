@@ -9,7 +9,7 @@ pub use Rattle.batch_inputs.specs.declared.faults.File.TheVariants.{NoFile}
 pub use Rattle.batch_inputs.specs.declared.faults.RunFault.{RunFault}
 pub use Rattle.batch_run.proofs.Moved.{moved_all, moved_on}
 pub use Rattle.batch_run.specs.Answered.{AnsweredAll, AsksWithin, WroteAllOrFirst, WroteAnswers, WroteFirst, WroteNext, WroteWhole, begun_text}
-pub use Rattle.batch_run.specs.Batches.{IsEndedIn, IsGatheredFromIn, IsOpenedIn, MayStopBatch, asked_in, questions_in}
+pub use Rattle.batch_run.specs.Batches.{IsEndedIn, IsGatheredFromIn, IsOpenedIn, MayStopBatch, asked_in, kind_in, questions_in}
 pub use Rattle.batch_run.specs.Causes.{MayStop, fault_of, number_of}
 pub use Rattle.batch_run.specs.Cut.{IsCut, order_of}
 pub use Rattle.batch_run.specs.Diffusions.{AreNext, IsLabelling, IsNextSource}

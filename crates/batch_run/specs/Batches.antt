@@ -4,6 +4,7 @@ use Rattle.std.specs.Prelude.{◌≡◌, ℕ, ◌+◌, Bool, false, List, Option
 use Rattle.std.specs.declared.alloc.Global.{Global}
 use Rattle.road_graph.specs.GraphData.{GraphData}
 use Rattle.road_files.specs.Asked.{Asked, Question, asked_of}
+use Rattle.road_files.specs.declared.questions.Kind.{Kind}
 use Rattle.text_lines.specs.Streams.{Output}
 use Rattle.path_algebra.specs.declared.algebra.PathAlgebra.{Ghosts}
 use Rattle.path_algebra.specs.Algebra.{Algebra}
@@ -75,6 +76,10 @@ ReportedBatch meaning cost batch s =
 
 -- of a batch over a graph
 module _ {S R T V : Type 0} {G : Ghosts S V} (over : BatchOver S R T V G) where
+  -- the kind of its questions
+  abbrev pub kind_in : Kind
+  kind_in = (asked_in over.batch.now).kind
+
   -- its questions
   abbrev pub questions_in : List Question
   questions_in = (asked_in over.batch.now).questions
@@ -99,16 +104,16 @@ module _ {S R T V : Type 0} {G : Ghosts S V} (meaning : S → Algebra V) (over :
 
   -- one was gathered
   abbrev pub IsGatheredIn : GatheredDiffusion V → Type 0
-  IsGatheredIn = IsGatheredOver (meaning over.batch.now.task.algebra) over.batch.now.settings.now over.graph.now
+  IsGatheredIn = IsGatheredOver (meaning over.batch.now.task.algebra) over.batch.now.settings.now over.graph.now (kind_in over)
 
   -- it is what this ended one came to: it is from its source, and its counts are what its stations
   -- counted together
   abbrev pub IsGatheredFromIn : EndedDiffusion S V → GatheredDiffusion V → Type 0
   IsGatheredFromIn e d = IsGatheredIn d × (d.source ≡ e.source) × (d.tally ≡ tally_of (counts_in e.stations.items))
 
-  -- labels are best from these sources, and if there is a tree it is theirs
+  -- labels are best from these sources, or the question from there is solved
   abbrev pub IsLabellingIn : List ℕ → Labelling V → Type 0
-  IsLabellingIn = IsLabelling (meaning over.batch.now.task.algebra) over.graph.now
+  IsLabellingIn = IsLabelling (meaning over.batch.now.task.algebra) over.graph.now (kind_in over)
 
   -- this solves the question at a place
   abbrev pub IsSolvedIn : ℕ → Solved V → Type 0
@@ -116,7 +121,7 @@ module _ {S R T V : Type 0} {G : Ghosts S V} (meaning : S → Algebra V) (over :
 
   -- what waits goes on with the diffusion from source j of question i
   abbrev pub AreNextAt : (i j : ℕ) → DiffusionQueue V → Type 0
-  AreNextAt i j = AreNext (meaning over.batch.now.task.algebra) over.batch.now.settings.now over.graph.now (sources_to_come (questions_in over) i j)
+  AreNextAt i j = AreNext (meaning over.batch.now.task.algebra) over.batch.now.settings.now over.graph.now (kind_in over) (sources_to_come (questions_in over) i j)
 
 -- this fault stops its diffusions
 abbrev pub StopsOver : {S R T V : Type 0} {G : Ghosts S V} → (S → Algebra V) → (T → ℕ → ℕ → Bool → Type 0) → BatchOver S R T V G → GroupFault → Type 0

@@ -1,18 +1,22 @@
 -- Diffusions that were run to their end, and those that were gathered.
-use Rattle.std.specs.Prelude.{◌≡◌, ℕ, ◌+◌, ◌<◌, List, [], ◌∷◌, ◌++◌, length, map, get_or, drop, true, IfSome}
+use Rattle.std.specs.Prelude.{◌≡◌, ℕ, ◌+◌, ◌<◌, List, [], ◌∷◌, ◌++◌, length, map, get_or, drop, true, Option, Some, None}
 use Rattle.std.specs.List.{All, flat_map}
 use Rattle.road_graph.specs.GraphData.{GraphData}
-use Rattle.road_files.specs.Asked.{Question, sources_of}
+use Rattle.road_files.specs.Asked.{FromSource, Question, sources_of}
+use Rattle.road_files.specs.declared.questions.Kind.{Kind}
+use Rattle.road_files.specs.declared.questions.Kind.TheVariants.{Sources}
 use Rattle.path_algebra.specs.Algebra.{Algebra}
 use Rattle.path_algebra.specs.Walks.{AreBest}
-use Rattle.route_tree.specs.Tree.{IsTree}
 use Rattle.shard_store.specs.Plans.{PlanData}
 use Rattle.shard_store.specs.Setup.{SetupData}
 use Rattle.post_floor.specs.Data.{FloorData}
 use Rattle.station.specs.Station.{StationData, BelongsTo}
 use Rattle.worker_fleet.specs.Groups.{HasShard}
+use Rattle.question_solvers.specs.Solved.{IsSolution}
+use Rattle.question_solvers.specs.declared.solved.Solved.{Solved}
 use Rattle.batch_run.specs.declared.solve.diffusion.GatheredDiffusion.{GatheredDiffusion}
 use Rattle.batch_run.specs.declared.solve.diffusion.Labelling.{Labelling}
+use Rattle.batch_run.specs.declared.solve.diffusion.Labelling.TheVariants as labelling
 use Rattle.batch_run.specs.declared.solve.queue.DiffusionQueue.{DiffusionQueue}
 use Rattle.batch_settings.specs.declared.settings.Settings.{Settings}
 use Rattle.batch_run.specs.Cut.{IsCut, pace_of}
@@ -42,21 +46,33 @@ pub record AreEnded {A V : Type 0} (t : SetupData A) (floor : FloorData A) (stat
   pub ended : All (λ s. s.ended ≡ true) stations
   pub all : (k : ℕ) → k < t.plan.shards → HasShard k stations
 
--- labels are best from these sources, and if there is a tree it is theirs
-pub record IsLabelling {V : Type 0} (A : Algebra V) (g : GraphData) (sources : List ℕ) (l : Labelling V) : Type 0 where
-  pub labels : AreBest A g sources l.labels
-  pub tree : IfSome l.tree (IsTree A g sources)
+-- each question has one source, the only one of these, and the one from there is solved
+pub record IsSolvedAhead {V : Type 0} (A : Algebra V) (g : GraphData) (kind : Kind) (sources : List ℕ) (s : Solved V) : Type 0 where
+  pub kind_is : kind ≡ Sources
+  pub source : ℕ
+  pub sources_are : sources ≡ source ∷ []
+  pub solved : IsSolution A g kind (FromSource source) s
 
--- a diffusion over the graph was gathered: its labels are best from its source, and its counts are
--- its own
-pub record IsGatheredOver {V : Type 0} (A : Algebra V) (how : Settings) (g : GraphData) (d : GatheredDiffusion V) : Type 0 where
-  pub labelling : IsLabelling A g (d.source ∷ []) d.labelling
+-- labels are best from these sources, or the question from there is solved
+abbrev pub IsLabelling : {V : Type 0} → Algebra V → GraphData → Kind → List ℕ → Labelling V → Type 0
+IsLabelling A g kind sources (labelling.Labels labels) = AreBest A g sources labels
+IsLabelling A g kind sources (labelling.Solved s) = IsSolvedAhead A g kind sources s
+
+-- its labels, if it is not solved
+abbrev pub labels_in : {V : Type 0} → Labelling V → Option (List (Option V))
+labels_in (labelling.Labels labels) = Some labels
+labels_in (labelling.Solved s) = None
+
+-- a diffusion over the graph, for a question of this kind, was gathered: its labels are best from
+-- its source, or the question is solved, and its counts are its own
+pub record IsGatheredOver {V : Type 0} (A : Algebra V) (how : Settings) (g : GraphData) (kind : Kind) (d : GatheredDiffusion V) : Type 0 where
+  pub labelling : IsLabelling A g kind (d.source ∷ []) d.labelling
   pub account : IsAccount A how g d.source d.tally
 
 -- the plan and the pace are those that the settings choose, those that wait were gathered, and
 -- their sources are a prefix of those to come
-pub record AreNext {V : Type 0} (A : Algebra V) (how : Settings) (g : GraphData) (to_come : List ℕ) (queue : DiffusionQueue V) : Type 0 where
+pub record AreNext {V : Type 0} (A : Algebra V) (how : Settings) (g : GraphData) (kind : Kind) (to_come : List ℕ) (queue : DiffusionQueue V) : Type 0 where
   pub chosen : IsCut how g queue.plan × (queue.pace ≡ pace_of how g)
-  pub gathered : All (IsGatheredOver A how g) queue.waiting.items
+  pub gathered : All (IsGatheredOver A how g kind) queue.waiting.items
   pub rest : List ℕ
   pub sources_are : to_come ≡ map (λ d. d.source) queue.waiting.items ++ rest

@@ -15,7 +15,7 @@ module _ {S R T V : Type 0} {G : Ghosts S V} (meaning : S → Algebra V) (batch 
   -- the workers': what waits was gathered, and goes on with the question at this place
   pub record IsWorkerReady (s : WorkerSolver V) : Type 0 where
     pub some : IsSome s.queue
-    pub next : IfSome s.queue (AreNext (meaning batch.task.algebra) batch.settings.now s.graph (sources_to_come (asked_of batch.task.questions.now).questions i 0))
+    pub next : IfSome s.queue (AreNext (meaning batch.task.algebra) batch.settings.now s.graph (asked_of batch.task.questions.now).kind (sources_to_come (asked_of batch.task.questions.now).questions i 0))
 
   -- what a solver holds is right for the batch, and the question at this place is the next one
   abbrev pub IsReady : Solver S V G → Type 0

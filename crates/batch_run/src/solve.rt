@@ -35,7 +35,7 @@ use worker_fleet::{Gate, GroupFault};
 pub use workers::WorkerSolver;
 
 /// What solves the questions of a batch, one after the other: a pair to its answer, another to best
-/// labels and their tree.
+/// labels and their tree, or to the text of its answer.
 ///
 /// It is an enum and no trait: the method of an `impl` can't call what sends a value of a type
 /// parameter to a thread.

@@ -2,4 +2,4 @@
 mod answer;
 mod lines;
 
-pub(crate) use answer::answer_at;
+pub(crate) use answer::{answer_at, source_text};

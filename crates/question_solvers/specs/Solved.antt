@@ -1,4 +1,5 @@
--- What questions are solved to: a pair to its answer, and sources to best labels and their tree.
+-- What questions are solved to: a pair to its answer, and sources to best labels and their tree, or
+-- to the text of their answer.
 use Rattle.std.specs.Prelude.{◌≡◌, ◌≢◌, ℕ, ◌<◌, ◌-◌, List, length, get_or, slice_get, All, Option, Result, OnOk}
 use Rattle.std.specs.Option.{IsSomeAnd}
 use Rattle.road_graph.specs.GraphData.{GraphData}
@@ -8,7 +9,8 @@ use Rattle.road_files.specs.declared.questions.Kind.TheVariants.{Pairs}
 use Rattle.path_algebra.specs.Algebra.{Algebra}
 use Rattle.path_algebra.specs.Walks.{AreBest}
 use Rattle.route_tree.specs.Tree.{Branches, IsTree}
-use Rattle.answer_text.specs.AnswerData.{answer_data}
+use Rattle.answer_text.specs.AnswerData.{AnswerData, answer_data}
+use Rattle.answer_text.specs.AnswerText.{answer_text}
 use Rattle.answer_text.specs.IsAnswer.{IsAnswer}
 use Rattle.question_solvers.specs.declared.solved.Solved.{Solved}
 use Rattle.question_solvers.specs.declared.solved.Solved.TheVariants as solved
@@ -20,10 +22,16 @@ pub record IsTreeFrom {V : Type 0} (A : Algebra V) (g : GraphData) (kind : Kind)
   pub tree : IsTree A g sources branches
   pub unpaired : kind ≢ Pairs
 
--- a question of this kind is solved: by its answer, or by what its answer is written from
+-- it is the text of the right answer to a question
+abbrev pub IsTextFor : {V : Type 0} → Algebra V → GraphData → Question → List ℕ → Type 0
+IsTextFor A g q text = (answer : AnswerData) × IsAnswer A g q answer × (text ≡ answer_text answer)
+
+-- a question of this kind is solved: by its answer, by the text of it, or by what its answer is
+-- written from
 abbrev pub IsSolution : {V : Type 0} → Algebra V → GraphData → Kind → Question → Solved V → Type 0
 IsSolution A g kind q (solved.Tree labels tree) = IsTreeFrom A g kind (sources_of q) labels tree
 IsSolution A g kind q (solved.Answer answer) = IsAnswer A g q (answer_data answer)
+IsSolution A g kind q (solved.Text text) = IsTextFor A g q text.items
 
 -- the question at a place is
 abbrev pub IsSolvedFor : {V : Type 0} → Algebra V → GraphData → Asked → ℕ → Solved V → Type 0

@@ -10,4 +10,6 @@ pub enum Solved<V: Copy> {
     Tree { labels: Labels<V>, tree: Tree },
     /// The answer itself, as of a pair.
     Answer(Answer),
+    /// The text of its answer, which is written as it is.
+    Text(Vec<u8>),
 }

@@ -1,17 +1,19 @@
 //! A diffusion that was run to its end, and how it is gathered.
-ghost use Rattle.std.specs.Prelude.{◌≡◌, [], ◌∷◌, true, IfOk, IfSome};
+ghost use Rattle.std.specs.Prelude.{◌≡◌, [], ◌∷◌, true, IfOk, IsSome, Some};
 ghost use Rattle.std.specs.List.{All};
 ghost use Rattle.road_graph.specs.GraphData.{HasVertex};
 ghost use Rattle.path_algebra.specs.Walks.{AreBest};
-ghost use Rattle.route_tree.specs.Tree.{IsTree};
-ghost use Rattle.batch_run.specs.Batches.{IsCutIn, IsEndedIn, IsGatheredFromIn};
+ghost use Rattle.batch_run.specs.Batches.{IsCutIn, IsEndedIn, IsGatheredFromIn, IsLabellingIn};
+ghost use Rattle.batch_run.specs.Diffusions.{labels_in};
 
 use crate::batch::BatchOver;
+use crate::write::source_text;
 use path_algebra::{Labels, PathAlgebra};
 use post_floor::Floor;
+use question_solvers::Solved;
 use road_files::Questions;
 use road_graph::Vertex;
-use route_tree::{Tree, tree_outgoing};
+use route_tree::tree_outgoing;
 use shard_part::{Plan, Tally};
 use station::{Finished, GatherFault, Gathered, Station, gather};
 use std::alloc::{AllocError, Global};
@@ -24,11 +26,24 @@ pub(crate) struct EndedDiffusion<'g, A: PathAlgebra> {
     pub(crate) stations: Vec<Station<'g, A>>,
 }
 
-/// Best labels from some sources, and their tree if it was made.
+/// Best labels from some sources, or what the question from the only one of them is solved to.
 #[derive(Drop)]
-pub(crate) struct Labelling<V: Copy> {
-    pub(crate) labels: Labels<V>,
-    pub(crate) tree: Option<Tree>,
+pub(crate) enum Labelling<V: Copy> {
+    Labels(Labels<V>),
+    Solved(Solved<V>),
+}
+
+impl<V: Copy> Labelling<V> {
+    /// The labels.
+    pub(crate) fn into_labels(self) -> Labels<V>
+        requires { IsSome (labels_in self) }
+        ensures { labels_in self ≡ Some result }
+    {
+        match self {
+            Labelling::Labels(labels) => labels,
+            Labelling::Solved(_) => unreachable!(),
+        }
+    }
 }
 
 /// What a diffusion from a source came to, and its counts.
@@ -57,25 +72,34 @@ fn finish_all<'g, A: PathAlgebra>(
     Ok(finished)
 }
 
-/// The tree of labels that are best from a source, if that is the only one of its question, and
-/// memory suffices.
-fn tree_ahead<A: PathAlgebra, R, T>(
+/// What comes of labels that are best from a source. If that is the only one of its question, this
+/// is solved as far as memory suffices: where several workers write side by side, to the text of its
+/// answer.
+fn solve_ahead<A: PathAlgebra, R, T>(
     over: &BatchOver<'_, A, R, T>,
     source: Vertex,
-    labels: &Labels<A::Value>,
-) -> Option<Tree>
+    labels: Labels<A::Value>,
+) -> Labelling<A::Value>
     requires source { HasVertex over.now.graph.now source }
     requires labels { AreBest (A.meaning over.now.batch.now.task.algebra) over.now.graph.now
-        (source ∷ []) labels.now }
-    ensures { IfSome result (IsTree (A.meaning over.now.batch.now.task.algebra) over.now.graph.now
-        (source ∷ [])) }
+        (source ∷ []) labels }
+    ensures { IsLabellingIn A.meaning over.now (source ∷ []) result }
 {
     let task = &over.batch.task;
     let Questions::Sources(_) = task.questions else {
-        return None;
+        return Labelling::Labels(labels);
     };
-    let (alloc, graph) = (task.alloc, over.graph.outgoing());
-    tree_outgoing(alloc, task.algebra, graph, &[source], labels).ok()
+    let (alloc, algebra, graph) = (task.alloc, task.algebra, over.graph.outgoing());
+    let Ok(tree) = tree_outgoing(alloc, algebra, graph, &[source], &labels) else {
+        return Labelling::Labels(labels);
+    };
+    let n = over.graph.vertices();
+    if over.batch.settings.workers > 1 {
+        if let Some(text) = source_text(alloc, algebra, n, source, (&labels, &tree)) {
+            return Labelling::Solved(Solved::Text(text));
+        }
+    }
+    Labelling::Solved(Solved::Tree { labels, tree })
 }
 
 /// What an ended diffusion came to.
@@ -98,10 +122,9 @@ pub(crate) fn gather_ended<'g, A: PathAlgebra, R, T>(
     match gather(alloc, floor, finished) {
         Ok(gathered) => {
             let Gathered { labels, tally } = gathered;
-            let tree = tree_ahead(over, source, &labels);
             Ok(GatheredDiffusion {
                 source,
-                labelling: Labelling { labels, tree },
+                labelling: solve_ahead(over, source, labels),
                 tally,
             })
         }

@@ -13,8 +13,8 @@ use std::sync::Wait;
 use std::thread::Threads;
 use worker_fleet::{Gate, GroupFault};
 
-/// The best values over all walks from some source of the question at a place: of each source a
-/// diffusion of its own, reported for the question, and then these merged.
+/// The best values over all walks from some source of the question at a place, or what it is solved
+/// to: of each source a diffusion of its own, reported for the question, and then these merged.
 pub(crate) fn merge_all<A: PathAlgebra, R: Threads + Wait + Sync, T: Gate, O: Watcher>(
     over: &BatchOver<'_, A, R, T>,
     queue: &mut DiffusionQueue<A::Value>,
@@ -36,8 +36,9 @@ pub(crate) fn merge_all<A: PathAlgebra, R: Threads + Wait + Sync, T: Gate, O: Wa
     let mut merged = next_labels(over, queue, i, 0, watcher)?;
     for j in 1..sources.len() {
         let other = next_labels(over, queue, i, j, watcher)?;
-        merged.labels.merge(task.algebra, &other.labels);
-        merged.tree = None;
+        let mut labels = merged.into_labels();
+        labels.merge(task.algebra, &other.into_labels());
+        merged = Labelling::Labels(labels);
     }
     Ok(merged)
 }

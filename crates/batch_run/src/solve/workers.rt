@@ -37,7 +37,7 @@ pub struct WorkerSolver<V: Copy> {
     pub(crate) solved: Option<Solved<V>>,
 }
 
-/// Solves the question at a place by best labels from its sources, and by their tree if it was made.
+/// Solves the question at a place by best labels from its sources, if it is not solved ahead.
 fn solve_by_labels<A: PathAlgebra, R, T>(
     over: &BatchOver<'_, A, R, T>,
     i: usize,
@@ -50,7 +50,10 @@ fn solve_by_labels<A: PathAlgebra, R, T>(
 {
     let (task, graph) = (&over.batch.task, over.graph);
     let (alloc, algebra) = (task.alloc, task.algebra);
-    let Labelling { labels, tree } = labelling;
+    let labels = match labelling {
+        Labelling::Solved(solved) => return Ok(solved),
+        Labelling::Labels(labels) => labels,
+    };
     match task.questions {
         Questions::Pairs(pairs) => {
             let (source, target) = pairs[i];
@@ -62,9 +65,6 @@ fn solve_by_labels<A: PathAlgebra, R, T>(
             }))
         }
         _ => {
-            if let Some(tree) = tree {
-                return Ok(Solved::Tree { labels, tree });
-            }
             let sources = task.questions.sources(i);
             let tree = tree_outgoing(alloc, algebra, graph.outgoing(), sources, &labels)?;
             Ok(Solved::Tree { labels, tree })

@@ -1,5 +1,5 @@
 //! Writes the right answer to one question.
-ghost use Rattle.std.specs.Prelude.{◌≡◌, [], ◌∷◌, length};
+ghost use Rattle.std.specs.Prelude.{◌≡◌, [], ◌∷◌, length, IfSome};
 ghost use Rattle.road_graph.specs.GraphData.{GraphData};
 ghost use Rattle.path_algebra.specs.Walks.{AreBest};
 ghost use Rattle.route_tree.specs.Tree.{IsTree};
@@ -7,7 +7,7 @@ ghost use Rattle.road_files.specs.Asked.{Question, FromSource, FromSources};
 ghost use Rattle.batch_run.specs.Answered.{WroteAnswer};
 ghost use Rattle.batch_run.specs.Batches.{asked_in, question_at};
 ghost use Rattle.question_solvers.specs.Questions.{HasPlace};
-ghost use Rattle.question_solvers.specs.Solved.{IsSolvedFor};
+ghost use Rattle.question_solvers.specs.Solved.{IsSolvedFor, IsTextFor};
 
 use crate::batch::Batch;
 use crate::write::lines::write_lines;
@@ -17,7 +17,11 @@ use question_solvers::Solved;
 use road_files::Questions;
 use road_graph::Vertex;
 use route_tree::Tree;
-use text_lines::{RoadWrite, WriteFault};
+use std::alloc::Global;
+use text_lines::{Plain, RoadWrite, WriteFault, write_bytes};
+
+/// The bytes that are set aside for the line of a vertex.
+const LINE: usize = 32;
 
 /// Writes the right answer to a question from one source to all of n vertices, by the tree of its
 /// best labels.
@@ -58,6 +62,31 @@ fn answer_sources<A: PathAlgebra, W: RoadWrite>(
     write_lines(out, algebra, n, labels, tree)
 }
 
+/// The text of the right answer to a question from one source, by the tree of its best labels;
+/// nothing if memory is refused.
+pub(crate) fn source_text<A: PathAlgebra>(
+    alloc: Global,
+    algebra: A,
+    n: u32,
+    source: Vertex,
+    solved: (&Labels<A::Value>, &Tree),
+) -> Option<Vec<u8>>
+    requires labels { length solved.0.now ≡ n }
+    requires hops { length solved.1.now.hops ≡ n }
+    ensures { (g : GraphData) → g.vertices ≡ n → AreBest (A.meaning algebra) g (source ∷ [])
+        solved.entry.0.now → IsTree (A.meaning algebra) g (source ∷ []) solved.entry.1.now → IfSome
+        result (λ text. IsTextFor (A.meaning algebra) g (FromSource source) text.items) }
+{
+    let Ok(room) = Vec::with_capacity(alloc, n as usize * LINE) else {
+        return None;
+    };
+    let mut out = Plain::new(room);
+    match answer_source(algebra, n, source, solved, &mut out) {
+        Ok(()) => Some(out.into_inner()),
+        Err(_) => None,
+    }
+}
+
 /// Writes the right answer to the question at a place, which is solved over a graph of n vertices.
 pub(crate) fn answer_at<A: PathAlgebra, W: RoadWrite, R, T>(
     batch: &Batch<'_, A, R, T>,
@@ -77,6 +106,7 @@ pub(crate) fn answer_at<A: PathAlgebra, W: RoadWrite, R, T>(
     let (algebra, questions) = (batch.task.algebra, batch.task.questions);
     match solved {
         Solved::Answer(answer) => write_answer(out, answer),
+        Solved::Text(text) => write_bytes(out, text),
         Solved::Tree { labels, tree } => match questions {
             Questions::Sources(sources) => {
                 answer_source(algebra, n, sources[i], (labels, tree), out)

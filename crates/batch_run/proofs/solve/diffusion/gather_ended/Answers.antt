@@ -8,22 +8,19 @@ use Rattle.batch_run.proofs.solve.diffusion.gather_ended.Goals as goal
 pub gather-requires-after_bounds : goal.gather-requires-after_bounds
 gather-requires-after_bounds g c κs within = rw c.in_ok-finished.ensures c.requires.ended.own
 
-pub tree_ahead-tree-requires-clause-source : goal.tree_ahead-tree-requires-clause-source
-tree_ahead-tree-requires-clause-source g c κs within =
+pub solve_ahead-requires-clause-source : goal.solve_ahead-requires-clause-source
+solve_ahead-requires-clause-source g c κs within =
     has_source g.A.PathAlgebra.meaning c.args.over.now c.args.plan.now c.args.ended c.in-Ok.gathered c.requires.ended c.in-Ok.ensures.gathered.1
 
-pub tree_ahead-tree-requires-clause-labels : goal.tree_ahead-tree-requires-clause-labels
-tree_ahead-tree-requires-clause-labels g c κs within =
+pub solve_ahead-requires-clause-labels : goal.solve_ahead-requires-clause-labels
+solve_ahead-requires-clause-labels g c κs within =
     are_best g.A.PathAlgebra.meaning c.args.over.now c.args.plan.now c.args.ended c.in-Ok.gathered c.requires.ended c.in-Ok.ensures.gathered.1
 
 pub returns-in-Ok : goal.returns-in-Ok
 returns-in-Ok g c =
     let found = c.in-Ok.ensures.gathered.1 in (
       record {
-        labelling = record {
-          labels = are_best g.A.PathAlgebra.meaning c.args.over.now c.args.plan.now c.args.ended c.in-Ok.gathered c.requires.ended found;
-          tree = c.tree_ahead-tree.ensures;
-        };
+        labelling = c.solve_ahead.ensures;
         account = is_account g.A.PathAlgebra.meaning c.args.over.now c.args.plan.now c.args.ended c.in-Ok.gathered c.requires.ended found c.requires.plan;
       },
       refl,

@@ -1,6 +1,8 @@
-use Rattle.batch_run.proofs.Words.{List, ℕ, ◌≡◌, ◌∙◌, ◌+◌, ◌<◌, ◌≤◌, length, map, get_or, subst, sym, arith, err_from_is_err_and, FromSource, Question, IsNextSource, Account, Reported, ReportedPrefix}
+use Rattle.batch_run.proofs.Words.{List, ℕ, refl, kind_in, AreBest, ◌≢◌, ◌≡◌, ◌∙◌, ◌+◌, ◌<◌, ◌≤◌, length, map, get_or, subst, sym, arith, err_from_is_err_and, FromSource, Question, IsNextSource, Account, Reported, ReportedPrefix}
 use Rattle.std.proofs.lemmas.List.{take_all, get_or_default}
 use Rattle.batch_run.specs.Batches.{IsLabellingIn, questions_in}
+use Rattle.road_files.specs.declared.questions.Kind.TheVariants.{Sources}
+use Rattle.batch_run.proofs.Ahead.{best_kept, kept, not_single}
 use Rattle.batch_run.proofs.SourceByMore.{first_source, source_more}
 use Rattle.batch_run.proofs.SourcesToCome.{has_source, next_source, some_sources, sources_at, sources_over}
 use Rattle.batch_run.proofs.Reporting.{prefix_if_err, prefix_kept, sources_begun, sources_more, sources_stopped, sources_ended}
@@ -47,22 +49,37 @@ next : (g : _) (c : In_ok-other g) → IsNextSource (questions_in c.args.over.no
 next g c =
     next_source (questions_in c.args.over.now) c.args.i c.requires.place (sources_at (questions_in c.args.over.now) c.args.i) (λ (d : Question). sym (c.sources-sources.ensures (FromSource 0)) ∙ c.sources-sources.ensures d) c.loop-j.j (source g c) (low g c) (is g c)
 
+-- there is more than one source, so the questions are of a kind that is not solved ahead
+several : (g : _) (c : In_ok-other g) → kind_in c.args.over.now ≢ Sources
+several g c =
+    let more = low g c in
+    not_single c.args.over.now.batch.now.task.questions.now c.args.i c.requires.place (FromSource 0) (sources_at (questions_in c.args.over.now) c.args.i) refl (λ one. omega (arith, more, one, c.loop-j.auto.j))
+
+pub into_labels-labels-requires : goal.into_labels-labels-requires
+into_labels-labels-requires g c =
+    let at = (goal.at.into_labels-labels-requires g c).In_ok-other in
+    kept _ _ _ _ c.loop-j.merged (several g at) c.loop-j.invariant.best
+
+pub into_labels-requires : goal.into_labels-requires
+into_labels-requires g c =
+    let at = (goal.at.into_labels-requires g c).In_ok-other in
+    kept _ _ _ _ c.in_ok-other.other (several g at) (c.in_ok-other.ensures.labels (source g at) (next g at))
+
 pub merge-requires-after_bounds : goal.merge-requires-after_bounds
 merge-requires-after_bounds g c κs within =
     let at = (goal.at.merge-requires-after_bounds g c).In_ok-other in
-    (c.in_ok-other.ensures.labels (source g at) (next g at)).labels.count ∙ sym c.loop-j.invariant.best.labels.count
+    (best_kept _ _ _ _ c.in_ok-other.other _ (c.in_ok-other.ensures.labels (source g at) (next g at)) c.into_labels.ensures).count
+    ∙ sym (best_kept _ _ _ _ c.loop-j.merged _ c.loop-j.invariant.best c.into_labels-labels.ensures).count
 
 pub loop-j-preserved : goal.loop-j-preserved
 loop-j-preserved g c =
     let at = (goal.at.loop-j-preserved g c).In_ok-other in
     let all = sources_at (questions_in c.args.over.now) c.args.i in
     record {
-      best = record {
-        labels = source_more (g.A.PathAlgebra.meaning c.args.over.now.batch.now.task.algebra) c.laws_hold.ensures.lawful c.args.over.now.graph.now g.A.PathAlgebra.order c.laws_hold.ensures.order
-            all c.loop-j.j (source g at) c.loop-j.merged.labels c.in_ok-other.other.labels c.merge.new.self (low g at) (is g at)
-            c.loop-j.invariant.best.labels (c.in_ok-other.ensures.labels (source g at) (next g at)).labels c.merge.ensures.count c.merge.ensures.labels;
-        tree = tt;
-      };
+      best = source_more (g.A.PathAlgebra.meaning c.args.over.now.batch.now.task.algebra) c.laws_hold.ensures.lawful c.args.over.now.graph.now g.A.PathAlgebra.order c.laws_hold.ensures.order
+          all c.loop-j.j (source g at) _ _ _ (low g at) (is g at)
+          (best_kept _ _ _ _ c.loop-j.merged _ c.loop-j.invariant.best c.into_labels-labels.ensures) (best_kept _ _ _ _ c.in_ok-other.other _ (c.in_ok-other.ensures.labels (source g at) (next g at)) c.into_labels.ensures)
+          c.merge-in-loop-j.ensures.count c.merge-in-loop-j.ensures.labels;
       ready = c.in_ok-other.ensures.ready;
       reported = sources_more _ _ _ _ (c.args.i + 1) all c.loop-j.j (source g at) _ _ _ (low g at) (is g at) c.loop-j.invariant.reported (c.in_ok-other.ensures.reported (source g at) (next g at));
     }

@@ -1,12 +1,13 @@
 use Rattle.batch_run.proofs.Words.{sym, subst, List, ℕ, All, HasVertex, FromSource, AreBest, IsTree}
 use Rattle.road_files.proofs.QuestionLaws.{asked_within, pair_at}
 use Rattle.question_solvers.proofs.QuestionKinds.{found_answers, no_pairs, pair_asked}
+use Rattle.batch_run.proofs.Ahead.{solved_ahead}
 use Rattle.batch_run.proofs.solve.workers.solve_by_labels.Goals as goal
 
 pub route_between-requires-clause-labels : goal.route_between-requires-clause-labels
 route_between-requires-clause-labels g c κs within =
-    subst (λ (vs : List ℕ). AreBest (g.A.PathAlgebra.meaning c.args.over.now.batch.now.task.algebra) c.args.over.now.graph.now vs c.args.labelling.labels)
-    (pair_at c.args.over.now.batch.now.task.questions.now c.args.i c.in-Pairs.pairs c.index.result.now c.in-Pairs.is c.requires.place c.index.ensures (FromSource 0)) (c.requires.labels (FromSource 0)).labels
+    subst (λ (vs : List ℕ). AreBest (g.A.PathAlgebra.meaning c.args.over.now.batch.now.task.algebra) c.args.over.now.graph.now vs c.in-Labels.labels)
+    (pair_at c.args.over.now.batch.now.task.questions.now c.args.i c.in-Pairs.pairs c.index.result.now c.in-Pairs.is c.requires.place c.index.ensures (FromSource 0)) (rw c.in-Labels.is at (c.requires.labels (FromSource 0)))
 
 pub tree_outgoing-requires-clause-sources : goal.tree_outgoing-requires-clause-sources
 tree_outgoing-requires-clause-sources g c κs within =
@@ -15,8 +16,8 @@ tree_outgoing-requires-clause-sources g c κs within =
 
 pub tree_outgoing-requires-clause-labels : goal.tree_outgoing-requires-clause-labels
 tree_outgoing-requires-clause-labels g c κs within =
-    rw c.outgoing.ensures (subst (λ (vs : List ℕ). AreBest (g.A.PathAlgebra.meaning c.args.over.now.batch.now.task.algebra) c.args.over.now.graph.now vs c.args.labelling.labels)
-    (sym (c.sources-sources.ensures (FromSource 0))) (c.requires.labels (FromSource 0)).labels)
+    rw c.outgoing.ensures (subst (λ (vs : List ℕ). AreBest (g.A.PathAlgebra.meaning c.args.over.now.batch.now.task.algebra) c.args.over.now.graph.now vs c.in-Labels.labels)
+    (sym (c.sources-sources.ensures (FromSource 0))) (rw c.in-Labels.is at (c.requires.labels (FromSource 0))))
 
 pub returns-in_ok-found-in-Pairs : goal.returns-in_ok-found-in-Pairs
 returns-in_ok-found-in-Pairs g c =
@@ -26,15 +27,12 @@ returns-in_ok-found-in-Pairs g c =
 
 pub returns-in_ok-tree-in_default : goal.returns-in_ok-tree-in_default
 returns-in_ok-tree-in_default g c = λ d. record {
-  labels = (c.requires.labels d).labels;
+  labels = rw c.in-Labels.is at (c.requires.labels d);
   tree = subst (λ (vs : List ℕ). IsTree (g.A.PathAlgebra.meaning c.args.over.now.batch.now.task.algebra) c.args.over.now.graph.now vs c.in_ok-tree-in_default.tree)
       (c.sources-sources.ensures d) (rw c.outgoing.ensures at c.in_ok-tree-in_default.ensures);
   unpaired = no_pairs c.args.over.now.batch.now.task.questions.now c.in_default.not-Pairs;
 }
 
-pub returns-in-Some : goal.returns-in-Some
-returns-in-Some g c = λ d. record {
-  labels = (c.requires.labels d).labels;
-  tree = rw c.in-Some.is at ((c.requires.labels d).tree);
-  unpaired = no_pairs c.args.over.now.batch.now.task.questions.now c.in_default.not-Pairs;
-}
+pub returns-in-Solved : goal.returns-in-Solved
+returns-in-Solved g c = λ d.
+    solved_ahead c.args.over.now.batch.now.task.questions.now c.args.i c.requires.place d _ _ c.in-Solved.solved (rw c.in-Solved.is at (c.requires.labels d))

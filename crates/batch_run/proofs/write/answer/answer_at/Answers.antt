@@ -1,7 +1,8 @@
 use Rattle.batch_run.proofs.Words.{◌≡◌, ◌∙◌, ℕ, List, ap, arith, get_or, length, subst, sym, AreBest, IsTree, Question, FromSource, FromSources, asked_of, sources_of, in_sources, asked_in}
 use Rattle.answer_text.specs.AnswerData.{answer_data}
-use Rattle.question_solvers.specs.Solved.{IsTreeFrom}
+use Rattle.question_solvers.specs.Solved.{IsTextFor, IsTreeFrom}
 use Rattle.question_solvers.proofs.QuestionKinds.{list_asked, source_asked}
+use Rattle.text_lines.specs.Written.{WritesText}
 use Rattle.batch_run.specs.Answered.{WroteAnswer}
 use Rattle.batch_run.proofs.write.answer.answer_at.Goals as goal
 use Rattle.batch_run.proofs.write.answer.answer_at.Goals.{In-Tree}
@@ -30,6 +31,12 @@ answer_sources-requires-clause-hops g c κs within = (counts g (goal.at.answer_s
 
 pub returns-in-Answer : goal.returns-in-Answer
 returns-in-Answer g c = λ roads d count solved. (answer_data c.in-Answer.answer, rw c.in-Answer.is at (solved d), c.write_answer.ensures)
+
+pub returns-in-Text : goal.returns-in-Text
+returns-in-Text g c = λ roads d count solved.
+    let A = g.A.PathAlgebra.meaning c.args.batch.now.task.algebra in
+    let found : IsTextFor A roads (get_or (asked_in c.args.batch.now).questions c.args.i d) c.in-Text.text.items = rw c.in-Text.is at (solved d) in
+    (found.0, found.1, subst (λ (t : List ℕ). WritesText (g.W.RoadWrite.seen c.args.out.now) (g.W.RoadWrite.seen c.write_bytes.new.to) t c.write_bytes.result) (c.deref.ensures.value ∙ found.2) c.write_bytes.ensures)
 
 pub returns-in-Sources : goal.returns-in-Sources
 returns-in-Sources g c = λ roads d count solved.

@@ -84,13 +84,13 @@ module _ {A : Type 0} (seen : A → Output A) where
   some_first a text true had = elim (had.fell refl) [ inl e ↦ cc | inr q ↦ q ]
 
   -- accounts that were written, and then passed on or lost
-  pub account : (old mid new : Option A) (lost : Bool) (text : List ℕ) (r : Result (Unit {0}) RunFault) → HasAccounts seen old mid false lost text →
-      EndsAccounts seen mid new lost r → Account text (option_map seen old) (option_map seen new) r
-  account None None None lost text r had ends = (refl, ends.1)
-  account None None (Some c) lost text r had ends = let e : Some c ≡ None = ends.0 in cc
-  account None (Some b) new lost text r had ends = let e : Some b ≡ None = none_first (Some b) text lost had in cc
-  account (Some a) None new lost text r had ends = absurd (some_first a text lost had)
-  account (Some a) (Some b) None lost text r had ends = ends
-  account (Some a) (Some b) (Some c) lost text (Ok u) had ends =
+  pub account : (old mid new : Option A) (lost : Bool) (text : List ℕ) (r : Result (Unit {0}) RunFault) → EndsAccounts seen mid new lost r →
+      HasAccounts seen old mid false lost text → Account text (option_map seen old) (option_map seen new) r
+  account None None None lost text r ends had = (refl, ends.1)
+  account None None (Some c) lost text r ends had = let e : Some c ≡ None = ends.0 in cc
+  account None (Some b) new lost text r ends had = let e : Some b ≡ None = none_first (Some b) text lost had in cc
+  account (Some a) None new lost text r ends had = absurd (some_first a text lost had)
+  account (Some a) (Some b) None lost text r ends had = ends
+  account (Some a) (Some b) (Some c) lost text (Ok u) ends had =
       let kept = had.kept ends.0 in (Appends-kept (seen a).written (seen b).written (seen c).written text kept.1.0 ends.1, ends.2, ends.3 ∙ kept.1.1)
-  account (Some a) (Some b) (Some c) lost text (Err f) had ends = (ends.0, some_lost a b c text lost had ends.1)
+  account (Some a) (Some b) (Some c) lost text (Err f) ends had = (ends.0, some_lost a b c text lost had ends.1)

@@ -6,7 +6,7 @@ use Rattle.text_lines.specs.Streams.{Input, Output}
 use Rattle.command_args.specs.declared.parsed.WatchOptions.{WatchOptions}
 use Rattle.command_files.specs.Moments.{Moment}
 use Rattle.command_files.specs.declared.files.FileSystem.{Ghosts}
-use Rattle.program.specs.Commands.{AnswersWatched}
+use Rattle.program.specs.Commands.{Answers}
 use Rattle.program.specs.Runs.{given_of}
 
 -- what is made of something is there exactly if that is
@@ -24,9 +24,10 @@ shown_as shown false old new text h = ap shown h
 -- another promise of how the input was read
 module _ {P F I N W E : Type 0} (G : Ghosts P F I N) (others : List (List ℕ)) (watching : WatchOptions) (chosen : AlgebraChoice) (settings : Settings) (is_read : GraphData → Asked → Type 0) (is_own : File → Type 0)
     (has_read has_read' : Result (Unit {0}) RunFault → Type 0) (old new : Moment P W E) (result : ℕ) where
-  pub watched_as : AnswersWatched G others watching (given_of chosen settings is_read is_own has_read) old new result →
-      ((o : Result (Unit {0}) RunFault) → has_read o → has_read' o) → AnswersWatched G others watching (given_of chosen settings is_read is_own has_read') old new result
-  watched_as it read = record {
+  pub answers_as : Answers G others watching (given_of chosen settings is_read is_own has_read) old new result →
+      ((o : Result (Unit {0}) RunFault) → has_read o → has_read' o) → Answers G others watching (given_of chosen settings is_read is_own has_read') old new result
+  answers_as (inl refused) read = inl refused
+  answers_as (inr it) read = inr (record {
     accounts = it.accounts;
     accounts_after = it.accounts_after;
     answered = it.answered;
@@ -44,7 +45,7 @@ module _ {P F I N W E : Type 0} (G : Ghosts P F I N) (others : List (List ℕ)) 
       finishes = it.ends.finishes;
     };
     timed = it.timed;
-  }
+  })
 
 -- an order was read after inputs of which less is said
 module _ {O : Type 0} (IsRead : GraphData → Asked → Type 0) (inputs later : File → Type 0) (order order_after : Option (Input O)) where

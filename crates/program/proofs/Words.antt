@@ -11,11 +11,10 @@ pub use Rattle.path_algebra.specs.Choices.{Under}
 pub use Rattle.path_algebra.specs.declared.choice.AlgebraChoice.{AlgebraChoice}
 pub use Rattle.program.specs.Accounts.{accounts_text}
 pub use Rattle.program.specs.Runs.{gate_is_open}
-pub use Rattle.program.specs.Watching.{EndsAccounts, HasAccounts, IsAddedIf, Notes}
+pub use Rattle.program.specs.Watching.{HasAccounts, IsAddedIf, Notes}
 pub use Rattle.road_files.specs.Asked.{Asked}
 pub use Rattle.road_graph.specs.GraphData.{GraphData}
 pub use Rattle.std.proofs.Common.{List, ap, arith, false, inl, inr, refl, rules, subst, sym, true, ◌∙◌, ◌≡◌, ◌≤◌}
-pub use Rattle.std.proofs.Math.Path.{subst⁻¹}
 pub use Rattle.std.proofs.lemmas.Grind.{common_steps}
 pub use Rattle.std.specs.Option.{option_map}
 pub use Rattle.std.specs.Prelude.{IfErr, Result, is_some}

@@ -11,7 +11,7 @@ ghost use Rattle.service.specs.Served.{RanService};
 ghost use Rattle.command_files.specs.Moments.{moment};
 ghost use Rattle.program.specs.Commands.{Answers};
 ghost use Rattle.program.specs.Runs.{gate_is_open, given_of};
-ghost use Rattle.program.specs.Watching.{EndsAccounts, EndsWatched, outcome_of};
+ghost use Rattle.program.specs.Watching.{EndsAccounts, outcome_of};
 
 use crate::method::Method;
 use crate::watch::{CommandWatcher, PATIENCE};
@@ -20,7 +20,7 @@ use batch_run::{
     usual_turns_are_enough,
 };
 use command_args::WatchOptions;
-use command_files::{FileSystem, Host, Streams, create_accounts, refuse, show_times};
+use command_files::{Host, Streams, create_accounts, refuse, show_times};
 use fault_reports::end_with;
 use path_algebra::with_algebra;
 use service::run_service;
@@ -111,65 +111,11 @@ fn outcome_of(batch: Result<(), RunFault>, kept: Result<(), RunFault>) -> Result
     }
 }
 
-/// Answers the questions of an input over its graph. It writes accounts and shows progress, each if
-/// it is wanted, lets the files take note of its phases, and gives the exit status. A fault is
-/// reported last, in one line on the error output.
-fn run_watched<R: Threads + Wait + Sync, I: BatchInput, S: Streams>(
-    method: &Method<'_, R>,
-    input: &mut I,
-    host: &mut Host<S>,
-    accounts: &mut Option<<S::Files as FileSystem>::NewFile>,
-    progress: bool,
-) -> u8
-    ensures files { host.new.files ≡ host.old.files }
-    ensures ends { let seen = S.Files.NewFile.seen in EndsWatched (given_of method.now.chosen
-        method.now.settings.now (I.is_read input.old) I.is_own (I.has_read input.old input.new))
-        progress (S.Out.seen host.old.out) (S.Out.seen host.new.out) (option_map seen accounts.old)
-        (option_map seen accounts.new) (S.Errors.seen host.old.errors)
-        (S.Errors.seen host.new.errors) result }
-{
-    let mut watch = CommandWatcher {
-        name: method.chosen.name(),
-        accounts: &mut *accounts,
-        lost: false,
-        progress,
-        all: 0,
-        left: PATIENCE,
-        errors: &mut host.errors,
-        files: &host.files,
-    };
-    let batch = run_chosen(method, input, &mut host.out, &mut watch);
-    usual_turns_are_enough();
-    let lost = watch.lost;
-    let kept = end_accounts(accounts, lost);
-    end_with(&mut host.errors, outcome_of(batch, kept))
-}
-
-/// Answers the questions of an input, as `run_watched` does, after the file of accounts, which may
-/// be none of these others, was created. At last it shows times, if they are wanted.
-fn answer_input<R: Threads + Wait + Sync, I: BatchInput, S: Streams>(
-    method: &Method<'_, R>,
-    input: &mut I,
-    host: &mut Host<S>,
-    options: &WatchOptions<'_>,
-    others: &[&str],
-) -> u8
-    ensures { Answers S.Files.FileSystem (map (λ name. name.now) others.now) options.now (given_of
-        method.now.chosen method.now.settings.now (I.is_read input.old) I.is_own (I.has_read
-        input.old input.new)) (moment S.Out.seen S.Errors.seen host.old) (moment S.Out.seen
-        S.Errors.seen host.new) result }
-{
-    let mut accounts = match create_accounts(&mut host.files, options, others) {
-        Ok(accounts) => accounts,
-        Err(refusal) => return refuse(&mut host.errors, refusal),
-    };
-    let status = run_watched(method, input, host, &mut accounts, options.progress);
-    show_times(host, options.times, status);
-    status
-}
-
-/// Answers the questions of an input, as `answer_input` does. The graph is factored by the order of
-/// a further input, if there is one.
+/// Answers the questions of an input over its graph, which is factored by the order of a further
+/// input, if there is one. The file of accounts, which may be none of these others, is created
+/// first. It writes accounts and shows progress, each if it is wanted, lets the files take note of
+/// its phases, and gives the exit status. A fault is reported in one line on the error output. At
+/// last it shows times, if they are wanted.
 pub(crate) fn answer<R: Threads + Wait + Sync, I: BatchInput, O: RoadRead, S: Streams>(
     method: &Method<'_, R>,
     input: &mut I,
@@ -185,6 +131,26 @@ pub(crate) fn answer<R: Threads + Wait + Sync, I: BatchInput, O: RoadRead, S: St
         O.seen order_after))) (moment S.Out.seen S.Errors.seen host.old) (moment S.Out.seen
         S.Errors.seen host.new) result }
 {
+    let mut accounts = match create_accounts(&mut host.files, options, others) {
+        Ok(accounts) => accounts,
+        Err(refusal) => return refuse(&mut host.errors, refusal),
+    };
     let mut ordered = OrderedInput { input, order };
-    answer_input(method, &mut ordered, host, options, others)
+    let mut watch = CommandWatcher {
+        name: method.chosen.name(),
+        accounts: &mut accounts,
+        lost: false,
+        progress: options.progress,
+        all: 0,
+        left: PATIENCE,
+        errors: &mut host.errors,
+        files: &host.files,
+    };
+    let batch = run_chosen(method, &mut ordered, &mut host.out, &mut watch);
+    usual_turns_are_enough();
+    let lost = watch.lost;
+    let kept = end_accounts(&mut accounts, lost);
+    let status = end_with(&mut host.errors, outcome_of(batch, kept));
+    show_times(host, options.times, status);
+    status
 }

@@ -1,13 +1,7 @@
 //! The commands, each as its arguments ask: it gives the exit status, and reports a fault in one
 //! line on the error output.
-ghost use Rattle.std.specs.Prelude.{Option};
-ghost use Rattle.std.specs.Option.{option_map};
-ghost use Rattle.batch_inputs.specs.InputFaults.{IsPairFile};
-ghost use Rattle.batch_inputs.specs.Inputs.{HasReadPair};
-ghost use Rattle.batch_inputs.specs.Orders.{HasReadOrdered, IsOrderedFile, IsRunFile};
-ghost use Rattle.batch_inputs.specs.Spelled.{IsPairOf};
-ghost use Rattle.program.specs.Commands.{Answers, DoesBundle, DoesCheck, DoesServe, DoesSolve, taken_solved};
-ghost use Rattle.program.specs.Runs.{given_of};
+ghost use Rattle.std.specs.Prelude.{◌≡◌};
+ghost use Rattle.program.specs.Commands.{DoesBundle, DoesCheck, DoesServe, DoesSolve};
 ghost use Rattle.command_files.specs.Moments.{moment};
 ghost use Rattle.program.specs.Ordering.{DoesOrder};
 
@@ -24,29 +18,12 @@ use command_files::{
 use fault_reports::end_with;
 use std::sync::Wait;
 use std::thread::Threads;
-use text_lines::RoadRead;
 
-/// Answers the questions of one opened input over the graph of another, as `solve` does.
-fn solve_opened<R: Threads + Wait + Sync, F: RoadRead, S: Streams>(
-    method: &Method<'_, R>,
-    graph: &mut F,
-    questions: &mut F,
-    order: &mut Option<F>,
-    host: &mut Host<S>,
-    args: &SolveArgs<'_>,
-) -> u8
-    ensures { (graph_after : F) × (questions_after : F) × (order_after : Option F) ×
-        (let is_read = IsPairOf (F.seen graph.old).left (F.seen questions.old).left in
-        Answers S.Files.FileSystem (taken_solved args.now) args.now.watching (given_of
-        method.now.chosen method.now.settings.now is_read (IsOrderedFile IsPairFile)
-        (HasReadOrdered is_read IsPairFile IsRunFile (HasReadPair (F.seen graph.old)
-        (F.seen graph_after) (F.seen questions.old) (F.seen questions_after)) (option_map F.seen
-        order.old) (option_map F.seen order_after))) (moment S.Out.seen S.Errors.seen host.old)
-        (moment S.Out.seen S.Errors.seen host.new) result) }
+/// The graph of one input, and the questions of another over it.
+fn pair_of<'i, G, Q>(graph: &'i mut G, questions: &'i mut Q) -> PairInput<'i, G, Q>
+    ensures { result ≡ record { graph = graph.entry; questions = questions.entry } }
 {
-    let mut pair = PairInput { graph, questions };
-    let taken = [args.graph, args.questions, OUTPUT_NAME, ERRORS_NAME];
-    answer(method, &mut pair, order, host, &args.watching, &taken)
+    PairInput { graph, questions }
 }
 
 /// Answers the questions of one input over the graph of another. The inputs are opened in the order
@@ -80,7 +57,9 @@ pub fn solve<'t, R: AllocGlobal + Threads + Wait + Sync, S: Streams>(
         settings: &args.options.settings,
         chosen,
     };
-    solve_opened(&method, &mut graph, &mut questions, &mut order, host, args)
+    let mut pair = pair_of(&mut graph, &mut questions);
+    let taken = [args.graph, args.questions, OUTPUT_NAME, ERRORS_NAME];
+    answer(&method, &mut pair, &mut order, host, &args.watching, &taken)
 }
 
 /// Answers the bundle on standard input. An order, if one is named, is opened, and the file of

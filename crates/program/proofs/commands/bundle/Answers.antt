@@ -1,8 +1,8 @@
-use Rattle.program.proofs.Words.{◌≡◌, inl, inr, rules, subst, option_map, Result, is_some, IsRunFile, RunFault, opened_input, IsChosen}
+use Rattle.program.proofs.Words.{◌≡◌, inr, rules, subst, option_map, Result, is_some, IsRunFile, RunFault, opened_input, IsChosen}
 use Rattle.batch_inputs.specs.Inputs.{HasReadBundle}
 use Rattle.batch_inputs.specs.InputFaults.{IsBundleFile}
 use Rattle.batch_inputs.specs.Spelled.{IsBundleOf}
-use Rattle.program.proofs.Ended.{after_bundle, watched_as}
+use Rattle.program.proofs.Ended.{after_bundle, answers_as}
 use Rattle.program.proofs.commands.bundle.Goals as goal
 
 pub returns : goal.returns
@@ -23,10 +23,7 @@ returns g c =
         inputs = c.in-Ok-open_to_bundle.ensures.opened;
         text_after = text_after;
         order_after = order_after;
-        answers = elim c.answer.ensures.2 [
-          | inl refused ↦ inl refused
-          | inr it ↦ inr (watched_as _ _ _ _ _ _ _ _ _ _ _ _ it (after_bundle (IsBundleOf text.left) IsBundleFile IsRunFile order order_after _
-              (λ (o : Result (Unit {0}) RunFault). HasReadBundle text text_after o)))
-        ];
+        answers = answers_as _ _ _ _ _ _ _ _ _ _ _ _ c.answer.ensures.2 (after_bundle (IsBundleOf text.left) IsBundleFile IsRunFile order order_after _
+            (λ (o : Result (Unit {0}) RunFault). HasReadBundle text text_after o));
       }),
     )

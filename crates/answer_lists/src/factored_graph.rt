@@ -13,11 +13,10 @@ ghost use Rattle.answer_lists.specs.Table.{AreRowCodes};
 ghost use Rattle.answer_lists.specs.Tree.{HasLowCodes};
 
 use crate::codes::{code_for, push_code};
-use crate::stopping::is_stopped;
 use crate::table_rows::RowEnds;
 use factor_routes::{Pair, RoadFactors, RouteAsker, Unweighed};
+use halting::{Stop, is_stopped};
 use path_algebra::{Cost, Labels, PathAlgebra, laws_hold};
-use path_plain::Stop;
 use road_graph::{InGraph, Memory, OutGraph, Vertex};
 use route_tree::{Found, Tree};
 use std::alloc::{AllocError, Global};

@@ -2,7 +2,7 @@
 ghost use Rattle.std.specs.Prelude.{◌≡◌, All, IfOk, IfSome, IsTrue, None};
 ghost use Rattle.road_graph.specs.GraphData.{GraphData, HasVertex};
 ghost use Rattle.path_algebra.specs.Choices.{Under};
-ghost use Rattle.path_plain.specs.Halting.{CanHalt};
+ghost use Rattle.halting.specs.Halting.{CanHalt};
 ghost use Rattle.route_tree.specs.Found.{IsFoundIfNear};
 ghost use Rattle.route_tree.specs.declared.found.Nearby.TheVariants.{Undecided};
 ghost use Rattle.answer_lists.specs.Answers.{HasBoth};
@@ -11,10 +11,10 @@ ghost use Rattle.answer_lists.specs.Near.{HasReached};
 ghost use Rattle.answer_lists.specs.Tree.{HasLowCodes};
 
 use factor_routes::{Pair, find_near};
+use halting::{Halt, Stop};
 use path_algebra::{
     AlgebraChoice, Hops, PathAlgebra, Reach, Reliable, Shortest, Widest, Within, laws_hold,
 };
-use path_plain::{Halt, Stop};
 use road_graph::{InGraph, Memory, OutGraph, Vertex};
 use route_tree::{Nearby, PairSearcher, labels_and_trees_agree};
 use std::alloc::Global;

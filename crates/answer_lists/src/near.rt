@@ -4,7 +4,7 @@ ghost use Rattle.std.specs.Prelude.{◌≡◌, ◌∷◌, [], IsSome, pos};
 ghost use Rattle.std.specs.List.{All};
 ghost use Rattle.road_graph.specs.GraphData.{HasVertex};
 ghost use Rattle.path_algebra.specs.Choices.{OfAlgebra, Under};
-ghost use Rattle.path_plain.specs.Halting.{CanHalt};
+ghost use Rattle.halting.specs.Halting.{CanHalt};
 ghost use Rattle.answer_lists.specs.Answers.{IsFound, IsOneOf, ReportsRefusals};
 ghost use Rattle.answer_lists.specs.Kept.{AreSearchersOf, IsKeptOver, algebra_of};
 ghost use Rattle.answer_lists.specs.Near.{HaveNear, IsReachedCount, IsWrittenNear};
@@ -16,8 +16,8 @@ use crate::near_lists::{NearLists, write_lists};
 use crate::shared_graph::SharedGraph;
 use crate::sources::{are_vertices, vertices_of};
 use crate::status::{MEMORY, NO_ALGEBRA, NO_VERTEX, STOPPED};
+use halting::{Halt, Stop};
 use path_algebra::{AlgebraChoice, PathAlgebra};
-use path_plain::{Halt, Stop};
 use road_graph::{Memory, OutGraph, Vertex};
 
 /// Searches, counts what is reached, and writes it if there is room, unless the search gives up.

@@ -12,8 +12,8 @@ use crate::kept::Until;
 use crate::shared_graph::SharedGraph;
 use crate::status::{DONE, MEMORY, NO_ALGEBRA, NO_ROOM, NO_ROUTE, NO_VERTEX, STOPPED};
 use factor_routes::Pair;
+use halting::Stop;
 use path_algebra::{AlgebraChoice, PathAlgebra, with_algebra};
-use path_plain::Stop;
 use road_graph::{InGraph, Memory, Vertex};
 use route_tree::{Found, Nearby};
 

@@ -13,8 +13,8 @@ use crate::shared_graph::SharedGraph;
 use crate::status::{DONE, NO_ALGEBRA, NO_ROOM, NO_VERTEX};
 use arc_numbers::ArcNumbers;
 use factor_routes::Pair;
+use halting::Stop;
 use path_algebra::{AlgebraChoice, with_algebra};
-use path_plain::Stop;
 use road_graph::OutGraph;
 
 /// Writes the numbers of the arcs of a route that was found by the chosen algebra.

@@ -10,8 +10,8 @@ use crate::shared_graph::SharedGraph;
 use crate::sources::are_vertices;
 use crate::status::{DONE, MEMORY, NO_ALGEBRA, NO_ROOM, NO_VERTEX, STOPPED};
 use crate::table_rows::{RowEnds, row};
+use halting::Stop;
 use path_algebra::{AlgebraChoice, PathAlgebra, with_algebra};
-use path_plain::Stop;
 use road_graph::{Memory, Vertex};
 
 /// The sources and the targets of a table, as a caller lends them.

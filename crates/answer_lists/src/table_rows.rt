@@ -9,9 +9,9 @@ ghost use Rattle.answer_lists.specs.Tree.{HasLowCodes};
 
 use crate::codes::{code_for, push_code};
 use crate::shared_graph::SharedGraph;
-use crate::stopping::is_stopped;
+use halting::{Halt, Stop, is_stopped};
 use path_algebra::{PathAlgebra, laws_hold};
-use path_plain::{Halt, Searcher, Stop};
+use path_plain::Searcher;
 use road_graph::{Memory, OutGraph, Vertex};
 
 /// The source of a row, and the targets of its table.

@@ -9,7 +9,7 @@ pub use Rattle.diffuse_c.specs.Lent.{Fits, arc_from, lent}
 pub use Rattle.diffuse_c.specs.Reweighing.{IsReweighFault}
 pub use Rattle.diffuse_c.specs.declared.arcs.DiffuseArc.{DiffuseArc}
 pub use Rattle.diffuse_c.specs.declared.owners.Owner.{Owner}
-pub use Rattle.path_plain.specs.declared.halt.Stop.{Stop}
+pub use Rattle.halting.specs.declared.stop.Stop.{Stop}
 pub use Rattle.road_graph.specs.GraphData.{GraphData, HasVertex, IsGraph}
 pub use Rattle.road_graph.specs.declared.RoadArc.{RoadArc}
 pub use Rattle.std.proofs.BoxSteps.Steps.{box_in, box_out}

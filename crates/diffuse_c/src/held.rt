@@ -1,6 +1,6 @@
 //! A graph that C keeps as a pointer.
 ghost use Rattle.std.specs.Prelude.{◌≡◌, Option, Some, None, true};
-ghost use Rattle.path_plain.specs.declared.halt.Stop.{Stop};
+ghost use Rattle.halting.specs.declared.stop.Stop.{Stop};
 ghost use Rattle.arc_numbers.specs.Numbering.{Numbering};
 ghost use Rattle.answer_lists.specs.Sharing.{Shared};
 ghost use Rattle.diffuse_c.specs.Holding.{has_graph};

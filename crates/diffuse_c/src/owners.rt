@@ -2,8 +2,9 @@
 ghost use Rattle.std.specs.Prelude.{◌≡◌, ◌↔◌, IfOk, IsSome, None};
 ghost use Rattle.answer_lists.specs.Sharing.{unfactored};
 
-use answer_lists::{SharedGraph, Stop};
+use answer_lists::SharedGraph;
 use arc_numbers::ArcNumbers;
+use halting::Stop;
 use road_graph::{Memory, OutGraph};
 use std::alloc::{AllocError, Global};
 

@@ -8,7 +8,8 @@ use crate::handle::{DiffuseGraph, put, take};
 use crate::opening::owner_of;
 use crate::owners::stop_again;
 use crate::status::{CLOSED, OPEN};
-use answer_lists::{DONE, MEMORY, Stop};
+use answer_lists::{DONE, MEMORY};
+use halting::Stop;
 use std::alloc::{AllocError, Global};
 
 /// A stop that C keeps. It is the handle of a graph without vertices, and only its stop is used: so

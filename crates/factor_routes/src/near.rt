@@ -2,12 +2,12 @@
 ghost use Rattle.std.specs.Prelude.{◌≡◌, ◌/◌, min, max};
 ghost use Rattle.road_graph.specs.GraphData.{HasVertex};
 ghost use Rattle.path_plain.specs.Searcher.{IsOfSameGraph};
-ghost use Rattle.path_plain.specs.declared.halt.Halt.TheVariants.{After};
+ghost use Rattle.halting.specs.declared.halt.Halt.TheVariants.{After};
 ghost use Rattle.route_tree.specs.Found.{IsFoundIfNear};
 
 use crate::pairs::Pair;
+use halting::Halt;
 use path_algebra::PathAlgebra;
-use path_plain::Halt;
 use road_graph::{InGraph, Memory, OutGraph};
 use route_tree::{Nearby, PairSearcher};
 

@@ -10,8 +10,9 @@ ghost use Rattle.factor_routes.specs.Numbers.{numbers_of};
 
 use crate::findings::{Finding, Findings};
 use crate::road_factors::RoadFactors;
+use halting::{Halt, Stop};
 use path_algebra::{Labels, PathAlgebra};
-use path_plain::{Halt, Stop, best_values_exist};
+use path_plain::best_values_exist;
 use road_graph::{InGraph, Memory, Vertex};
 use route_tree::{NumberSlot, Tree, trees_exist};
 use std::alloc::Global;

@@ -19,7 +19,7 @@ pub use Rattle.path_factors.specs.Tree.{AreAtHeads, AreParentsTo, IsAncestor, Is
 pub use Rattle.path_factors.specs.declared.chains.Item.{Item}
 pub use Rattle.path_factors.specs.declared.edge.Edge.{Edge}
 pub use Rattle.path_factors.specs.declared.link.Link.{Link}
-pub use Rattle.path_plain.specs.Halting.{CanHalt}
+pub use Rattle.halting.specs.Halting.{CanHalt}
 pub use Rattle.road_graph.proofs.Lists.{head_or_tail, here, later, not_in_empty}
 pub use Rattle.road_graph.specs.GraphData.{GraphData, HasArc, HasVertex, IsGraph, ListsRoadsFrom, arc_of, road_of}
 pub use Rattle.road_graph.specs.declared.OutRoad.{OutRoad}

@@ -7,8 +7,8 @@ ghost use Rattle.path_factors.specs.Substituting.{at, offered_from, best_along, 
 
 use crate::factors::Factors;
 use crate::label_slot::{CompactAlgebra, LabelSlot, label_at, no_labels, offer};
+use halting::{Halt, Stop};
 use path_algebra::Labels;
-use path_plain::{Halt, Stop};
 use road_graph::{Memory, Vertex};
 use std::alloc::{AllocError, Global};
 

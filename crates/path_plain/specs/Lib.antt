@@ -3,7 +3,6 @@ pub mod Queue
 pub mod Searching
 pub mod Ties
 pub mod UpTo
-pub mod Halting
 pub mod Noting
 pub mod Rounds
 pub mod Searcher

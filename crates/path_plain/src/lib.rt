@@ -4,14 +4,12 @@
 //! The running engine is measured against it, and the checker finds best values by it.
 #![tactic(auto)]
 
-mod halt;
 mod laws;
 mod search;
 mod searcher;
 mod solve;
 mod touched;
 
-pub use halt::{Halt, Stop};
 pub use laws::{best_values_exist, labels_serve_nearer_targets};
 pub use searcher::Searcher;
 pub use solve::{solve_one, solve_outgoing, solve_to};

@@ -3,14 +3,14 @@
 ghost use Rattle.std.specs.Prelude.{◌≡◌, ◌+◌, ◌≤◌, [], All, OnOk, IfOk, IfSome, IsTrue, MatchOption, false, is_some, length, true};
 ghost use Rattle.road_graph.specs.GraphData.{HasVertex};
 ghost use Rattle.path_algebra.specs.Walks.{offered, offered_if};
-ghost use Rattle.path_plain.specs.Halting.{CanHalt};
+ghost use Rattle.halting.specs.Halting.{CanHalt};
 ghost use Rattle.path_plain.specs.Noting.{noted_list};
 ghost use Rattle.path_plain.specs.Rounds.{Between, Runs, RunsSome, Steps};
 ghost use Rattle.path_plain.specs.Searching.{IsBlank, IsOfSame, IsSameSearch, Relaxes, Advances};
 ghost use Rattle.path_plain.specs.UpTo.{IsPast};
 
-use crate::halt::Halt;
 use crate::touched::{Touched, put_back};
+use halting::Halt;
 use path_algebra::{Labels, PathAlgebra, laws_hold};
 use ranked_queue::RankedQueue;
 use road_graph::{Memory, OutGraph, Vertex};

@@ -2,15 +2,15 @@
 
 ghost use Rattle.std.specs.Prelude.{◌≡◌, ◌↔◌, ◌∷◌, [], IfOk, IsTrue, None, OnOk, Some, false};
 ghost use Rattle.road_graph.specs.GraphData.{HasVertex};
-ghost use Rattle.path_plain.specs.Halting.{CanHalt};
+ghost use Rattle.halting.specs.Halting.{CanHalt};
 ghost use Rattle.path_plain.specs.Rounds.{Between};
 ghost use Rattle.path_plain.specs.Searcher.{IsSearcher};
 ghost use Rattle.path_plain.specs.Searching.{IsOfSame};
 ghost use Rattle.path_plain.specs.UpTo.{AreBestUpTo};
 
-use crate::halt::Halt;
 use crate::search::Search;
 use crate::touched::Touched;
+use halting::Halt;
 use path_algebra::{Labels, PathAlgebra};
 use road_graph::{Memory, OutGraph, Vertex};
 use std::alloc::Global;

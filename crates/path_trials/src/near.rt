@@ -1,8 +1,8 @@
 //! Pairs of five vertices by searches that may give up, worked out by hand.
 use crate::graphs::graph_of;
 use crate::samples::{FIVE, arc, is_found};
+use halting::{Halt, Stop};
 use path_algebra::Shortest;
-use path_plain::{Halt, Stop};
 use road_graph::{InGraph, OutGraph, Vertex};
 use route_tree::{Found, Nearby, PairSearcher};
 use std::process::Abort;

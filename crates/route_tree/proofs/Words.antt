@@ -2,7 +2,7 @@
 pub use Rattle.path_algebra.proofs.Walks.{all_inside}
 pub use Rattle.path_algebra.specs.Algebra.{Algebra, IsLawful}
 pub use Rattle.path_algebra.specs.Walks.{AreBest, AreHops, IsUnreached, IsWalk, is_marked, is_tight, is_tight_between, label_of}
-pub use Rattle.path_plain.specs.Halting.{CanHalt}
+pub use Rattle.halting.specs.Halting.{CanHalt}
 pub use Rattle.road_graph.proofs.Lists.{head_or_tail, here, later, not_in_empty, same_some}
 pub use Rattle.road_graph.specs.GraphData.{GraphData, HasArc, HasVertex, IsGraph, ListsArcsFrom, arc_of, reversed_arc, road_of, roads_of}
 pub use Rattle.road_graph.specs.declared.OutRoad.{OutRoad}

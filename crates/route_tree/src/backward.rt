@@ -4,18 +4,17 @@
 ghost use Rattle.std.specs.Prelude.{◌≡◌, ◌+◌, ◌-◌, ◌≤◌, ◌<◌, [], ◌∷◌, ◌++◌, All, Contains, IfErr, IfOk, OnOk, cond, eqb, false, length, replicate, slice_set, true};
 ghost use Rattle.road_graph.specs.GraphData.{HasVertex};
 ghost use Rattle.path_algebra.specs.Walks.{is_marked, is_tight};
-ghost use Rattle.path_plain.specs.Halting.{CanHalt};
+ghost use Rattle.halting.specs.Halting.{CanHalt};
 ghost use Rattle.route_tree.specs.Blank.{AreFound};
 ghost use Rattle.route_tree.specs.Regions.{Covers, LeadTo, unmarked};
 ghost use Rattle.route_tree.specs.Backward.{VisitsBack, VisitsAllBack, VisitsLevelBack, finds_tail};
-ghost use Rattle.route_tree.specs.declared.unfinished.Unfinished.TheVariants.{Halted};
+ghost use Rattle.halting.specs.declared.unfinished.Unfinished.TheVariants.{Halted};
 
 use crate::entering::Entering;
 use crate::routes::push;
 use crate::tightness::is_tight;
-use crate::unfinished::Unfinished;
+use halting::{Halt, Unfinished};
 use path_algebra::{Labels, PathAlgebra};
-use path_plain::Halt;
 use road_graph::{Memory, OutRoad, Vertex};
 use std::alloc::Global;
 use std::marker::Model;

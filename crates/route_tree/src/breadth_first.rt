@@ -4,18 +4,17 @@
 ghost use Rattle.std.specs.Prelude.{◌≡◌, ◌+◌, ◌≤◌, ◌<◌, All, IfErr, IfOk, None, OnOk, cond, eqb, length, replicate};
 ghost use Rattle.road_graph.specs.GraphData.{HasVertex};
 ghost use Rattle.path_algebra.specs.Walks.{label_of};
-ghost use Rattle.path_plain.specs.Halting.{CanHalt};
+ghost use Rattle.halting.specs.Halting.{CanHalt};
 ghost use Rattle.route_tree.specs.Levels.{IsMarked, hops_if, is_near, lesser, next_if, parents_if, unreached};
 ghost use Rattle.route_tree.specs.BreadthFirst.{IsSameSearch, VisitsVertex, VisitsAll, VisitsLevel, passes_road};
-ghost use Rattle.route_tree.specs.declared.unfinished.Unfinished.TheVariants.{Halted};
+ghost use Rattle.halting.specs.declared.unfinished.Unfinished.TheVariants.{Halted};
 
 use crate::hops_and_parents::Tree;
 use crate::region::Region;
 use crate::slot::NumberSlot;
 use crate::tightness::is_tight;
-use crate::unfinished::Unfinished;
+use halting::{Halt, Unfinished};
 use path_algebra::{Labels, PathAlgebra};
-use path_plain::Halt;
 use road_graph::{Memory, OutGraph, OutRoad, Vertex};
 use std::alloc::{AllocError, Global};
 use std::marker::Model;

@@ -22,7 +22,6 @@ mod routes;
 mod slot;
 mod tight_tree;
 mod tightness;
-mod unfinished;
 
 pub use entering::Entering;
 pub use found::{Found, Nearby};

@@ -2,7 +2,7 @@
 
 ghost use Rattle.std.specs.Prelude.{◌≡◌, ◌↔◌, ◌∷◌, [], IfOk, IsTrue, None, OnOk, Some};
 ghost use Rattle.road_graph.specs.GraphData.{HasVertex};
-ghost use Rattle.path_plain.specs.Halting.{CanHalt};
+ghost use Rattle.halting.specs.Halting.{CanHalt};
 ghost use Rattle.path_plain.specs.Searcher.{IsOfSameGraph};
 ghost use Rattle.path_plain.specs.UpTo.{AreBestUpTo};
 ghost use Rattle.route_tree.specs.Found.{IsFoundIfNear, IsPairFound};
@@ -10,8 +10,9 @@ ghost use Rattle.route_tree.specs.declared.found.Nearby.TheVariants.{Undecided};
 
 use crate::found::{Found, Nearby};
 use crate::route_finder::RouteFinder;
+use halting::Halt;
 use path_algebra::PathAlgebra;
-use path_plain::{Halt, Searcher};
+use path_plain::Searcher;
 use road_graph::{InGraph, Memory, OutGraph, Vertex};
 use std::alloc::Global;
 use std::marker::Model;

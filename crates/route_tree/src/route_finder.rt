@@ -3,10 +3,10 @@
 ghost use Rattle.std.specs.Prelude.{◌≡◌, ◌∷◌, [], IfErr, IfOk};
 ghost use Rattle.road_graph.specs.GraphData.{HasVertex};
 ghost use Rattle.path_plain.specs.UpTo.{AreBestUpTo};
-ghost use Rattle.path_plain.specs.Halting.{CanHalt};
+ghost use Rattle.halting.specs.Halting.{CanHalt};
 ghost use Rattle.route_tree.specs.Found.{IsFoundIfNear, IsPairFound};
 ghost use Rattle.route_tree.specs.declared.found.Nearby.TheVariants.{Undecided};
-ghost use Rattle.route_tree.specs.declared.unfinished.Unfinished.TheVariants.{Halted};
+ghost use Rattle.halting.specs.declared.unfinished.Unfinished.TheVariants.{Halted};
 
 use crate::backward::marks_back;
 use crate::entering::Entering;
@@ -15,9 +15,9 @@ use crate::lists::Lists;
 use crate::region::Region;
 use crate::routes::found_in;
 use crate::tight_tree::tree_into;
-use crate::unfinished::Unfinished;
+use halting::{Halt, Unfinished};
 use path_algebra::{Labels, PathAlgebra, laws_hold};
-use path_plain::{Halt, best_values_exist};
+use path_plain::best_values_exist;
 use road_graph::{Memory, OutGraph, Vertex};
 use std::alloc::Global;
 use std::marker::Model;

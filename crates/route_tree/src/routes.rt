@@ -9,8 +9,8 @@ ghost use Rattle.route_tree.specs.Tree.{IsRoute, hops_of};
 use crate::found::{Found, Nearby};
 use crate::hops_and_parents::Tree;
 use crate::route_finder::RouteFinder;
+use halting::Halt;
 use path_algebra::{Labels, PathAlgebra, laws_hold};
-use path_plain::Halt;
 use road_graph::{Graph, Memory, Vertex};
 use std::alloc::{AllocError, Global};
 

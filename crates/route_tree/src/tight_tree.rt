@@ -3,18 +3,17 @@
 ghost use Rattle.std.specs.Prelude.{◌≡◌, All, IfErr, IfOk, None, length, replicate};
 ghost use Rattle.road_graph.specs.GraphData.{HasVertex};
 ghost use Rattle.path_algebra.specs.Walks.{AreBest};
-ghost use Rattle.path_plain.specs.Halting.{CanHalt};
+ghost use Rattle.halting.specs.Halting.{CanHalt};
 ghost use Rattle.route_tree.specs.Levels.{AreLeast, AreLeastTails};
 ghost use Rattle.route_tree.specs.Regions.{is_tight_into};
 ghost use Rattle.route_tree.specs.Tree.{IsTree};
-ghost use Rattle.route_tree.specs.declared.unfinished.Unfinished.TheVariants.{Halted};
+ghost use Rattle.halting.specs.declared.unfinished.Unfinished.TheVariants.{Halted};
 
 use crate::breadth_first::BreadthFirst;
 use crate::hops_and_parents::Tree;
 use crate::region::Region;
-use crate::unfinished::Unfinished;
+use halting::{Halt, Unfinished};
 use path_algebra::{Labels, PathAlgebra, laws_hold};
-use path_plain::Halt;
 use road_graph::{Graph, Memory, OutGraph, Vertex};
 use std::alloc::Global;
 

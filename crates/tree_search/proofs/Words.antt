@@ -5,7 +5,7 @@ pub use Rattle.path_algebra.specs.Algebra.{Algebra, IsLawful, IsOrder}
 pub use Rattle.path_algebra.specs.Open.{AnswersBestOpen, IsBestOpen}
 pub use Rattle.path_algebra.specs.Walks.{AreBest, label_of}
 pub use Rattle.path_plain.proofs.Known.{IsSettled, none_settled}
-pub use Rattle.path_plain.specs.Halting.{CanHalt}
+pub use Rattle.halting.specs.Halting.{CanHalt}
 pub use Rattle.path_plain.specs.Noting.{AreNoted}
 pub use Rattle.ranked_queue.specs.Order.{by_number, by_number_order, ranked_cmp, tells, told}
 pub use Rattle.road_graph.proofs.Lists.{not_in_empty, same_some}

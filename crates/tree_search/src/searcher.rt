@@ -4,7 +4,7 @@
 ghost use Rattle.std.specs.Prelude.{◌≡◌, [], All, false, IfOk, IsTrue, OnOk};
 ghost use Rattle.road_graph.specs.GraphData.{HasVertex};
 ghost use Rattle.path_algebra.specs.Walks.{AreBest, label_of};
-ghost use Rattle.path_plain.specs.Halting.{CanHalt};
+ghost use Rattle.halting.specs.Halting.{CanHalt};
 ghost use Rattle.path_plain.specs.Noting.{AreNoted};
 ghost use Rattle.route_tree.specs.Tree.{IsTree, hops_of, parent_of};
 ghost use Rattle.tree_search.specs.Marks.{hops_in, parents_in, values_in};
@@ -13,8 +13,8 @@ ghost use Rattle.tree_search.specs.Searching.{AreSettledOn, IsBlank, listed_afte
 
 use crate::search::Search;
 use crate::step::Step;
+use halting::Halt;
 use path_algebra::{PathAlgebra, laws_hold};
-use path_plain::Halt;
 use road_graph::{Memory, OutGraph, Vertex};
 use std::alloc::{AllocError, Global};
 use std::marker::Model;

@@ -3,12 +3,13 @@
 ghost use Rattle.std.specs.Prelude.{◌≡◌, All, IfOk, IfSome, None};
 ghost use Rattle.road_graph.specs.GraphData.{HasVertex};
 ghost use Rattle.path_algebra.specs.Walks.{AreBest};
-ghost use Rattle.path_plain.specs.Halting.{CanHalt};
+ghost use Rattle.halting.specs.Halting.{CanHalt};
 ghost use Rattle.route_tree.specs.Tree.{IsTree};
 
 use crate::search::Search;
+use halting::Halt;
 use path_algebra::{Labels, PathAlgebra, laws_hold};
-use path_plain::{Halt, solve_outgoing};
+use path_plain::solve_outgoing;
 use road_graph::{Memory, OutGraph, Vertex};
 use route_tree::{Tree, tree_outgoing};
 use std::alloc::Global;

@@ -1,5 +1,5 @@
 use Rattle.factor_routes.proofs.Words.{IsSome, AreBest, numbers_of}
-use Rattle.path_plain.specs.Halting.{CanHalt}
+use Rattle.halting.specs.Halting.{CanHalt}
 use Rattle.factor_routes.proofs.Telling.{AreTold}
 use Rattle.factor_routes.proofs.road_factors.RoadFactors.solve_with_tree_unless.Given as goal
 

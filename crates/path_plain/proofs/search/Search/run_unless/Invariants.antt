@@ -1,5 +1,5 @@
 use Rattle.path_plain.proofs.Words.{◌≡◌, ◌+◌, ◌*◌, length, Some, IsOfSame, StaysBetween}
-use Rattle.path_plain.specs.Halting.{CanHalt}
+use Rattle.halting.specs.Halting.{CanHalt}
 use Rattle.path_plain.proofs.Rounds.{unsettled}
 use Rattle.path_plain.proofs.search.Search.run_unless.Given as goal
 

@@ -1,7 +1,7 @@
 -- Which searches may give up.
 use Rattle.std.specs.Prelude.{⊤}
-use Rattle.path_plain.specs.declared.halt.Halt.{Halt}
-use Rattle.path_plain.specs.declared.halt.Halt.TheVariants.{Never, After, Stopped}
+use Rattle.halting.specs.declared.halt.Halt.{Halt}
+use Rattle.halting.specs.declared.halt.Halt.TheVariants.{Never, After, Stopped}
 
 -- a search with it may give up before it has found its answer
 abbrev pub CanHalt : Halt → Type 0

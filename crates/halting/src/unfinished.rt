@@ -1,11 +1,11 @@
-//! Why a pass over tight arcs has not ended.
+//! Why a call has not ended.
 ghost use Rattle.std.specs.Prelude.{◌≡◌};
 
 use road_graph::Memory;
 
-/// Why a pass over tight arcs has not ended.
+/// Why a call has not ended.
 #[derive(Drop)]
-pub(crate) enum Unfinished {
+pub enum Unfinished {
     /// Out of memory.
     Memory,
     /// It was told to give up.
@@ -13,7 +13,7 @@ pub(crate) enum Unfinished {
 }
 
 impl From<Memory> for Unfinished {
-    ghost use Rattle.route_tree.specs.declared.unfinished.Unfinished.TheVariants.{Memory};
+    ghost use Rattle.halting.specs.declared.unfinished.Unfinished.TheVariants.{Memory};
 
     ghost from_gives = { λ _ e. e ≡ Memory };
 

@@ -6,5 +6,5 @@ mod stop;
 mod unfinished;
 
 pub use halt::Halt;
-pub use stop::{Stop, is_stopped};
+pub use stop::{Stop, is_stopped, look_at};
 pub use unfinished::Unfinished;

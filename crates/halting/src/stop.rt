@@ -1,6 +1,8 @@
 //! What a caller may set to end a call before it has its answer.
-ghost use Rattle.std.specs.Prelude.{IsSome, IsTrue};
+ghost use Rattle.std.specs.Prelude.{◌≡◌, IfErr, IsSome, IsTrue};
+ghost use Rattle.halting.specs.declared.unfinished.Unfinished.TheVariants.{Halted};
 
+use crate::unfinished::Unfinished;
 use std::alloc::{AllocError, Global};
 use std::sync::Arc;
 use std::sync::atomic::{AtomicBool, Ordering};
@@ -43,4 +45,14 @@ pub fn is_stopped(stop: &Option<Stop>) -> bool
         Some(stop) => stop.is_set(),
         None => false,
     }
+}
+
+/// Halted, if there is a stop and it is set.
+pub fn look_at(stop: &Option<Stop>) -> Result<(), Unfinished>
+    ensures halts { IfErr result (λ e. e ≡ Halted → IsSome stop.now) }
+{
+    if is_stopped(stop) {
+        return Err(Unfinished::Halted);
+    }
+    Ok(())
 }

@@ -1,9 +1,12 @@
 //! The augmenting paths of a flow: each adds a unit, and may turn others aside.
+ghost use Rattle.std.specs.Prelude.{◌≡◌, IfErr, IsSome};
+ghost use Rattle.halting.specs.declared.unfinished.Unfinished.TheVariants.{Halted};
 
 use crate::carrier::{CLOSED, Gate, OUTSIDE};
 use crate::flow::Flow;
 use crate::lists::NONE;
 use crate::neighbours::Neighbours;
+use halting::{Stop, Unfinished, look_at};
 use road_graph::Memory;
 use std::alloc::AllocError;
 
@@ -104,10 +107,18 @@ impl Flow {
     }
 
     /// Adds a unit that begins at a vertex, if there is a way for it.
-    pub(crate) fn add_unit(&mut self, rows: &Neighbours, v: u32) -> Result<bool, Memory> {
+    pub(crate) fn add_unit(
+        &mut self,
+        rows: &Neighbours,
+        v: u32,
+        stop: &Option<Stop>,
+    ) -> Result<bool, Unfinished>
+        ensures halts { IfErr result (λ e. e ≡ Halted → IsSome stop.now) }
+    {
         self.path.clear();
         self.path.push(Gate::Entry(v)).map_err(AllocError::from)?;
         for _ in 0..self.open.len().saturating_mul(8) {
+            look_at(stop)?;
             let Some(gate) = self.path.last() else {
                 return Ok(false);
             };

@@ -1,4 +1,6 @@
 //! Vertex cuts: few vertices that part a piece.
+ghost use Rattle.std.specs.Prelude.{◌≡◌, IfErr, IsSome};
+ghost use Rattle.halting.specs.declared.unfinished.Unfinished.TheVariants.{Halted};
 
 use crate::carrier::Way;
 use crate::flow::Flow;
@@ -6,6 +8,7 @@ use crate::lists::NONE;
 use crate::neighbours::Neighbours;
 use crate::plane::{Direction, Plane};
 use crate::ranking::ranks;
+use halting::{Stop, Unfinished};
 use road_graph::Memory;
 use std::alloc::{AllocError, Global};
 
@@ -55,9 +58,16 @@ impl Flow {
 
     /// The cut by a full flow: the one nearest the last end, or that nearest the first, if it
     /// leaves more to its lesser side.
-    fn cut(&mut self, alloc: Global, rows: &Neighbours) -> Result<Vec<u32>, Memory> {
+    fn cut(
+        &mut self,
+        alloc: Global,
+        rows: &Neighbours,
+        stop: &Option<Stop>,
+    ) -> Result<Vec<u32>, Unfinished>
+        ensures halts { IfErr result (λ e. e ≡ Halted → IsSome stop.now) }
+    {
         let last = self.limits(alloc, Way::Back)?;
-        self.search(rows, Way::On)?;
+        self.search(rows, Way::On, stop)?;
         let first = self.limits(alloc, Way::On)?;
         // The ends have the same size, so the one with the lesser rim has more inside.
         let beyond_last = last.beyond.saturating_add(self.firsts.len());
@@ -69,17 +79,18 @@ impl Flow {
         }
     }
 
-    /// The least cut between the ends of a connected graph, with so many of a hundred vertices in
-    /// each, of four directions; none if each is too wide or given up. Once so many gates were
-    /// reached, no further direction is tried.
+    /// The least cut between the ends of a connected graph, of four directions; none if each is too
+    /// wide or given up. Once so many gates were reached, no further direction is tried.
     pub(crate) fn least_cut(
         &mut self,
         alloc: Global,
         rows: &Neighbours,
-        percent: u32,
         enough: u64,
-    ) -> Result<Vec<u32>, Memory> {
-        let plane = Plane::of(alloc, rows)?;
+        stop: &Option<Stop>,
+    ) -> Result<Vec<u32>, Unfinished>
+        ensures halts { IfErr result (λ e. e ≡ Halted → IsSome stop.now) }
+    {
+        let plane = Plane::of(alloc, rows, stop)?;
         let mut least = Vec::new(alloc);
         let mut bound = too_wide(rows.vertices());
         for direction in &DIRECTIONS {
@@ -88,9 +99,9 @@ impl Flow {
             }
             let keys = plane.along(alloc, *direction)?;
             let ranks = ranks(alloc, &keys)?;
-            self.begin(rows, &ranks, percent)?;
-            if self.run(rows, bound)? {
-                least = self.cut(alloc, rows)?;
+            self.begin(rows, &ranks, stop)?;
+            if self.run(rows, bound, stop)? {
+                least = self.cut(alloc, rows, stop)?;
                 bound = self.value;
             }
         }

@@ -1,7 +1,10 @@
 //! Distances: how many steps it takes to each vertex, breadth first.
+ghost use Rattle.std.specs.Prelude.{◌≡◌, IfErr, IsSome};
+ghost use Rattle.halting.specs.declared.unfinished.Unfinished.TheVariants.{Halted};
 
 use crate::lists::{NONE, Span, at, put};
 use crate::neighbours::Neighbours;
+use halting::{Stop, Unfinished, look_at};
 use road_graph::Memory;
 use std::alloc::{AllocError, Global};
 
@@ -68,7 +71,14 @@ impl Distances {
 
     /// Reaches what can be reached from a vertex, unless it was reached before. Says where that is
     /// listed.
-    pub(crate) fn search(&mut self, rows: &Neighbours, from: u32) -> Result<Span, Memory> {
+    pub(crate) fn search(
+        &mut self,
+        rows: &Neighbours,
+        from: u32,
+        stop: &Option<Stop>,
+    ) -> Result<Span, Unfinished>
+        ensures halts { IfErr result (λ e. e ≡ Halted → IsSome stop.now) }
+    {
         let start = self.reached.len();
         self.reach(from, 0)?;
         for k in start..self.steps.len() {
@@ -76,6 +86,7 @@ impl Distances {
                 break;
             };
             let v = *v;
+            look_at(stop)?;
             self.reach_neighbours(rows, v)?;
         }
         Ok(Span {
@@ -85,9 +96,16 @@ impl Distances {
     }
 
     /// The distances from one vertex.
-    pub(crate) fn from(alloc: Global, rows: &Neighbours, v: u32) -> Result<Self, Memory> {
+    pub(crate) fn from(
+        alloc: Global,
+        rows: &Neighbours,
+        v: u32,
+        stop: &Option<Stop>,
+    ) -> Result<Self, Unfinished>
+        ensures halts { IfErr result (λ e. e ≡ Halted → IsSome stop.now) }
+    {
         let mut distances = Distances::new(alloc, rows.ends.len())?;
-        distances.search(rows, v)?;
+        distances.search(rows, v, stop)?;
         Ok(distances)
     }
 }

@@ -1,4 +1,6 @@
 //! The elimination: one vertex after the other becomes an element.
+ghost use Rattle.std.specs.Prelude.{◌≡◌, IfErr, IsSome};
+ghost use Rattle.halting.specs.declared.unfinished.Unfinished.TheVariants.{Halted};
 
 use crate::assembly_tree::TreeNode;
 use crate::counts::{Counts, half_of_work, is_too_dense};
@@ -9,6 +11,7 @@ use crate::lists::stored;
 use crate::neighbours::Neighbours;
 use crate::pivot::Pivot;
 use crate::quotient_graph::QuotientGraph;
+use halting::{Stop, Unfinished, look_at};
 use road_graph::{Memory, OutGraph};
 use std::alloc::{AllocError, Global};
 
@@ -32,10 +35,17 @@ pub(crate) struct Elimination {
 
 impl Elimination {
     /// Nothing is eliminated yet.
-    pub(crate) fn open(alloc: Global, graph: &OutGraph, turn: Turn) -> Result<Self, Memory> {
-        let neighbours = Neighbours::of(alloc, graph)?;
+    pub(crate) fn open(
+        alloc: Global,
+        graph: &OutGraph,
+        turn: Turn,
+        stop: &Option<Stop>,
+    ) -> Result<Self, Unfinished>
+        ensures halts { IfErr result (λ e. e ≡ Halted → IsSome stop.now) }
+    {
+        let neighbours = Neighbours::of(alloc, graph, stop)?;
         let arcs = stored(graph.arcs());
-        let graph = QuotientGraph::open(alloc, neighbours)?;
+        let graph = QuotientGraph::open(alloc, neighbours, stop)?;
         let n = graph.vertices();
         let mut degrees = DegreeLists::new(alloc, n as usize, turn)?;
         let mut left = 0u32;
@@ -140,8 +150,11 @@ impl Elimination {
 
     /// Eliminates each vertex of the present level that comes to a degree up to the most, unless
     /// the graph is too dense.
-    pub(crate) fn run(&mut self, most: u32) -> Result<(), Memory> {
+    pub(crate) fn run(&mut self, most: u32, stop: &Option<Stop>) -> Result<(), Unfinished>
+        ensures halts { IfErr result (λ e. e ≡ Halted → IsSome stop.now) }
+    {
         for _ in 0..self.left {
+            look_at(stop)?;
             if self.left == 0 || self.is_too_dense() {
                 return Ok(());
             }

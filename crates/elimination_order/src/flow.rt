@@ -1,9 +1,12 @@
 //! A flow of as many units as there can be, from the first end of a piece to the last, with one in
 //! each vertex at most (Dinic, Soviet Math. Dokl. 11, 1970).
+ghost use Rattle.std.specs.Prelude.{◌≡◌, IfErr, IsSome};
+ghost use Rattle.halting.specs.declared.unfinished.Unfinished.TheVariants.{Halted};
 
 use crate::carrier::{CLOSED, Carrier, End, Gate, Way};
 use crate::lists::{NONE, at, stored};
 use crate::neighbours::Neighbours;
+use halting::{Stop, Unfinished, look_at};
 use road_graph::Memory;
 use std::alloc::{AllocError, Global};
 
@@ -27,7 +30,9 @@ pub(crate) struct Flow {
     pub(crate) value: u32,
     /// How many gates all searches have reached.
     pub(crate) work: u64,
-    /// Once there are so many, flows are given up.
+    /// So many of a hundred vertices are in each end.
+    percent: u32,
+    /// Once there are so many gates, flows are given up.
     most: u64,
 }
 
@@ -45,8 +50,9 @@ fn end_of(rank: u32, n: u32, percent: u32) -> End {
 }
 
 impl Flow {
-    /// No vertex yet, and flows that are given up after so many gates.
-    pub(crate) fn new(alloc: Global, most: u64) -> Self {
+    /// No vertex yet, with so many of a hundred in each end, and flows that are given up after so
+    /// many gates.
+    pub(crate) fn new(alloc: Global, percent: u32, most: u64) -> Self {
         Flow {
             carriers: Vec::new(alloc),
             other: Carrier::new(End::Neither),
@@ -57,6 +63,7 @@ impl Flow {
             path: Vec::new(alloc),
             value: 0,
             work: 0,
+            percent,
             most,
         }
     }
@@ -106,7 +113,7 @@ impl Flow {
     }
 
     /// Gives each vertex its end by its rank, and no unit.
-    fn clear(&mut self, ranks: &[u32], percent: u32) -> Result<(), Memory> {
+    fn clear(&mut self, ranks: &[u32]) -> Result<(), Memory> {
         self.carriers.clear();
         self.open.clear();
         self.firsts.clear();
@@ -114,21 +121,24 @@ impl Flow {
         self.value = 0;
         let n = stored(ranks.len());
         for rank in ranks {
-            let carrier = Carrier::new(end_of(*rank, n, percent));
+            let carrier = Carrier::new(end_of(*rank, n, self.percent));
             self.carriers.push(carrier).map_err(AllocError::from)?;
         }
         Ok(())
     }
 
-    /// Begins with no unit, with so many of a hundred vertices in each end.
+    /// Begins with no unit.
     pub(crate) fn begin(
         &mut self,
         rows: &Neighbours,
         ranks: &[u32],
-        percent: u32,
-    ) -> Result<(), Memory> {
-        self.clear(ranks, percent)?;
+        stop: &Option<Stop>,
+    ) -> Result<(), Unfinished>
+        ensures halts { IfErr result (λ e. e ≡ Halted → IsSome stop.now) }
+    {
+        self.clear(ranks)?;
         for v in 0..rows.vertices() {
+            look_at(stop)?;
             if !self.is_inside(rows, v) {
                 self.open(v)?;
             }
@@ -137,12 +147,19 @@ impl Flow {
     }
 
     /// Adds a unit from each vertex of the first end that can have one, up to a bound.
-    fn add_units(&mut self, rows: &Neighbours, bound: u32) -> Result<(), Memory> {
+    fn add_units(
+        &mut self,
+        rows: &Neighbours,
+        bound: u32,
+        stop: &Option<Stop>,
+    ) -> Result<(), Unfinished>
+        ensures halts { IfErr result (λ e. e ≡ Halted → IsSome stop.now) }
+    {
         for k in 0..self.firsts.len() {
             let v = at(&self.firsts, k);
             let carrier = self.carrier(v);
             let may_begin = carrier.may_begin() && carrier.entry != NONE && carrier.entry != CLOSED;
-            if may_begin && self.add_unit(rows, v)? {
+            if may_begin && self.add_unit(rows, v, stop)? {
                 self.value = self.value.saturating_add(1);
             }
             if self.value >= bound {
@@ -159,12 +176,19 @@ impl Flow {
 
     /// Adds units until there can be no more. Says whether it came to that before it came to the
     /// bound of units, or of gates.
-    pub(crate) fn run(&mut self, rows: &Neighbours, bound: u32) -> Result<bool, Memory> {
+    pub(crate) fn run(
+        &mut self,
+        rows: &Neighbours,
+        bound: u32,
+        stop: &Option<Stop>,
+    ) -> Result<bool, Unfinished>
+        ensures halts { IfErr result (λ e. e ≡ Halted → IsSome stop.now) }
+    {
         for _ in 0..bound {
-            if !self.search(rows, Way::Back)? {
+            if !self.search(rows, Way::Back, stop)? {
                 return Ok(true);
             }
-            self.add_units(rows, bound)?;
+            self.add_units(rows, bound, stop)?;
             if self.value >= bound || self.is_spent() {
                 return Ok(false);
             }

@@ -1,5 +1,6 @@
 //! An order that is found, and what it makes.
-ghost use Rattle.std.specs.Prelude.{◌≡◌, IfOk};
+ghost use Rattle.std.specs.Prelude.{◌≡◌, IfErr, IfOk, IsSome};
+ghost use Rattle.halting.specs.declared.unfinished.Unfinished.TheVariants.{Halted};
 ghost use Rattle.elimination_order.specs.Found.{IsOrderedOn};
 
 use crate::care::Care;
@@ -7,7 +8,8 @@ use crate::counts::{Counts, is_too_dense};
 use crate::elimination::Elimination;
 use crate::order::Order;
 use crate::postorder::in_postorder;
-use road_graph::{Memory, OutGraph};
+use halting::{Stop, Unfinished};
+use road_graph::OutGraph;
 use std::alloc::Global;
 use std::snapshot::Snapshot;
 
@@ -47,8 +49,10 @@ pub(crate) fn order_of(
     graph: &OutGraph,
     care: Option<Care>,
     elimination: &Elimination,
-) -> Result<Ordered, Memory>
-    ensures { IfOk result (IsOrderedOn graph.now care) }
+    stop: &Option<Stop>,
+) -> Result<Ordered, Unfinished>
+    ensures order { IfOk result (IsOrderedOn graph.now care) }
+    ensures halts { IfErr result (λ e. e ≡ Halted → IsSome stop.now) }
 {
     graph.holds();
     let counts = elimination.counts;
@@ -58,7 +62,7 @@ pub(crate) fn order_of(
             counts,
         });
     }
-    let order = in_postorder(alloc, graph.vertices(), elimination)?;
+    let order = in_postorder(alloc, graph.vertices(), elimination, stop)?;
     let graph = Snapshot::of(graph);
     Ok(Ordered {
         order: Some(FoundOrder { order, graph, care }),

@@ -1,7 +1,10 @@
 //! Pieces: connected parts of a graph.
+ghost use Rattle.std.specs.Prelude.{◌≡◌, IfErr, IsSome};
+ghost use Rattle.halting.specs.declared.unfinished.Unfinished.TheVariants.{Halted};
 
 use crate::lists::{NONE, Span, at, put, stored};
 use crate::neighbours::Neighbours;
+use halting::{Stop, Unfinished, look_at};
 use road_graph::Memory;
 use std::alloc::{AllocError, Global};
 
@@ -43,17 +46,21 @@ impl Piece {
     pub(crate) fn part(
         &self,
         alloc: Global,
-        list: &[u32],
-        span: Span,
+        found: (&[u32], Span),
         places: &mut [u32],
-    ) -> Result<Piece, Memory> {
+        stop: &Option<Stop>,
+    ) -> Result<Piece, Unfinished>
+        ensures halts { IfErr result (λ e. e ≡ Halted → IsSome stop.now) }
+    {
         let mut part = Piece {
             rows: Neighbours::none(alloc),
             names: Vec::new(alloc),
             depth: self.depth.saturating_add(1),
         };
+        let (list, span) = found;
         give_places(list, span, places);
         for k in span.start..span.end {
+            look_at(stop)?;
             self.add_row(&mut part, places, at(list, k))?;
         }
         Ok(part)

@@ -1,9 +1,12 @@
 //! A plane for a graph without coordinates: the distances from two pairs of far vertices stand for
 //! them.
+ghost use Rattle.std.specs.Prelude.{◌≡◌, IfErr, IsSome};
+ghost use Rattle.halting.specs.declared.unfinished.Unfinished.TheVariants.{Halted};
 
 use crate::distances::Distances;
 use crate::lists::stored;
 use crate::neighbours::Neighbours;
+use halting::{Stop, Unfinished};
 use road_graph::Memory;
 use std::alloc::{AllocError, Global};
 
@@ -71,14 +74,20 @@ impl Plane {
     }
 
     /// The plane of a connected graph.
-    pub(crate) fn of(alloc: Global, rows: &Neighbours) -> Result<Self, Memory> {
+    pub(crate) fn of(
+        alloc: Global,
+        rows: &Neighbours,
+        stop: &Option<Stop>,
+    ) -> Result<Self, Unfinished>
+        ensures halts { IfErr result (λ e. e ≡ Halted → IsSome stop.now) }
+    {
         let n = rows.vertices();
-        let start = Distances::from(alloc, rows, 0)?;
-        let west = Distances::from(alloc, rows, start.farthest())?;
-        let east = Distances::from(alloc, rows, west.farthest())?;
-        let south = Distances::from(alloc, rows, far_from_both(&west, &east, n))?;
-        let north = Distances::from(alloc, rows, south.farthest())?;
-        Plane::between(alloc, n, (&west, &east), (&south, &north))
+        let start = Distances::from(alloc, rows, 0, stop)?;
+        let west = Distances::from(alloc, rows, start.farthest(), stop)?;
+        let east = Distances::from(alloc, rows, west.farthest(), stop)?;
+        let south = Distances::from(alloc, rows, far_from_both(&west, &east, n), stop)?;
+        let north = Distances::from(alloc, rows, south.farthest(), stop)?;
+        Ok(Plane::between(alloc, n, (&west, &east), (&south, &north))?)
     }
 
     /// How far along a direction each vertex is.

@@ -1,12 +1,14 @@
 //! A postorder of the assembly tree: each element after those below it. It makes the same links,
 //! and those that are looked at together lie together.
-ghost use Rattle.std.specs.Prelude.{◌≡◌, IfOk, length};
+ghost use Rattle.std.specs.Prelude.{◌≡◌, IfErr, IfOk, IsSome, length};
+ghost use Rattle.halting.specs.declared.unfinished.Unfinished.TheVariants.{Halted};
 
 use crate::assembly_tree::TreeNode;
 use crate::elimination::Elimination;
 use crate::lists::{NONE, at, put, stored};
 use crate::order::Order;
 use crate::order_builder::order_by;
+use halting::{Stop, Unfinished, look_at};
 use road_graph::Memory;
 use std::alloc::Global;
 
@@ -142,18 +144,22 @@ pub(crate) fn in_postorder(
     alloc: Global,
     n: u32,
     elimination: &Elimination,
-) -> Result<Order, Memory>
-    ensures { IfOk result (λ order. length order.vertices.items ≡ n) }
+    stop: &Option<Stop>,
+) -> Result<Order, Unfinished>
+    ensures count { IfOk result (λ order. length order.vertices.items ≡ n) }
+    ensures halts { IfErr result (λ e. e ≡ Halted → IsSome stop.now) }
 {
     let eliminated = &elimination.eliminated;
     let tree = &elimination.tree;
     let mut postorder = Postorder::open(alloc, eliminated, tree)?;
     for v in eliminated {
+        look_at(stop)?;
         postorder.count(tree, *v);
     }
     let mut places = vec![in alloc; NONE; tree.len()]?;
     let mut end = stored(eliminated.len());
     for v in eliminated.iter().rev() {
+        look_at(stop)?;
         if postorder.pivot(*v) == *v {
             let parent = postorder.parent(tree, *v);
             if parent == NONE {
@@ -165,5 +171,5 @@ pub(crate) fn in_postorder(
         put(&mut places, *v as usize, postorder.next_place(*v));
     }
     place_others(&mut places, eliminated.len());
-    order_by(alloc, n, &places)
+    Ok(order_by(alloc, n, &places)?)
 }

@@ -1,8 +1,11 @@
 //! A quotient graph: the vertices that are left, and the elements that the others have become.
+ghost use Rattle.std.specs.Prelude.{◌≡◌, IfErr, IsSome};
+ghost use Rattle.halting.specs.declared.unfinished.Unfinished.TheVariants.{Halted};
 
 use crate::lists::{Span, at, put, stored};
 use crate::neighbours::Neighbours;
 use crate::node::Node;
+use halting::{Stop, Unfinished, look_at};
 use road_graph::Memory;
 use std::alloc::{AllocError, Global};
 
@@ -85,10 +88,13 @@ impl QuotientGraph {
     }
 
     /// Makes the row of each vertex its list.
-    fn take_rows(&mut self, ends: &[u32]) {
+    fn take_rows(&mut self, ends: &[u32], stop: &Option<Stop>) -> Result<(), Unfinished>
+        ensures halts { IfErr result (λ e. e ≡ Halted → IsSome stop.now) }
+    {
         let mut start = 0;
         let mut end = 0;
         for (i, row_end) in ends.iter().enumerate() {
+            look_at(stop)?;
             let row = Span {
                 start,
                 end: *row_end as usize,
@@ -97,6 +103,7 @@ impl QuotientGraph {
             start = row.end;
         }
         self.lists.truncate(end);
+        Ok(())
     }
 
     /// Takes a vertex with a dense row out, to be eliminated last.
@@ -128,7 +135,13 @@ impl QuotientGraph {
     }
 
     /// The quotient graph of a graph of which nothing is eliminated.
-    pub(crate) fn open(alloc: Global, neighbours: Neighbours) -> Result<Self, Memory> {
+    pub(crate) fn open(
+        alloc: Global,
+        neighbours: Neighbours,
+        stop: &Option<Stop>,
+    ) -> Result<Self, Unfinished>
+        ensures halts { IfErr result (λ e. e ≡ Halted → IsSome stop.now) }
+    {
         let ends = neighbours.ends;
         let mut graph = QuotientGraph {
             nodes: vec![in alloc; Node::new(); ends.len()]?,
@@ -137,7 +150,7 @@ impl QuotientGraph {
             dense: Vec::new(alloc),
             mark: 0,
         };
-        graph.take_rows(&ends);
+        graph.take_rows(&ends, stop)?;
         graph.remove_all_dense()?;
         Ok(graph)
     }

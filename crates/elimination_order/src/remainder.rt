@@ -1,9 +1,12 @@
 //! What is left of a graph once some of its vertices are eliminated, as a graph of its own.
+ghost use Rattle.std.specs.Prelude.{◌≡◌, IfErr, IsSome};
+ghost use Rattle.halting.specs.declared.unfinished.Unfinished.TheVariants.{Halted};
 
 use crate::lists::{NONE, Span, at};
 use crate::neighbours::Neighbours;
 use crate::piece::{Piece, give_places};
 use crate::quotient_graph::QuotientGraph;
+use halting::{Stop, Unfinished, look_at};
 use road_graph::Memory;
 use std::alloc::{AllocError, Global};
 
@@ -55,12 +58,19 @@ impl QuotientGraph {
     }
 
     /// The graph of the vertices that are left.
-    pub(crate) fn remainder(&mut self, alloc: Global) -> Result<Piece, Memory> {
+    pub(crate) fn remainder(
+        &mut self,
+        alloc: Global,
+        stop: &Option<Stop>,
+    ) -> Result<Piece, Unfinished>
+        ensures halts { IfErr result (λ e. e ≡ Halted → IsSome stop.now) }
+    {
         let names = self.left(alloc)?;
         let mut places = vec![in alloc; NONE; self.vertices() as usize]?;
         give_places(&names, Span::new(0, names.len()), &mut places);
         let mut rows = Neighbours::none(alloc);
         for v in &names {
+            look_at(stop)?;
             self.add_row(&mut rows, &places, *v)?;
         }
         Ok(Piece {

@@ -1,10 +1,13 @@
 //! The searches of a flow: from which gates one more unit could go to the last end, or to which it
 //! could come from the first.
+ghost use Rattle.std.specs.Prelude.{◌≡◌, IfErr, IsSome};
+ghost use Rattle.halting.specs.declared.unfinished.Unfinished.TheVariants.{Halted};
 
 use crate::carrier::{Gate, OUTSIDE, Way};
 use crate::flow::Flow;
 use crate::lists::{NONE, at};
 use crate::neighbours::Neighbours;
+use halting::{Stop, Unfinished, look_at};
 use road_graph::Memory;
 use std::alloc::AllocError;
 
@@ -111,7 +114,14 @@ impl Flow {
     }
 
     /// Finds the distances of the gates that can be reached. Says whether a unit may begin at one.
-    pub(crate) fn search(&mut self, rows: &Neighbours, way: Way) -> Result<bool, Memory> {
+    pub(crate) fn search(
+        &mut self,
+        rows: &Neighbours,
+        way: Way,
+        stop: &Option<Stop>,
+    ) -> Result<bool, Unfinished>
+        ensures halts { IfErr result (λ e. e ≡ Halted → IsSome stop.now) }
+    {
         self.forget();
         self.reach_end(way)?;
         let mut found = false;
@@ -120,6 +130,7 @@ impl Flow {
                 break;
             };
             let gate = *gate;
+            look_at(stop)?;
             found = found || self.begins(gate);
             self.go_on(rows, way, gate)?;
         }

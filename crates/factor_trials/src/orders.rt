@@ -69,7 +69,9 @@ fn a_cut_goes_last(rt: HostRuntime) {
     assert_counts(&rt, (121, &arcs), 3555, 68473);
     let graph = made(rt.alloc(), 121, &arcs).expect(&rt, "refused");
     for care in [Care::Fast, Care::Careful] {
-        let found = nested_dissection(rt.alloc(), graph.outgoing(), care).expect(&rt, "memory");
+        let found = nested_dissection(rt.alloc(), graph.outgoing(), care, &None).expect(
+            &rt, "memory",
+        );
         assert!(rt; found.order.is_some());
         assert!(rt; found.counts.links == 3546 && found.counts.triangles == 68446);
     }

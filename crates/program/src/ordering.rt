@@ -11,8 +11,9 @@ ghost use Rattle.program.specs.Ordering.{IsTooDenseFor, RanOrder, WritesPlaces};
 use batch_run::{File, RunFault, WRITE, fault_in, fault_of_run};
 use elimination_order::{Care, Counts, Order, Ordered, nested_dissection};
 use graph_text::read_gr_as;
+use halting::Unfinished;
 use order_files::write_order;
-use road_graph::{Memory, OutGraph};
+use road_graph::OutGraph;
 use std::alloc::Global;
 use text_lines::{MEMORY, ReadFault, RoadRead, RoadWrite};
 
@@ -39,7 +40,7 @@ trait Orders {
     ghost gives_up: { GraphData → Counts → Type 0 };
 
     /// Seeks an order; the counts of one that is given up are those by which it is.
-    fn order(alloc: Global, graph: &OutGraph) -> Result<Ordered, Memory>
+    fn order(alloc: Global, graph: &OutGraph) -> Result<Ordered, Unfinished>
         ensures on { IfOk result (IsOrderedOn graph.now (Some Careful)) }
         ensures dense { IfOk result (λ made. IfNone made.order (gives_up graph.now made.counts)) };
 }
@@ -50,8 +51,8 @@ struct Dissection;
 impl Orders for Dissection {
     ghost gives_up = { IsTooDenseFor };
 
-    fn order(alloc: Global, graph: &OutGraph) -> Result<Ordered, Memory> {
-        nested_dissection(alloc, graph, Care::Careful)
+    fn order(alloc: Global, graph: &OutGraph) -> Result<Ordered, Unfinished> {
+        nested_dissection(alloc, graph, Care::Careful, &None)
     }
 }
 

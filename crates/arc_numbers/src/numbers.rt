@@ -1,6 +1,7 @@
 //! The numbers of the arcs of a graph, and the arcs of a route.
 
-ghost use Rattle.std.specs.Prelude.{◌≡◌, ◌+◌, ◌↔◌, ◌∷◌, [], ℕ, length, IfOk, IfSome, IsSome};
+ghost use Rattle.std.specs.Prelude.{◌≡◌, ◌+◌, ◌↔◌, ◌∷◌, [], ℕ, length, IfErr, IfOk, IfSome, IsSome};
+ghost use Rattle.halting.specs.declared.unfinished.Unfinished.TheVariants.{Halted};
 ghost use Rattle.path_algebra.specs.Walks.{IsBestCode};
 ghost use Rattle.route_tree.specs.Found.{IsRouteBetween};
 ghost use Rattle.arc_numbers.specs.Numbering.{IsReordered};
@@ -9,8 +10,9 @@ ghost use Rattle.arc_numbers.specs.RouteArcs.{AreRouteArcs};
 use crate::route_arcs::write_arcs;
 use crate::rows::NumberRows;
 use crate::same_roads::reordered;
+use halting::{Stop, Unfinished};
 use path_algebra::PathAlgebra;
-use road_graph::{Memory, OutGraph, RoadArc, Vertex};
+use road_graph::{OutGraph, RoadArc, Vertex};
 use std::alloc::{AllocError, Global};
 use std::marker::Model;
 use std::sync::Arc;
@@ -35,12 +37,14 @@ impl ArcNumbers {
     /// the arcs of one tail in the order in which the graph has them. None if they are not.
     ///
     /// # Errors
-    /// Out of memory.
+    /// Out of memory; halted, only if there is a stop.
     pub fn of(
         alloc: Global,
         graph: &OutGraph,
         arcs: Vec<RoadArc>,
-    ) -> Result<Option<ArcNumbers>, Memory>
+        stop: &Option<Stop>,
+    ) -> Result<Option<ArcNumbers>, Unfinished>
+        ensures halts { IfErr result (λ e. e ≡ Halted → IsSome stop.now) }
         ensures numbers { IfOk result (λ found. IfSome found (λ n. n ≡ record {
           roads = graph.now;
           numbered = record { vertices = graph.now.vertices; arcs = arcs.items };
@@ -48,10 +52,10 @@ impl ArcNumbers {
         ensures some { IfOk result (λ found. IsSome found ↔
             IsReordered graph.now (record { vertices = graph.now.vertices; arcs = arcs.items })) }
     {
-        let Some(numbered) = reordered(alloc, graph, arcs)? else {
+        let Some(numbered) = reordered(alloc, graph, arcs, stop)? else {
             return Ok(None);
         };
-        let rows = NumberRows::of(alloc, graph, &numbered)?;
+        let rows = NumberRows::of(alloc, graph, &numbered, stop)?;
         let rows = Arc::new(alloc, rows).map_err(AllocError::from)?;
         Ok(Some(ArcNumbers { rows }))
     }

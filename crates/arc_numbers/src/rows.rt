@@ -1,11 +1,13 @@
 //! The numbers of the arcs of a graph, row after row.
 
-ghost use Rattle.std.specs.Prelude.{◌≡◌, ◌+◌, ◌++◌, ◌∷◌, [], length, IfOk, OnOk};
+ghost use Rattle.std.specs.Prelude.{◌≡◌, ◌+◌, ◌++◌, ◌∷◌, [], length, IfErr, IfOk, IsSome, OnOk};
+ghost use Rattle.halting.specs.declared.unfinished.Unfinished.TheVariants.{Halted};
 ghost use Rattle.road_graph.specs.GraphData.{HasVertex, ListsArcsFrom};
 ghost use Rattle.arc_numbers.specs.Numbering.{IsReordered};
 ghost use Rattle.arc_numbers.specs.RouteArcs.{IsBestStepOrNone};
 
 use crate::best_road::best_road;
+use halting::{Stop, Unfinished, look_at};
 use path_algebra::PathAlgebra;
 use road_graph::{ArcNo, Graph, Memory, OutGraph, Vertex};
 use std::alloc::{AllocError, Global};
@@ -54,14 +56,17 @@ impl NumberRows {
         alloc: Global,
         graph: &OutGraph,
         numbered: &Graph,
-    ) -> Result<NumberRows, Memory>
+        stop: &Option<Stop>,
+    ) -> Result<NumberRows, Unfinished>
         requires { IsReordered graph.now numbered.now }
-        ensures { IfOk result (λ r. r ≡ record { roads = graph.now; numbered = numbered.now }) }
+        ensures rows { IfOk result (λ r. r ≡ record { roads = graph.now; numbered = numbered.now }) }
+        ensures halts { IfErr result (λ e. e ≡ Halted → IsSome stop.now) }
     {
         let mut starts = Vec::with_capacity(alloc, numbered.vertices() as usize + 1)?;
         let mut numbers = Vec::with_capacity(alloc, numbered.arcs())?;
         starts.push(0).map_err(AllocError::from)?;
         for i in 0..numbered.vertices() {
+            look_at(stop)?;
             push_row(&mut starts, &mut numbers, numbered.out(Vertex(i + 1)))?;
         }
         Ok(NumberRows {

@@ -1,9 +1,11 @@
 //! Whether arcs in another order are the same graph.
 
-ghost use Rattle.std.specs.Prelude.{◌≡◌, ◌↔◌, ◌≤◌, ◌^◌, ℕ, IfOk, IsTrue, MatchOption};
+ghost use Rattle.std.specs.Prelude.{◌≡◌, ◌↔◌, ◌≤◌, ◌^◌, ℕ, IfErr, IfOk, IsSome, IsTrue, MatchOption};
+ghost use Rattle.halting.specs.declared.unfinished.Unfinished.TheVariants.{Halted};
 ghost use Rattle.road_graph.specs.GraphData.{HasVertex, IsGraph};
 ghost use Rattle.arc_numbers.specs.Numbering.{IsReordered};
 
+use halting::{Stop, Unfinished, look_at};
 use road_graph::{Graph, GraphFault, Memory, OutGraph, OutRoad, RoadArc, Vertex};
 use std::alloc::Global;
 
@@ -35,18 +37,20 @@ fn are_same(first: &[OutRoad], second: &[OutRoad]) -> bool
 }
 
 /// Whether a graph on the same vertices is this one with its arcs in another order.
-fn is_reordered(graph: &OutGraph, other: &Graph) -> bool
+fn is_reordered(graph: &OutGraph, other: &Graph, stop: &Option<Stop>) -> Result<bool, Unfinished>
     requires { other.now.vertices ≡ graph.now.vertices }
-    ensures { IsTrue result ↔ IsReordered graph.now other.now }
+    ensures same { IfOk result (λ same. IsTrue same ↔ IsReordered graph.now other.now) }
+    ensures halts { IfErr result (λ e. e ≡ Halted → IsSome stop.now) }
 {
     other.holds();
     for i in 0..graph.vertices() {
+        look_at(stop)?;
         let v = Vertex(i + 1);
         if !are_same(graph.roads_from(v), other.roads_from(v)) {
-            return false;
+            return Ok(false);
         }
     }
-    true
+    Ok(true)
 }
 
 /// The graph of these arcs, if it is this one with its arcs in another order.
@@ -54,8 +58,10 @@ pub(crate) fn reordered(
     alloc: Global,
     graph: &OutGraph,
     arcs: Vec<RoadArc>,
-) -> Result<Option<Graph>, Memory>
-    ensures { IfOk result (λ found. MatchOption found
+    stop: &Option<Stop>,
+) -> Result<Option<Graph>, Unfinished>
+    ensures halts { IfErr result (λ e. e ≡ Halted → IsSome stop.now) }
+    ensures found { IfOk result (λ found. MatchOption found
         (IsReordered graph.now (record { vertices = graph.now.vertices; arcs = arcs.items }) → ⊥)
         (λ h. (h ≡ record { vertices = graph.now.vertices; arcs = arcs.items }) × IsReordered graph.now h)) }
 {
@@ -63,7 +69,7 @@ pub(crate) fn reordered(
     let Some(other) = graph_of(alloc, graph.vertices(), arcs)? else {
         return Ok(None);
     };
-    if is_reordered(graph, &other) {
+    if is_reordered(graph, &other, stop)? {
         Ok(Some(other))
     } else {
         Ok(None)

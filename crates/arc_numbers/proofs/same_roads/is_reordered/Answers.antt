@@ -13,8 +13,8 @@ loop-i-preserved c = λ v low high. elim (eq-or-lt_of_le high) [
       subst (λ (u : ℕ). HasSameRoads g h u) (sym here) (out, c.roads_from.ensures, there)
 ]
 
-pub returns-then-not-are_same : goal.returns-then-not-are_same
-returns-then-not-are_same c = (
+pub returns-then-not-are_same-clause-same : goal.returns-then-not-are_same-clause-same
+returns-then-not-are_same-clause-same c = (
   λ h. cc,
   λ is.
       let g = c.args.graph.now in let h = c.args.other.now in let v = c.loop-i.i + 1 in
@@ -25,8 +25,8 @@ returns-then-not-are_same c = (
       let not : c.are_same.result ≡ false = c.if-not-are_same.true in cc,
 )
 
-pub returns : goal.returns
-returns c = (
+pub returns-clause-same : goal.returns-clause-same
+returns-clause-same c = (
   λ h. record {
     graph = c.holds.ensures;
     vertices = c.requires;

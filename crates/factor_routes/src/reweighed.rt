@@ -1,12 +1,14 @@
 //! A graph is factored over the links of another one.
-ghost use Rattle.std.specs.Prelude.{◌≡◌, IfOk, IfErr};
+ghost use Rattle.std.specs.Prelude.{◌≡◌, IfOk, IfErr, IsSome};
 ghost use Rattle.path_factors.specs.Reweighing.{Fits};
 ghost use Rattle.factor_routes.specs.Reweighing.{IsCause};
+ghost use Rattle.factor_routes.specs.declared.reweighed.Unweighed.TheVariants.{Stopped};
 
 use crate::fitting::fitting_sums;
 use crate::road_factors::RoadFactors;
+use halting::{Stop, Unfinished};
 use path_factors::Unfit;
-use road_graph::{InGraph, Memory, OutGraph};
+use road_graph::{InGraph, OutGraph};
 use std::alloc::Global;
 
 /// Why a graph is not factored over the links of another one.
@@ -18,6 +20,8 @@ pub enum Unweighed {
     Heavy,
     /// It has another number of vertices, or an arc where there is no link.
     Unfit(Unfit),
+    /// The stop was set before.
+    Stopped,
 }
 
 impl RoadFactors {
@@ -27,26 +31,29 @@ impl RoadFactors {
     ///
     /// # Errors
     /// `Heavy` as of `of`; `Unfit` if there is not a link for each arc, as there is where an arc
-    /// joined the same vertices.
+    /// joined the same vertices; `Stopped` as of `of`.
     pub fn reweighed(
         &self,
         alloc: Global,
         graph: &OutGraph,
         by_head: &InGraph,
+        stop: &Option<Stop>,
     ) -> Result<RoadFactors, Unweighed>
         requires { by_head.now ≡ graph.now }
         ensures roads { IfOk result (λ f. f.roads ≡ graph.now) }
         ensures cost { IfOk result (λ f. f.algebra.cost ≡ self.now.algebra.cost) }
         ensures fits { IfOk result (λ f. Fits graph.now self.now) }
         ensures cause { IfErr result (λ why. IsCause why graph.now self.now) }
+        ensures stopped { IfErr result (λ e. e ≡ Stopped → IsSome stop.now) }
     {
         let Some(sums) = fitting_sums(self.sums.cost, by_head) else {
             return Err(Unweighed::Heavy);
         };
-        match self.factors.reweighed(alloc, sums, graph) {
+        match self.factors.reweighed(alloc, sums, graph, stop) {
             Ok(Ok(factors)) => Ok(RoadFactors { sums, factors }),
             Ok(Err(why)) => Err(Unweighed::Unfit(why)),
-            Err(Memory) => Err(Unweighed::Memory),
+            Err(Unfinished::Memory) => Err(Unweighed::Memory),
+            Err(Unfinished::Halted) => Err(Unweighed::Stopped),
         }
     }
 }

@@ -1,7 +1,8 @@
 //! Factors of a graph over the links of another with the same arcs.
 use elimination_order::{Order, OrderBuilder};
+use halting::{Stop, Unfinished};
 use path_algebra::{Cost, CountedSums, Labels};
-use path_factors::{Factors, Links, Unfit};
+use path_factors::{Factors, Links, Making, Unfit};
 use path_trials::{FIVE, made};
 use road_graph::{Graph, Vertex};
 use std::process::Abort;
@@ -87,7 +88,11 @@ fn order_of(rt: &(impl Abort + AllocGlobal), number: usize) -> Order {
 fn factored(rt: &(impl Abort + AllocGlobal), graph: &Graph, order: &Order) -> Factors<CountedSums> {
     let roads = graph.outgoing();
     assert!(rt; order.vertices.len() == roads.vertices() as usize);
-    Factors::by_order(rt.alloc(), sums(rt), roads, order, Links::Needed).expect(rt, "memory")
+    let making = Making {
+        links: Links::Needed,
+        stop: &None,
+    };
+    Factors::by_order(rt.alloc(), sums(rt), roads, order, making).expect(rt, "memory")
 }
 
 /// The first five labels.
@@ -104,7 +109,11 @@ fn five(rt: &impl Abort, labels: &Labels<u64>) -> Five {
 fn assert_whole(rt: &(impl Abort + AllocGlobal), graph: &Graph, order: &Order, wanted: &Five) {
     let roads = graph.outgoing();
     assert!(rt; graph.has(Vertex(1)) && order.vertices.len() == roads.vertices() as usize);
-    let factors = Factors::by_order(rt.alloc(), sums(rt), roads, order, Links::All);
+    let making = Making {
+        links: Links::All,
+        stop: &None,
+    };
+    let factors = Factors::by_order(rt.alloc(), sums(rt), roads, order, making);
     let labels = factors
         .expect(rt, "memory")
         .solve_by(rt.alloc(), &[Vertex(1)]);
@@ -119,7 +128,7 @@ fn assert_reweighed(
     wanted: &Result<Five, Unfit>,
 ) {
     assert!(rt; graph.has(Vertex(1)));
-    let again = factors.reweighed(rt.alloc(), sums(rt), graph.outgoing());
+    let again = factors.reweighed(rt.alloc(), sums(rt), graph.outgoing(), &None);
     match (again.expect(rt, "memory"), wanted) {
         (Ok(again), Ok(wanted)) => {
             let labels = again.solve_by(rt.alloc(), &[Vertex(1)]);
@@ -177,4 +186,31 @@ fn an_arc_with_no_link_is_refused(rt: HostRuntime) {
     ] {
         assert_reweighed(&rt, &factors, &with_arc(&rt, *n, *arc), wanted);
     }
+}
+
+/// A stop that is set ends what looks at it, and one that is cleared ends nothing.
+#[test]
+fn a_stop_ends_factoring(rt: HostRuntime) {
+    let graph = five_of(&rt, &ONE);
+    let order = order_at(&rt, &[1, 2, 3, 4, 0]);
+    let factors = factored(&rt, &graph, &order);
+    let roads = graph.outgoing();
+    let set = Stop::new(rt.alloc()).expect(&rt, "memory");
+    set.set(true);
+    let stop = Some(set.try_clone().expect(&rt, "memory"));
+    let making = Making {
+        links: Links::Needed,
+        stop: &stop,
+    };
+    assert!(rt; order.vertices.len() == roads.vertices() as usize);
+    let made = Factors::by_order(rt.alloc(), sums(&rt), roads, &order, making);
+    assert!(rt; made.err() == Some(Unfinished::Halted));
+    let again = factors.reweighed(rt.alloc(), sums(&rt), roads, &stop);
+    assert!(rt; again.err() == Some(Unfinished::Halted));
+    set.set(false);
+    assert!(rt;
+        factors
+            .reweighed(rt.alloc(), sums(&rt), roads, &stop)
+            .is_ok()
+    );
 }

@@ -51,7 +51,7 @@ impl<A: PathAlgebra> Roads<A> {
             Ok(rows) => rows,
             Err(Memory) => return Err(Unfactored::Memory),
         };
-        let factors = RoadFactors::of(alloc, cost, graph, &rows)?;
+        let factors = RoadFactors::of(alloc, cost, graph, &rows, &None)?;
         let asker = match factors.asker(alloc) {
             Ok(asker) => asker,
             Err(Memory) => return Err(Unfactored::Memory),

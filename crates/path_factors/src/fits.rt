@@ -1,13 +1,15 @@
 //! Whether a graph can be factored over the links of another one.
-ghost use Rattle.std.specs.Prelude.{◌≡◌, ℕ, ◌<◌, ◌↔◌, Contains, IfErr, OnOk, IsTrue};
+ghost use Rattle.std.specs.Prelude.{◌≡◌, ℕ, ◌<◌, ◌↔◌, Contains, IfErr, IfOk, IsSome, OnOk, IsTrue};
 ghost use Rattle.std.specs.List.Sorted.{IsStrictlyIncreasing};
 ghost use Rattle.road_graph.specs.GraphData.{HasVertex, HasArc, arc_of};
 ghost use Rattle.path_factors.specs.Factors.{place_of};
 ghost use Rattle.path_factors.specs.Heads.{IsHead, IsJoined};
 ghost use Rattle.path_factors.specs.Reweighing.{Fits, HasEdges, IsReason, JoinsNoOthers};
+ghost use Rattle.halting.specs.declared.unfinished.Unfinished.TheVariants.{Halted};
 
 use crate::factors::Factors;
 use crate::reweigh::Unfit;
+use halting::{Stop, Unfinished, look_at};
 use path_algebra::ComposingAlgebra;
 use road_graph::{OutGraph, Vertex};
 
@@ -58,32 +60,42 @@ impl<A: ComposingAlgebra> Factors<A> {
     }
 
     /// Whether each arc of a graph has an edge.
-    fn has_edges(&self, graph: &OutGraph) -> bool
+    fn has_edges(&self, graph: &OutGraph, stop: &Option<Stop>) -> Result<bool, Unfinished>
         requires { graph.now.vertices ≡ self.now.roads.vertices }
-        ensures { IsTrue result ↔ HasEdges graph.now self.now.factor.places self.now.heads }
+        ensures edges { IfOk result (λ has. IsTrue has ↔
+            HasEdges graph.now self.now.factor.places self.now.heads) }
+        ensures halts { IfErr result (λ e. e ≡ Halted → IsSome stop.now) }
     {
         graph.holds();
         for i in 0..graph.vertices() {
+            look_at(stop)?;
             if !self.has_edges_from(graph, Vertex(i + 1)) {
-                return false;
+                return Ok(false);
             }
         }
-        true
+        Ok(true)
     }
 
     /// Whether a graph has as many vertices, and a link for each arc; if not, why.
-    pub(crate) fn fits(&self, graph: &OutGraph) -> Result<(), Unfit>
-        ensures fits { OnOk result (Fits graph.now self.now) }
-        ensures unfit { IfErr result (λ why. IsReason why graph.now self.now) }
-        ensures others { IfErr result (λ _. JoinsNoOthers graph.now self.now.roads → ⊥) }
+    pub(crate) fn fits(
+        &self,
+        graph: &OutGraph,
+        stop: &Option<Stop>,
+    ) -> Result<Result<(), Unfit>, Unfinished>
+        ensures fits { IfOk result (λ fit. OnOk fit (Fits graph.now self.now)) }
+        ensures unfit { IfOk result (λ fit. IfErr fit (λ why. IsReason why graph.now self.now)) }
+        ensures others { IfOk result (λ fit. IfErr fit (λ _. JoinsNoOthers graph.now self.now.roads →
+            ⊥)) }
+        ensures halts { IfErr result (λ e. e ≡ Halted → IsSome stop.now) }
     {
         self.holds();
         if graph.vertices() as usize != self.places.len() {
-            return Err(Unfit::Vertices);
+            return Ok(Err(Unfit::Vertices));
         }
-        if !self.has_edges(graph) {
-            return Err(Unfit::Arc);
+        let has_edges = self.has_edges(graph, stop)?;
+        if !has_edges {
+            return Ok(Err(Unfit::Arc));
         }
-        Ok(())
+        Ok(Ok(()))
     }
 }

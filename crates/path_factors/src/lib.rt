@@ -32,5 +32,5 @@ pub use asker::Asker;
 pub use factors::Factors;
 pub use label_slot::CompactAlgebra;
 pub use link::Link;
-pub use prune::Links;
+pub use prune::{Links, Making};
 pub use reweigh::Unfit;

@@ -1,12 +1,14 @@
 //! A walk at a link for each arc of the graph, before any place is eliminated.
-ghost use Rattle.std.specs.Prelude.{◌≡◌, ℕ, ◌<◌};
+ghost use Rattle.std.specs.Prelude.{◌≡◌, ℕ, ◌<◌, IfErr, IsSome, OnOk};
 ghost use Rattle.road_graph.specs.GraphData.{HasArc, HasVertex, arc_of};
 ghost use Rattle.path_factors.specs.Factors.{CoversArcs, LeadsNoWorse, IsWorthOfWalk, place_of};
 ghost use Rattle.path_factors.specs.Eliminating.{Improves};
 ghost use Rattle.path_factors.specs.Heads.{IsHead, IsJoined, heads_in};
 ghost use Rattle.path_factors.specs.State.{IsSameState};
+ghost use Rattle.halting.specs.declared.unfinished.Unfinished.TheVariants.{Halted};
 
 use crate::weighing::Weighing;
+use halting::{Stop, Unfinished, look_at};
 use path_algebra::ComposingAlgebra;
 use road_graph::{OutRoad, Vertex};
 
@@ -60,16 +62,19 @@ impl<'g, A: ComposingAlgebra> Weighing<'g, A> {
     }
 
     /// Puts a walk at the link for each arc.
-    pub(crate) fn load(&mut self)
-        ensures same { IsSameState self.old self.new }
-        ensures improves { Improves (A.walks self.old.algebra) 0 self.old.factor
-            self.new.factor }
-        ensures covers { CoversArcs (A.walks self.old.algebra) self.old.roads
-            self.new.factor }
+    pub(crate) fn load(&mut self, stop: &Option<Stop>) -> Result<(), Unfinished>
+        ensures same { OnOk result (IsSameState self.old self.new) }
+        ensures improves { OnOk result (Improves (A.walks self.old.algebra) 0 self.old.factor
+            self.new.factor) }
+        ensures covers { OnOk result (CoversArcs (A.walks self.old.algebra) self.old.roads
+            self.new.factor) }
+        ensures halts { IfErr result (λ e. e ≡ Halted → IsSome stop.now) }
     {
         self.holds();
         for i in 0..self.graph.vertices() {
+            look_at(stop)?;
             self.load_from(Vertex(i + 1));
         }
+        Ok(())
     }
 }

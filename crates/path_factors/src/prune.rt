@@ -1,16 +1,17 @@
 //! Edges are left out that others do for.
-ghost use Rattle.std.specs.Prelude.{◌≡◌, ◌<◌, IfOk, IsTrue, OnOk, length, slice_index, true};
+ghost use Rattle.std.specs.Prelude.{◌≡◌, ◌<◌, IfErr, IfOk, IsSome, IsTrue, OnOk, length, slice_index, true};
 ghost use Rattle.path_factors.specs.Factors.{CoversArcs, Leads, row_of};
 ghost use Rattle.path_factors.specs.Eliminating.{AreClosedTo};
 ghost use Rattle.path_factors.specs.Heads.{heads_in};
 ghost use Rattle.path_factors.specs.Pruning.{AreThinTo, DoForAll, IsBypassed};
+ghost use Rattle.halting.specs.declared.unfinished.Unfinished.TheVariants.{Halted};
 
 use crate::edge::Edge;
 use crate::factors::Factors;
 use crate::packed::PackedRows;
 use crate::weighing::Weighing;
+use halting::{Stop, Unfinished, look_at};
 use path_algebra::{ComposingAlgebra, laws_hold};
-use road_graph::Memory;
 use std::alloc::Global;
 use std::snapshot::Snapshot;
 
@@ -21,6 +22,15 @@ pub enum Links {
     All,
     /// Those that no way over others replaces: it answers sooner.
     Needed,
+}
+
+/// How factors are made: which links they keep, and the stop that ends it once it is set.
+#[derive(Clone, Copy)]
+pub struct Making<'s> {
+    /// Which links.
+    pub links: Links,
+    /// The stop, if there is one.
+    pub stop: &'s Option<Stop>,
 }
 
 /// Whether another edge of a place is marked and the ways over its end are no worse than an edge,
@@ -120,26 +130,29 @@ impl<'g, A: ComposingAlgebra> Weighing<'g, A> {
     }
 
     /// Marks edges of a place that do for all.
-    fn mark(&self, marks: &mut Vec<bool>, v: usize) -> Result<(), Memory>
+    fn mark(&self, marks: &mut Vec<bool>, v: usize, stop: &Option<Stop>) -> Result<(), Unfinished>
         requires { v < self.now.roads.vertices }
         ensures marks { OnOk result
             (length marks.new.items ≡ length (row_of self.now.factor.leaving v)) }
         ensures serve { OnOk result (DoForAll (A.meaning self.now.algebra)
             (A.walks self.now.algebra) self.now.factor v marks.new.items) }
+        ensures halts { IfErr result (λ e. e ≡ Halted → IsSome stop.now) }
     {
         let count = self.count(v);
         marks.clear();
         marks.resize(count, true)?;
         for i in 0..count {
+            look_at(stop)?;
             self.choose_after(marks, v, i);
         }
         Ok(())
     }
 
     /// The marked edges of all places.
-    fn thinned(&self, alloc: Global) -> Result<PackedRows<A::Walk>, Memory>
-        ensures { IfOk result (λ rows. AreThinTo (A.meaning self.now.algebra)
+    fn thinned(&self, alloc: Global, stop: &Option<Stop>) -> Result<PackedRows<A::Walk>, Unfinished>
+        ensures thin { IfOk result (λ rows. AreThinTo (A.meaning self.now.algebra)
             (A.walks self.now.algebra) self.now.factor self.now.roads.vertices rows) }
+        ensures halts { IfErr result (λ e. e ≡ Halted → IsSome stop.now) }
     {
         self.holds();
         laws_hold(self.algebra);
@@ -147,7 +160,7 @@ impl<'g, A: ComposingAlgebra> Weighing<'g, A> {
         let mut marks: Vec<bool> = Vec::new(alloc);
         let mut rows = PackedRows::new(alloc, n, self.rows.edges())?;
         for v in 0..n {
-            self.mark(&mut marks, v)?;
+            self.mark(&mut marks, v, stop)?;
             rows = rows.push_marked(&self.rows, v, &marks)?;
         }
         Ok(rows)
@@ -155,20 +168,21 @@ impl<'g, A: ComposingAlgebra> Weighing<'g, A> {
 
     /// The factor with all edges, or without those that others do for, once each arc has a walk at
     /// its link and each place is eliminated.
-    pub(crate) fn prune(self, alloc: Global, links: Links) -> Result<Factors<A>, Memory>
+    pub(crate) fn prune(self, alloc: Global, making: Making<'_>) -> Result<Factors<A>, Unfinished>
         requires covers { CoversArcs (A.walks self.algebra) self.roads self.factor }
         requires closed { AreClosedTo (A.walks self.algebra) self.factor self.roads.vertices }
         ensures algebra { IfOk result (λ f. f.algebra ≡ self.entry.algebra) }
         ensures roads { IfOk result (λ f. f.roads ≡ self.entry.roads) }
         ensures order { IfOk result (λ f. f.factor.order ≡ self.entry.factor.order) }
+        ensures halts { IfErr result (λ e. e ≡ Halted → IsSome making.entry.stop.now) }
     {
         self.holds();
         laws_hold(self.algebra);
         let parents = self.parents(alloc)?;
-        let (heads, rows) = match links {
+        let (heads, rows) = match making.links {
             Links::All => (None, self.rows),
             Links::Needed => {
-                let rows = self.thinned(alloc)?;
+                let rows = self.thinned(alloc, making.stop)?;
                 (Some(self.rows.into_heads()), rows)
             }
         };

@@ -1,18 +1,20 @@
 //! A graph is factored over the links of another one: the same order, other weights.
-ghost use Rattle.std.specs.Prelude.{◌≡◌, IfOk, IfErr};
+ghost use Rattle.std.specs.Prelude.{◌≡◌, IfOk, IfErr, IsSome};
 ghost use Rattle.std.specs.Arc.{arc_value};
 ghost use Rattle.path_factors.specs.Factors.{ArePlaces, CoversArcs};
 ghost use Rattle.path_factors.specs.Edges.{AreBlank};
 ghost use Rattle.path_factors.specs.Eliminating.{AreClosedTo};
 ghost use Rattle.path_factors.specs.Heads.{IsOutline, heads_in};
 ghost use Rattle.path_factors.specs.Reweighing.{Fits, IsReason, JoinsNoOthers};
+ghost use Rattle.halting.specs.declared.unfinished.Unfinished.TheVariants.{Halted};
 
 use crate::factors::Factors;
 use crate::heads::Heads;
 use crate::packed::PackedRows;
-use crate::prune::Links;
+use crate::prune::{Links, Making};
 use crate::weighing::Weighing;
 use elimination_order::Order;
+use halting::{Stop, Unfinished};
 use path_algebra::{ComposingAlgebra, composition_holds};
 use road_graph::{Memory, OutGraph};
 use std::alloc::Global;
@@ -30,7 +32,7 @@ pub enum Unfit {
 
 impl<'g, A: ComposingAlgebra> Weighing<'g, A> {
     /// Rows with no walk at any link, before the first arc.
-    fn open(
+    pub(crate) fn open(
         algebra: A,
         graph: &'g OutGraph,
         order: Arc<Snapshot<Order>>,
@@ -56,30 +58,21 @@ impl<'g, A: ComposingAlgebra> Weighing<'g, A> {
         }
     }
 
-    /// A weighing of a graph by an order, over rows with its outline and no walk at any link, once
-    /// each place is eliminated.
-    pub(crate) fn weigh(
-        algebra: A,
-        graph: &'g OutGraph,
-        order: Arc<Snapshot<Order>>,
-        places: Vec<u32>,
-        rows: PackedRows<A::Walk>,
-    ) -> Self
-        requires places { ArePlaces graph.now.vertices (arc_value order).value.vertices.items places.items }
-        requires outline { IsOutline graph.now places.items (heads_in rows.leaving) }
-        requires risers { AreBlank (A.walks algebra).no_walk rows.leaving }
-        requires fallers { AreBlank (A.walks algebra).no_walk rows.entering }
-        ensures algebra { result.algebra ≡ algebra }
-        ensures roads { result.roads ≡ graph.now }
-        ensures order { result.factor.order ≡ (arc_value order).value.vertices.items }
-        ensures covers { CoversArcs (A.walks result.algebra) result.roads result.factor }
-        ensures closed { AreClosedTo (A.walks result.algebra) result.factor result.roads.vertices }
+    /// The same, once each arc has a walk at its link and each place is eliminated.
+    pub(crate) fn weighed(self, stop: &Option<Stop>) -> Result<Self, Unfinished>
+        ensures algebra { IfOk result (λ w. w.algebra ≡ self.entry.algebra) }
+        ensures roads { IfOk result (λ w. w.roads ≡ self.entry.roads) }
+        ensures order { IfOk result (λ w. w.factor.order ≡ self.entry.factor.order) }
+        ensures covers { IfOk result (λ w. CoversArcs (A.walks w.algebra) w.roads w.factor) }
+        ensures closed { IfOk result (λ w. AreClosedTo (A.walks w.algebra) w.factor
+            w.roads.vertices) }
+        ensures halts { IfErr result (λ e. e ≡ Halted → IsSome stop.now) }
     {
-        composition_holds(algebra);
-        let mut weighing = Weighing::open(algebra, graph, order, places, rows);
-        weighing.load();
-        weighing.eliminate_all();
-        weighing
+        self.holds();
+        let mut weighing = self;
+        weighing.load(stop)?;
+        weighing.eliminate_all(stop)?;
+        Ok(weighing)
     }
 }
 
@@ -102,7 +95,7 @@ impl<A: ComposingAlgebra> Factors<A> {
 
     /// The factor of another graph, by the same order and over the same links: in a fraction of the
     /// time of `by_order`. Weights may change, and arcs may go, come back or have others beside them.
-    /// The order is shared, and places and links are copied. The only other error is `Memory`.
+    /// The order is shared, and places and links are copied.
     ///
     /// # Errors
     /// The graph has another number of vertices, or an arc where there is no link.
@@ -111,7 +104,8 @@ impl<A: ComposingAlgebra> Factors<A> {
         alloc: Global,
         algebra: A,
         graph: &OutGraph,
-    ) -> Result<Result<Factors<A>, Unfit>, Memory>
+        stop: &Option<Stop>,
+    ) -> Result<Result<Factors<A>, Unfit>, Unfinished>
         ensures algebra { IfOk result (λ made. IfOk made (λ f. f.algebra ≡ algebra)) }
         ensures roads { IfOk result (λ made. IfOk made (λ f. f.roads ≡ graph.now)) }
         ensures order { IfOk result (λ made. IfOk made (λ f. f.factor.order ≡ self.now.factor.order)) }
@@ -119,19 +113,21 @@ impl<A: ComposingAlgebra> Factors<A> {
         ensures unfit { IfOk result (λ made. IfErr made (λ why. IsReason why graph.now self.now)) }
         ensures others { IfOk result (λ made. IfErr made (λ _. JoinsNoOthers graph.now self.now.roads →
             ⊥)) }
+        ensures halts { IfErr result (λ e. e ≡ Halted → IsSome stop.now) }
     {
         self.holds();
-        if let Err(why) = self.fits(graph) {
+        let fit = self.fits(graph, stop)?;
+        if let Err(why) = fit {
             return Ok(Err(why));
         }
         let order = Arc::try_clone(&self.order)?;
         let places = self.places.to_vec(alloc)?;
         let heads = self.copied_heads(alloc)?;
         let rows = PackedRows::blank(alloc, heads, algebra.no_walk())?;
-        let factors = Weighing::weigh(algebra, graph, order, places, rows).prune(
-            alloc,
-            Links::Needed,
-        )?;
+        let links = Links::Needed;
+        let factors = Weighing::open(algebra, graph, order, places, rows)
+            .weighed(stop)?
+            .prune(alloc, Making { links, stop })?;
         Ok(Ok(factors))
     }
 }

@@ -1,11 +1,13 @@
 //! The arcs of a graph between places, each at the lesser of its ends.
-ghost use Rattle.std.specs.Prelude.{◌≡◌, ℕ, ◌-◌, ◌<◌, List, IfOk, OnOk, length, slice_index};
+ghost use Rattle.std.specs.Prelude.{◌≡◌, ℕ, ◌-◌, ◌<◌, List, IfErr, IfOk, IsSome, OnOk, length, slice_index};
 ghost use Rattle.road_graph.specs.GraphData.{HasArc, HasVertex, arc_of};
 ghost use Rattle.path_factors.specs.Chains.{AreBelow, HasValue, IsMore};
 ghost use Rattle.path_factors.specs.Factors.{ArePlaces};
 ghost use Rattle.path_factors.specs.Heads.{AreArcsJoined, IsJoined};
+ghost use Rattle.halting.specs.declared.unfinished.Unfinished.TheVariants.{Halted};
 
 use crate::chains::Chains;
+use halting::{Stop, Unfinished, look_at};
 use road_graph::{Memory, OutGraph, Vertex};
 use std::alloc::Global;
 
@@ -49,16 +51,23 @@ fn join_roads(
 }
 
 /// For each place the greater ones to or from which it has an arc.
-pub(crate) fn upward_arcs(alloc: Global, graph: &OutGraph, places: &[u32]) -> Result<Chains, Memory>
+pub(crate) fn upward_arcs(
+    alloc: Global,
+    graph: &OutGraph,
+    places: &[u32],
+    stop: &Option<Stop>,
+) -> Result<Chains, Unfinished>
     requires { (order : List ℕ) × ArePlaces graph.now.vertices order places.now }
     ensures lists { IfOk result (λ arcs. length arcs.firsts ≡ graph.now.vertices) }
     ensures joined { IfOk result (λ arcs. AreArcsJoined (HasValue arcs) graph.now places.now) }
     ensures below { IfOk result (λ arcs. AreBelow graph.now.vertices arcs) }
+    ensures halts { IfErr result (λ e. e ≡ Halted → IsSome stop.now) }
 {
     graph.holds();
     let n = graph.vertices();
     let mut arcs = Chains::new(alloc, n as usize, graph.arcs())?;
     for i in 0..n {
+        look_at(stop)?;
         join_roads(&mut arcs, graph, places, Vertex(i + 1))?;
     }
     Ok(arcs)

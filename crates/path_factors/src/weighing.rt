@@ -1,5 +1,5 @@
 //! Walks are put at the links of an outline: what makes a factor of a graph.
-ghost use Rattle.std.specs.Prelude.{◌≡◌, ℕ, ◌+◌, ◌<◌, ◌≤◌, length, slice_index};
+ghost use Rattle.std.specs.Prelude.{◌≡◌, ℕ, ◌+◌, ◌<◌, ◌≤◌, IfErr, IsSome, OnOk, length, slice_index};
 ghost use Rattle.road_graph.specs.GraphData.{IsGraph};
 ghost use Rattle.path_algebra.specs.Composition.{IsComposition};
 ghost use Rattle.path_factors.specs.declared.edge.Edge.{Edge};
@@ -8,11 +8,13 @@ ghost use Rattle.path_factors.specs.Edges.{AreAligned, IsEdgeAt, AreJoined};
 ghost use Rattle.path_factors.specs.Eliminating.{IsBegun, Improves, AreClosedTo};
 ghost use Rattle.path_factors.specs.Heads.{AreAhead, IsHead, IsJoined, IsOutline, heads_in};
 ghost use Rattle.path_factors.specs.State.{IsSameState};
+ghost use Rattle.halting.specs.declared.unfinished.Unfinished.TheVariants.{Halted};
 
 use crate::edge::Edge;
 use crate::heads::{position, seek};
 use crate::packed::PackedRows;
 use elimination_order::Order;
+use halting::{Stop, Unfinished, look_at};
 use path_algebra::{ComposingAlgebra, composition_holds};
 use road_graph::OutGraph;
 use std::marker::Model;
@@ -209,30 +211,35 @@ impl<'g, A: ComposingAlgebra> Weighing<'g, A> {
     }
 
     /// Eliminates a place: joins each two of its edges.
-    fn eliminate(&mut self, v: usize)
+    fn eliminate(&mut self, v: usize, stop: &Option<Stop>) -> Result<(), Unfinished>
         requires { v < self.old.roads.vertices }
-        ensures same { IsSameState self.old self.new }
-        ensures improves { Improves (A.walks self.old.algebra) (v + 1) self.old.factor
-            self.new.factor }
-        ensures closed { IsClosedAt (A.walks self.old.algebra) self.new.factor v }
+        ensures same { OnOk result (IsSameState self.old self.new) }
+        ensures improves { OnOk result (Improves (A.walks self.old.algebra) (v + 1)
+            self.old.factor self.new.factor) }
+        ensures closed { OnOk result (IsClosedAt (A.walks self.old.algebra) self.new.factor v) }
+        ensures halts { IfErr result (λ e. e ≡ Halted → IsSome stop.now) }
     {
         self.holds();
         for i in 0..self.count(v) {
+            look_at(stop)?;
             self.pass(v, i);
         }
+        Ok(())
     }
 
     /// Eliminates each place, in ascending order.
-    pub(crate) fn eliminate_all(&mut self)
-        ensures same { IsSameState self.old self.new }
-        ensures improves { Improves (A.walks self.old.algebra) 0 self.old.factor
-            self.new.factor }
-        ensures closed { AreClosedTo (A.walks self.old.algebra) self.new.factor
-            self.old.roads.vertices }
+    pub(crate) fn eliminate_all(&mut self, stop: &Option<Stop>) -> Result<(), Unfinished>
+        ensures same { OnOk result (IsSameState self.old self.new) }
+        ensures improves { OnOk result (Improves (A.walks self.old.algebra) 0 self.old.factor
+            self.new.factor) }
+        ensures closed { OnOk result (AreClosedTo (A.walks self.old.algebra) self.new.factor
+            self.old.roads.vertices) }
+        ensures halts { IfErr result (λ e. e ≡ Halted → IsSome stop.now) }
     {
         self.holds();
         for v in 0..self.graph.vertices() as usize {
-            self.eliminate(v);
+            self.eliminate(v, stop)?;
         }
+        Ok(())
     }
 }

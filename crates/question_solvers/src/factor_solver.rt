@@ -11,7 +11,7 @@ use crate::plain_solver::PlainSolver;
 use elimination_order::{Care, Counts, Order};
 use factor_routes::{RoadFactors, RouteAsker, Unfactored};
 use path_algebra::{Cost, PathAlgebra};
-use path_factors::Links;
+use path_factors::{Links, Making};
 use road_graph::{InGraph, Memory, OutGraph};
 use std::alloc::Global;
 
@@ -155,7 +155,7 @@ impl<A: PathAlgebra> FactorSolver<A> {
         let Some(by_head) = &plain.by_head else {
             unreachable!()
         };
-        match RoadFactors::seek_order(alloc, cost, &plain.graph, by_head, care) {
+        match RoadFactors::seek_order(alloc, cost, &plain.graph, by_head, care, &None) {
             Ok((order, counts)) => {
                 self.links = links_for(care);
                 self.order = Some(order);
@@ -164,6 +164,7 @@ impl<A: PathAlgebra> FactorSolver<A> {
             Err(Unfactored::Memory) => return Err(Memory),
             Err(Unfactored::Dense(counts)) => self.refused = Some((cost, NoFactors::Dense(counts))),
             Err(Unfactored::Heavy) => self.refused = Some((cost, NoFactors::Heavy)),
+            Err(Unfactored::Stopped) => unreachable!(),
         }
         Ok(None)
     }
@@ -196,13 +197,15 @@ impl<A: PathAlgebra> FactorSolver<A> {
         let (Some(by_head), Some(order)) = (&plain.by_head, &self.order) else {
             unreachable!()
         };
-        match RoadFactors::by_order(alloc, cost, &plain.graph, by_head, order, self.links) {
+        let (links, stop) = (self.links, &None);
+        let making = Making { links, stop };
+        match RoadFactors::by_order(alloc, cost, &plain.graph, by_head, order, making) {
             Ok(factors) => {
                 let factored = Factored::new(alloc, factors)?;
                 self.factored = Some(factored);
             }
             Err(Unfactored::Memory) => return Err(Memory),
-            Err(Unfactored::Dense(_)) => unreachable!(),
+            Err(Unfactored::Dense(_) | Unfactored::Stopped) => unreachable!(),
             Err(Unfactored::Heavy) => self.refused = Some((cost, NoFactors::Heavy)),
         }
         Ok(())

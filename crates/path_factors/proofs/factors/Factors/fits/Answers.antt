@@ -9,12 +9,12 @@ returns-clause-fits g c =
     omega (arith, c.self.invariant.0.factor.ordering.places_count, c.vertices.ensures.count, c.len.ensures, c.if-vertices-len.false, s.places.ok.0) in
     record {
       vertices = n ∙ (λ i. (c.self.view_is i).roads.vertices);
-      arcs = c.has_edges.ensures.0 c.if-not-has_edges.false;
+      arcs = c.in_ok-has_edges.ensures.edges.0 c.if-not-has_edges.false;
     }
 
 pub returns-then-not-has_edges-clause-others : goal.returns-then-not-has_edges-clause-others
 returns-then-not-has_edges-clause-others g c = λ over.
     let S = c.args.self.now in
-    let yes : IsTrue c.has_edges.result = c.has_edges.ensures.1 (has_old_edges S.roads S.factor S.heads c.holds.ensures.outline c.args.graph.now over) in
+    let yes : IsTrue c.in_ok-has_edges.has_edges = c.in_ok-has_edges.ensures.edges.1 (has_old_edges S.roads S.factor S.heads c.holds.ensures.outline c.args.graph.now over) in
     let no = c.if-not-has_edges.true in
     absurd (cc)

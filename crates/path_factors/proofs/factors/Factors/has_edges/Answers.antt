@@ -3,8 +3,8 @@ use Rattle.path_factors.specs.Heads.{IsHead}
 use Rattle.path_factors.proofs.Joining.{joined_more}
 use Rattle.path_factors.proofs.factors.Factors.has_edges.Goals as goal
 
-pub returns-then-not-has_edges_from : goal.returns-then-not-has_edges_from
-returns-then-not-has_edges_from g c = (
+pub returns-then-not-has_edges_from-clause-edges : goal.returns-then-not-has_edges_from-clause-edges
+returns-then-not-has_edges_from-clause-edges g c = (
   λ (never : IsTrue false). absurd (cc),
   λ all.
       let yes : IsTrue c.has_edges_from.result = c.has_edges_from.ensures.1 (λ a has from. all a has) in

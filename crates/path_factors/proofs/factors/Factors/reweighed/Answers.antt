@@ -1,11 +1,13 @@
 use Rattle.path_factors.proofs.Words.{◌≡◌, ◌∙◌, List, ℕ, sym, subst, AreBlank, AreHeads, IsOutline}
+use Rattle.std.specs.Prelude.{OnOk}
+use Rattle.path_factors.specs.Reweighing.{Fits}
 use Rattle.path_factors.proofs.factors.Factors.reweighed.Goals as goal
 
-pub weigh-requires-clause-outline : goal.weigh-requires-clause-outline
-weigh-requires-clause-outline g c κs within =
+pub open-requires-clause-outline : goal.open-requires-clause-outline
+open-requires-clause-outline g c κs within =
     let S = c.args.self.now in
     let G = c.args.graph.now in
-    let fits = c.in_default.ensures.fits in
+    let fits = subst (λ r. OnOk r (Fits G S)) c.in_default.is c.in_ok-fit.ensures.fits in
     let places : c.in_ok-places.places.items ≡ S.factor.places =
     c.in_ok-places.ensures.items_if_clones_equal (λ x y is. is) ∙ c.deref.ensures.value ∙ (λ i. (c.self.view_is i).factor.places) in
     let outline : IsOutline G S.factor.places S.heads = record {
@@ -15,10 +17,10 @@ weigh-requires-clause-outline g c κs within =
     subst (λ (h : List (List ℕ)). IsOutline G c.in_ok-places.places.items h) (sym (c.in_ok-rows.ensures.leaving ∙ c.in_ok-heads.ensures))
     (subst (λ (p : List ℕ). IsOutline G p S.heads) (sym places) outline)
 
-pub weigh-requires-clause-risers : goal.weigh-requires-clause-risers
-weigh-requires-clause-risers g c κs within =
+pub open-requires-clause-risers : goal.open-requires-clause-risers
+open-requires-clause-risers g c κs within =
     subst (λ (w : g.row.A-Walk.Denot). AreBlank w c.in_ok-rows.rows.leaving) c.no_walk.ensures c.in_ok-rows.ensures.risers
 
-pub weigh-requires-clause-fallers : goal.weigh-requires-clause-fallers
-weigh-requires-clause-fallers g c κs within =
+pub open-requires-clause-fallers : goal.open-requires-clause-fallers
+open-requires-clause-fallers g c κs within =
     subst (λ (w : g.row.A-Walk.Denot). AreBlank w c.in_ok-rows.rows.entering) c.no_walk.ensures c.in_ok-rows.ensures.fallers

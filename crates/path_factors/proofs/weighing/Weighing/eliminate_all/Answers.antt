@@ -9,13 +9,13 @@ loop-v-preserved g c =
     let G = c.loop-v.self.factor in
     let H = c.eliminate.new.self.factor in
     let alg = c.loop-v.invariant.same.algebra in
-    let improves = subst (λ a. Improves (g.A.ComposingAlgebra.walks a) (k + 1) G H) alg c.eliminate.ensures.improves in
-    let closed = subst (λ a. IsClosedAt (g.A.ComposingAlgebra.walks a) H k) alg c.eliminate.ensures.closed in
+    let improves = subst (λ a. Improves (g.A.ComposingAlgebra.walks a) (k + 1) G H) alg c.in_ok-eliminate.ensures.improves in
+    let closed = subst (λ a. IsClosedAt (g.A.ComposingAlgebra.walks a) H k) alg c.in_ok-eliminate.ensures.closed in
     record {
       same = record {
-        algebra = c.eliminate.ensures.same.algebra ∙ alg;
-        roads = c.eliminate.ensures.same.roads ∙ c.loop-v.invariant.same.roads;
-        heads = c.eliminate.ensures.same.heads ∙ c.loop-v.invariant.same.heads;
+        algebra = c.in_ok-eliminate.ensures.same.algebra ∙ alg;
+        roads = c.in_ok-eliminate.ensures.same.roads ∙ c.loop-v.invariant.same.roads;
+        heads = c.in_ok-eliminate.ensures.same.heads ∙ c.loop-v.invariant.same.heads;
       };
       eliminated = eliminated_to_more C c.holds.ensures.composes.ordered c.args.self.now.factor G H k c.loop-v.invariant.eliminated improves closed;
     }

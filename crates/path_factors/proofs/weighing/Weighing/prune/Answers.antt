@@ -10,7 +10,7 @@ invariant_of-result g c =
     let C = g.A.ComposingAlgebra.walks S.algebra in
     let h = c.holds.ensures in
     let lawful = subst (λ a. IsLawful (g.A.PathAlgebra.meaning a)) (λ i. (c.self.view_is i).algebra) c.laws_hold.ensures.lawful in
-    elim c.match-links.branch [
+    elim c.match-making.branch [
       | in-All w ↦ rw (c.of.ensures, w.heads-is, w.self-inside-is)
           (subst (λ (t : FactorState g.row.A.Denot g.row.A-Walk.Denot).
           IsFactored (g.A.PathAlgebra.meaning t.algebra) (g.A.ComposingAlgebra.walks t.algebra)
@@ -25,7 +25,7 @@ invariant_of-result g c =
           (record { order = t.factor.order; places = t.factor.places; leaving = rows.leaving; entering = rows.entering }) (heads_in t.factor.leaving)
           × AreParentsTo (heads_in t.factor.leaving) t.roads.vertices t.roads.vertices c.in_ok-parents.parents.items) (sym c.self.view_is) (
             pruned_is_factored A lawful C h.composes S.factor S.roads c.requires.covers c.requires.closed h.begun h.aligned h.roads h.outline
-                rows w.in_ok-rows-in-Needed.ensures,
+                rows w.in_ok-rows-in-Needed.ensures.thin,
             c.in_ok-parents.ensures,
           ))
     ]

@@ -28,8 +28,8 @@ mark-requires-after_bounds g c κs within =
     let n : c.self.inside.graph.now.vertices ≡ c.args.self.now.roads.vertices = λ i. (c.self.view_is i).roads.vertices in
     omega (arith, n, c.loop-v-test.true, c.vertices-n.ensures.count)
 
-pub returns : goal.returns
-returns g c =
+pub returns-clause-thin : goal.returns-clause-thin
+returns-clause-thin g c =
     let S = c.args.self.now in
     let n : c.self.inside.graph.now.vertices ≡ S.roads.vertices = λ i. (c.self.view_is i).roads.vertices in
     let is : c.loop-v.v ≡ S.roads.vertices = omega (arith, n, c.loop-v-test.false, c.loop-v.auto.v-end, c.vertices-n.ensures.count) in

@@ -21,7 +21,7 @@ use std::sync::Arc;
 ///
 /// An edge that others do for may be left out. It takes 12 bytes for each vertex, 4 and those of
 /// two walks for each edge that is left, and, if some are not, 4 more for each vertex and each
-/// edge.
+/// edge. Of these, factors of other weights share all but 8 for each vertex, and what is left.
 #[derive(Drop)]
 pub struct Factors<A: ComposingAlgebra> {
     pub(crate) algebra: A,
@@ -30,26 +30,27 @@ pub struct Factors<A: ComposingAlgebra> {
     /// The place of each vertex.
     pub(crate) places: Vec<u32>,
     /// The greater places with which each place has an edge; none if each edge is left.
-    pub(crate) heads: Option<Heads>,
+    pub(crate) heads: Option<Arc<Heads>>,
     /// The parent of each place.
-    pub(crate) parents: Vec<u32>,
+    pub(crate) parents: Arc<Vec<u32>>,
     /// For each place the links to greater places and from them that are left.
     pub(crate) rows: PackedRows<A::Walk>,
 }
 
 impl<A: ComposingAlgebra> Model for Factors<A> {
     ghost use Rattle.std.specs.Arc.{arc_value};
+    ghost use Rattle.std.specs.Option.{option_map};
     ghost use Rattle.path_factors.specs.Heads.{heads_or};
     ghost use Rattle.path_factors.specs.State.{FactorState};
     ghost use Rattle.path_factors.specs.Tree.{AreParentsTo, IsFactored};
 
     ghost Value = { FactorState A A.Walk };
 
-    ghost view = { λ f. record { algebra = f.algebra; roads = f.graph.value; factor = record { order = (arc_value f.order).value.vertices.items; places = f.places.items; leaving = f.rows.leaving; entering = f.rows.entering }; heads = heads_or f.heads f.rows.leaving } };
+    ghost view = { λ f. record { algebra = f.algebra; roads = f.graph.value; factor = record { order = (arc_value f.order).value.vertices.items; places = f.places.items; leaving = f.rows.leaving; entering = f.rows.entering }; heads = heads_or (option_map arc_value f.heads) f.rows.leaving } };
 
     ghost invariant = { λ f.
-        IsFactored (A.meaning f.algebra) (A.walks f.algebra) f.graph.value (record { order = (arc_value f.order).value.vertices.items; places = f.places.items; leaving = f.rows.leaving; entering = f.rows.entering }) (heads_or f.heads f.rows.leaving)
-        × AreParentsTo (heads_or f.heads f.rows.leaving) f.graph.value.vertices f.graph.value.vertices f.parents.items };
+        IsFactored (A.meaning f.algebra) (A.walks f.algebra) f.graph.value (record { order = (arc_value f.order).value.vertices.items; places = f.places.items; leaving = f.rows.leaving; entering = f.rows.entering }) (heads_or (option_map arc_value f.heads) f.rows.leaving)
+        × AreParentsTo (heads_or (option_map arc_value f.heads) f.rows.leaving) f.graph.value.vertices f.graph.value.vertices (arc_value f.parents).items };
 }
 
 impl<A: ComposingAlgebra> Factors<A> {
@@ -97,6 +98,6 @@ impl<A: ComposingAlgebra> Factors<A> {
             (v < slice_index result.now v) × (slice_index result.now v ≤ self.now.roads.vertices) }
     {
         self.holds();
-        &self.parents
+        self.parents.as_slice()
     }
 }

@@ -1,5 +1,6 @@
 //! Edges are left out that others do for.
 ghost use Rattle.std.specs.Prelude.{◌≡◌, ◌<◌, IfErr, IfOk, IsSome, IsTrue, OnOk, length, slice_index, true};
+ghost use Rattle.std.specs.Arc.{arc_value};
 ghost use Rattle.path_factors.specs.Factors.{CoversArcs, Leads, row_of};
 ghost use Rattle.path_factors.specs.Eliminating.{AreClosedTo};
 ghost use Rattle.path_factors.specs.Heads.{heads_in};
@@ -12,8 +13,10 @@ use crate::packed::PackedRows;
 use crate::weighing::Weighing;
 use halting::{Stop, Unfinished, look_at};
 use path_algebra::{ComposingAlgebra, laws_hold};
-use std::alloc::Global;
+use road_graph::Memory;
+use std::alloc::{AllocError, Global};
 use std::snapshot::Snapshot;
+use std::sync::Arc;
 
 /// Which links a factor keeps.
 #[derive(Clone, Copy, Debug, PartialEq, Eq)]
@@ -31,6 +34,13 @@ pub struct Making<'s> {
     pub links: Links,
     /// The stop, if there is one.
     pub stop: &'s Option<Stop>,
+}
+
+/// The first owner of a value that others may share.
+fn shared<T: Drop>(alloc: Global, value: T) -> Result<Arc<T>, Memory>
+    ensures { IfOk result (λ first. arc_value first ≡ value) }
+{
+    Ok(Arc::new(alloc, value).map_err(AllocError::from)?)
 }
 
 /// Whether another edge of a place is marked and the ways over its end are no worse than an edge,
@@ -174,16 +184,20 @@ impl<'g, A: ComposingAlgebra> Weighing<'g, A> {
         ensures algebra { IfOk result (λ f. f.algebra ≡ self.entry.algebra) }
         ensures roads { IfOk result (λ f. f.roads ≡ self.entry.roads) }
         ensures order { IfOk result (λ f. f.factor.order ≡ self.entry.factor.order) }
+        ensures heads { IfOk result (λ f. f.heads ≡ heads_in self.entry.factor.leaving) }
         ensures halts { IfErr result (λ e. e ≡ Halted → IsSome making.entry.stop.now) }
     {
         self.holds();
         laws_hold(self.algebra);
         let parents = self.parents(alloc)?;
+        let parents = shared(alloc, parents)?;
         let (heads, rows) = match making.links {
             Links::All => (None, self.rows),
             Links::Needed => {
                 let rows = self.thinned(alloc, making.stop)?;
-                (Some(self.rows.into_heads()), rows)
+                let heads = self.rows.into_heads();
+                let heads = shared(alloc, heads)?;
+                (Some(heads), rows)
             }
         };
         Ok(Factors {

@@ -46,6 +46,7 @@ impl<'g, A: ComposingAlgebra> Weighing<'g, A> {
         ensures algebra { result.algebra ≡ algebra }
         ensures roads { result.roads ≡ graph.now }
         ensures order { result.factor.order ≡ (arc_value order).value.vertices.items }
+        ensures heads { heads_in result.factor.leaving ≡ heads_in rows.leaving }
     {
         composition_holds(algebra);
         let _ = rows.len();
@@ -63,6 +64,7 @@ impl<'g, A: ComposingAlgebra> Weighing<'g, A> {
         ensures algebra { IfOk result (λ w. w.algebra ≡ self.entry.algebra) }
         ensures roads { IfOk result (λ w. w.roads ≡ self.entry.roads) }
         ensures order { IfOk result (λ w. w.factor.order ≡ self.entry.factor.order) }
+        ensures heads { IfOk result (λ w. heads_in w.factor.leaving ≡ heads_in self.entry.factor.leaving) }
         ensures covers { IfOk result (λ w. CoversArcs (A.walks w.algebra) w.roads w.factor) }
         ensures closed { IfOk result (λ w. AreClosedTo (A.walks w.algebra) w.factor
             w.roads.vertices) }
@@ -93,9 +95,27 @@ impl<A: ComposingAlgebra> Factors<A> {
         Ok(heads)
     }
 
+    /// The same factor, over the heads and parents of another one, if that keeps them.
+    fn sharing(self, other: &Factors<A>) -> Result<Factors<A>, Memory>
+        requires heads { self.heads ≡ other.now.heads }
+        requires vertices { self.roads.vertices ≡ other.now.roads.vertices }
+        ensures { IfOk result (λ f. f ≡ self) }
+    {
+        let Some(heads) = &other.heads else {
+            return Ok(self);
+        };
+        let heads = Arc::try_clone(heads)?;
+        let parents = Arc::try_clone(&other.parents)?;
+        Ok(Factors {
+            heads: Some(heads),
+            parents,
+            ..self
+        })
+    }
+
     /// The factor of another graph, by the same order and over the same links: in a fraction of the
     /// time of `by_order`. Weights may change, and arcs may go, come back or have others beside them.
-    /// The order is shared, and places and links are copied.
+    /// The order is shared, and which links there are.
     ///
     /// # Errors
     /// The graph has another number of vertices, or an arc where there is no link.
@@ -128,6 +148,6 @@ impl<A: ComposingAlgebra> Factors<A> {
         let factors = Weighing::open(algebra, graph, order, places, rows)
             .weighed(stop)?
             .prune(alloc, Making { links, stop })?;
-        Ok(Ok(factors))
+        Ok(Ok(factors.sharing(self)?))
     }
 }

@@ -1,30 +1,75 @@
 -- A link is put between two places: it is worth a walk, no other got worse, and lesser rows are the
 -- same.
-use Rattle.path_factors.proofs.Words.{◌≡◌, ℕ, ◌<◌, ◌≤◌, ◌⊎◌, inl, inr, List, [], ◌∷◌, ◌++◌, refl, ap, sym, ◌∙◌, subst, arith, Some, None, IsTrue, Contains, cases_eq, GraphData, IsGraph, HasArc, arc_of, Algebra, IsOrder, Composition, IsComposition, same_no_worse, Link, FactorData, LeadsNoWorse, IsWorthOfWalk, IsClosedAt, row_of, vertex_at, AreImproved, IsBegun, Improves, LinkRows, AreEdgesImproved}
+use Rattle.path_factors.proofs.Words.{◌≡◌, ℕ, ◌-◌, ◌<◌, ◌≤◌, ◌⊎◌, inl, inr, Bool, List, [], ◌∷◌, ◌++◌, get_or, All-cons, All-nil, All-weaker, refl, ap, sym, ◌∙◌, subst, arith, Some, None, IsTrue, Contains, cases_eq, GraphData, IsGraph, HasArc, arc_of, Algebra, IsOrder, Composition, IsComposition, same_no_worse, Link, FactorData, LeadsNoWorse, IsWorthOfWalk, IsClosedOn, KeepsRest, row_of, vertex_at, AreHeads, AreImproved, Falls, IsBegun, IsHead, IsLinkUnder, IsUnder, IsWorthUnder, Improves, Leads, LinkRows, AreEdgesImproved, Rises, heads_in}
+use Rattle.std.proofs.lemmas.List.Elements.{All-append}
 use Rattle.path_factors.proofs.Offers.{applied_is}
 use Rattle.path_factors.proofs.Substitution.{IsWalk-append, Extends-append}
+use Rattle.path_factors.proofs.Trees.{ancestor_on, head_above}
 
-module _ {V W : Type 0} (A : Algebra V) (C : Composition V W) (composes : IsComposition A C) (g : GraphData) where
-  -- the worth of an arc
-  pub worth_of_arc : IsGraph g → (a : ℕ) → HasArc g a → IsWorthOfWalk A C g (arc_of g a).tail (arc_of g a).head (C.of_arc (arc_of g a).weight)
-  worth_of_arc roads a has = λ x y is e. (
-    a ∷ [],
-    (has, refl, refl),
-    (y, sym (composes.apply_arc x (arc_of g a).weight is (roads.weights a has)) ∙ e, refl),
-  )
+module _ {V W : Type 0} (A : Algebra V) (C : Composition V W) (g : GraphData) (heads : List (List ℕ)) (places : List ℕ) where
+  -- some walk is one of the graph
+  pub worth_of_walk : (x u v : ℕ) (a : W) → IsWorthUnder A C g heads places x u v a → IsWorthOfWalk A C g u v a
+  worth_of_walk x u v a worth = λ y z is e. let p = worth y z is e in (p.0, p.1, p.2)
 
-  -- the worth of none
-  pub worth_of_none : (u v : ℕ) → IsWorthOfWalk A C g u v C.no_walk
-  worth_of_none u v = λ x y is e. let bad : None ≡ Some y = sym (composes.no_walk_refused x is) ∙ e in absurd (cc)
+  -- what is under a place is under its heads
+  pub worth_above : AreHeads g.vertices heads → (x y u v : ℕ) (a : W) → IsHead heads x y → IsWorthUnder A C g heads places x u v a →
+      IsWorthUnder A C g heads places y u v a
+  worth_above are x y u v a head worth = λ z t is e.
+      let p = worth z t is e in
+      let up = head_above g.vertices heads are x y head in (
+        p.0,
+        p.1,
+        p.2,
+        All-weaker (IsUnder g heads places x) (IsUnder g heads places y) (λ b under. elim under [
+          | inl tail ↦ inl (ancestor_on g.vertices heads are (get_or places ((arc_of g b).tail - 1) 0) x y tail up)
+          | inr head ↦ inr (ancestor_on g.vertices heads are (get_or places ((arc_of g b).head - 1) 0) x y head up)
+        ]) p.0 p.3,
+      )
 
-  -- the worth of two walks, one after the other
-  pub worth_of_both : (u v w : ℕ) (a b : W) → IsWorthOfWalk A C g u v a → IsWorthOfWalk A C g v w b →
-      IsWorthOfWalk A C g u w (C.compose a b)
-  worth_of_both u v w a b first second = λ x y is e.
-      let m = applied_is C (C.apply x a) b y (sym (composes.apply_composed x a b is) ∙ e) in
-      let to = first x m.0 is m.1 in
-      let on = second m.0 y (composes.apply_is_value x a m.0 is m.1) m.2 in
-      (to.0 ++ on.0, IsWalk-append g u to.0 v on.0 w to.1 on.1, Extends-append A g x to.0 m.0 on.0 y to.2 on.2)
+  module _ (composes : IsComposition A C) where
+    -- the worth of an arc
+    pub worth_of_arc : IsGraph g → (x a : ℕ) → HasArc g a → IsUnder g heads places x a →
+        IsWorthUnder A C g heads places x (arc_of g a).tail (arc_of g a).head (C.of_arc (arc_of g a).weight)
+    worth_of_arc roads x a has under = λ y z is e. (
+      a ∷ [],
+      (has, refl, refl),
+      (z, sym (composes.apply_arc y (arc_of g a).weight is (roads.weights a has)) ∙ e, refl),
+      All-cons (IsUnder g heads places x) a [] under (All-nil (IsUnder g heads places x)),
+    )
+
+    -- the worth of none
+    pub worth_of_none : (x u v : ℕ) → IsWorthUnder A C g heads places x u v C.no_walk
+    worth_of_none x u v = λ y z is e. let bad : None ≡ Some z = sym (composes.no_walk_refused y is) ∙ e in absurd (cc)
+
+    -- the worth of two walks, one after the other
+    pub worth_of_both : (x u v w : ℕ) (a b : W) → IsWorthUnder A C g heads places x u v a → IsWorthUnder A C g heads places x v w b →
+        IsWorthUnder A C g heads places x u w (C.compose a b)
+    worth_of_both x u v w a b first second = λ y z is e.
+        let m = applied_is C (C.apply y a) b z (sym (composes.apply_composed y a b is) ∙ e) in
+        let to = first y m.0 is m.1 in
+        let on = second m.0 z (composes.apply_is_value y a m.0 is m.1) m.2 in (
+          to.0 ++ on.0,
+          IsWalk-append g u to.0 v on.0 w to.1 on.1,
+          Extends-append A g y to.0 m.0 on.0 z to.2 on.2,
+          All-append (IsUnder g heads places x) to.0 on.0 to.3 on.3,
+        )
+
+-- links that are worth walks under places are worth walks
+pub sound_of : {V W : Type 0} (A : Algebra V) (C : Composition V W) (g : GraphData) (F : FactorData W) →
+    ((x y : ℕ) (a : W) → Rises F x y a → IsLinkUnder A C g F x x y a) → ((x y : ℕ) (a : W) → Falls F x y a → IsLinkUnder A C g F y x y a) →
+    (x y : ℕ) (a : W) → Leads F x y a → IsWorthOfWalk A C g (vertex_at F x) (vertex_at F y) a
+sound_of A C g F rising falling x y a leads = elim leads [
+  | inl rises ↦ worth_of_walk A C g (heads_in F.leaving) F.places x (vertex_at F x) (vertex_at F y) a (rising x y a rises)
+  | inr falls ↦ worth_of_walk A C g (heads_in F.leaving) F.places y (vertex_at F x) (vertex_at F y) a (falling x y a falls)
+]
+
+-- what is kept twice is kept
+pub rest_more : {W : Type 0} (Is : ℕ → Type 0) (F G H : FactorData W) → KeepsRest Is F G → KeepsRest Is G H → KeepsRest Is F H
+rest_more Is F G H first second = λ i other. let a = first i other in let b = second i other in (b.0 ∙ a.0, b.1 ∙ a.1)
+
+-- what only such rows may change, others may not
+pub rest_weaker : {W : Type 0} (Is More : ℕ → Type 0) (F G : FactorData W) → ((i : ℕ) → Is i → More i) → KeepsRest Is F G → KeepsRest More F G
+rest_weaker Is More F G more kept = λ i other. kept i (λ is. other (more i is))
 
 module _ {V W : Type 0} (C : Composition V W) (ordered : IsOrder C.no_worse) where
   same : (a : W) → IsTrue (C.no_worse a a)
@@ -87,24 +132,24 @@ module _ {V W : Type 0} (C : Composition V W) (ordered : IsOrder C.no_worse) whe
   }
 
   -- links that are closed at a place stay so while its row is the same
-  pub stays_closed : (low : ℕ) (F G : FactorData W) → Improves C low F G → (v : ℕ) → v < low → IsClosedAt C F v → IsClosedAt C G v
-  stays_closed low F G improves v h closed = λ x y a b falls rises other.
+  pub stays_closed : (marks : List Bool) (low : ℕ) (F G : FactorData W) → Improves C low F G → (v : ℕ) → v < low → IsClosedOn C marks F v → IsClosedOn C marks G v
+  stays_closed marks low F G improves v h closed = λ x y a b falls rises other on.
       still_leads low F G improves x y (C.compose a b)
       (closed x y a b
       (subst (λ (r : List (Link W)). Contains r (record { place = x; walk = a })) (improves.entering v h) falls)
-      (subst (λ (r : List (Link W)). Contains r (record { place = y; walk = b })) (improves.leaving v h) rises) other)
+      (subst (λ (r : List (Link W)). Contains r (record { place = y; walk = b })) (improves.leaving v h) rises) other on)
 
   -- both ways between a lesser place and a greater one
   module _ (A : Algebra V) (g : GraphData) (F : FactorData W) (begun : IsBegun A C g F) (x y : ℕ) (there back : W)
-      (onward : IsWorthOfWalk A C g (vertex_at F x) (vertex_at F y) there) (homeward : IsWorthOfWalk A C g (vertex_at F y) (vertex_at F x) back)
-      (less : x < y) (low : y < g.vertices) (rows : LinkRows W)
+      (onward : IsLinkUnder A C g F x x y there) (homeward : IsLinkUnder A C g F x y x back)
+      (less : x < y) (low : y < g.vertices) (rows : LinkRows W) (same_heads : heads_in rows.leaving ≡ heads_in F.leaving)
       (improved : AreEdgesImproved C (record { leaving = F.leaving; entering = F.entering }) x (record { place = y; leaving = there; entering = back }) rows) where
-    is_worth : (p u q v : ℕ) (b a : W) → p ≡ u → q ≡ v → b ≡ a → IsWorthOfWalk A C g (vertex_at F u) (vertex_at F v) a →
-        IsWorthOfWalk A C g (vertex_at F p) (vertex_at F q) b
-    is_worth p u q v b a from to walk worth =
-        subst (λ (w : W). IsWorthOfWalk A C g (vertex_at F p) (vertex_at F q) w) (sym walk)
-        (subst (λ (j : ℕ). IsWorthOfWalk A C g (vertex_at F p) (vertex_at F j) a) (sym to)
-        (subst (λ (j : ℕ). IsWorthOfWalk A C g (vertex_at F j) (vertex_at F v) a) (sym from) worth))
+    is_worth : (l k p u q v : ℕ) (b a : W) → l ≡ k → p ≡ u → q ≡ v → b ≡ a → IsLinkUnder A C g F k u v a → IsLinkUnder A C g F l p q b
+    is_worth l k p u q v b a under from to walk worth =
+        subst (λ (w : W). IsLinkUnder A C g F l p q w) (sym walk)
+        (subst (λ (j : ℕ). IsLinkUnder A C g F l p j a) (sym to)
+        (subst (λ (j : ℕ). IsLinkUnder A C g F l j v a) (sym from)
+        (subst (λ (j : ℕ). IsLinkUnder A C g F j u v a) (sym under) worth)))
 
     abbrev riser : Link W
     riser = record { place = y; walk = there }
@@ -114,6 +159,22 @@ module _ {V W : Type 0} (C : Composition V W) (ordered : IsOrder C.no_worse) whe
 
     abbrev whole : FactorData W
     whole = record { order = F.order; places = F.places; leaving = rows.leaving; entering = rows.entering }
+
+    still_under : (l p q : ℕ) (b : W) → IsLinkUnder A C g F l p q b → IsLinkUnder A C g whole l p q b
+    still_under l p q b worth =
+        subst (λ (h : List (List ℕ)). IsWorthUnder A C g h F.places l (vertex_at F p) (vertex_at F q) b) (sym same_heads) worth
+
+    both_rising : (p q : ℕ) (b : W) → Rises whole p q b → IsLinkUnder A C g whole p p q b
+    both_rising p q b c = still_under p p q b (elim (given_at F.leaving rows.leaving x riser improved.leaving p (record { place = q; walk = b }) c) [
+      | inl old ↦ begun.rising p q b old
+      | inr new ↦ is_worth p x p x q y b there new.0 new.0 new.1 new.2 onward
+    ])
+
+    both_falling : (p q : ℕ) (b : W) → Falls whole p q b → IsLinkUnder A C g whole q p q b
+    both_falling p q b c = still_under q p q b (elim (given_at F.entering rows.entering x faller improved.entering q (record { place = p; walk = b }) c) [
+      | inl old ↦ begun.falling p q b old
+      | inr new ↦ is_worth q x p y q x b back new.0 new.1 new.0 new.2 homeward
+    ])
 
     pub both_begun : IsBegun A C g whole
     both_begun = record {
@@ -129,17 +190,10 @@ module _ {V W : Type 0} (C : Composition V W) (ordered : IsOrder C.no_worse) whe
           | inl old ↦ begun.links.falling p q b old
           | inr new ↦ (omega (arith, new.0, new.1, less), omega (arith, new.1, low))
         ];
-        sound = λ p q b l. elim l [
-          | inl c ↦ elim (given_at F.leaving rows.leaving x riser improved.leaving p (record { place = q; walk = b }) c) [
-            | inl old ↦ begun.links.sound p q b (inl old)
-            | inr new ↦ is_worth p x q y b there new.0 new.1 new.2 onward
-          ]
-          | inr c ↦ elim (given_at F.entering rows.entering x faller improved.entering q (record { place = p; walk = b }) c) [
-            | inl old ↦ begun.links.sound p q b (inr old)
-            | inr new ↦ is_worth p y q x b back new.1 new.0 new.2 homeward
-          ]
-        ];
+        sound = sound_of A C g whole both_rising both_falling;
       };
+      rising = both_rising;
+      falling = both_falling;
     }
 
     pub both_improve : (least : ℕ) → least ≤ x → Improves C least F whole

@@ -1,21 +1,25 @@
 -- The elimination of a place, edge by edge.
-use Rattle.path_factors.proofs.Words.{◌≡◌, ℕ, ◌+◌, ◌<◌, ◌≤◌, inl, inr, List, length, get_or, ap, sym, ◌∙◌, subst, arith, Contains, cases_eq, cases_lt, get_or_default, get_or-map, length-map, IsOrder, Composition, Link, Edge, FactorData, Rises, Falls, LeadsNoWorse, IsClosedAt, row_of, Improves, AreClosedTo, rising, falling, AreAligned, IsEdgeAt, AreJoined}
-use Rattle.path_factors.proofs.Connecting.{still_leads, improves_none, improves_more, improves_lower, stays_closed}
+use Rattle.path_factors.proofs.Words.{◌≡◌, ℕ, ◌+◌, ◌<◌, ◌≤◌, inl, inr, Bool, true, is_on, List, length, get_or, refl, ap, sym, ◌∙◌, subst, arith, Contains, cases_eq, cases_lt, get_or_default, get_or-map, length-map, IsOrder, Composition, Link, Edge, FactorData, IsStrictlyIncreasing, heads_in, head_at, row_heads_count, Rises, Falls, LeadsNoWorse, IsClosedOn, KeepsRest, row_of, Improves, rising, falling, AreAligned, IsEdgeAt, AreJoined}
+use Rattle.path_factors.proofs.Connecting.{still_leads, improves_none, improves_more, improves_lower, rest_more, stays_closed}
+use Rattle.path_factors.proofs.HeadRows.{rises_between}
 
--- the edge at index i was joined with those after it, up to index j
-pub record Passed {V W : Type 0} (C : Composition V W) (v i : ℕ) (F G : FactorData W) (j : ℕ) : Type 0 where
+-- the edge at index i was joined with those after it, up to index j, and only such rows were changed
+pub record Passed {V W : Type 0} (C : Composition V W) (Is : ℕ → Type 0) (v i : ℕ) (F G : FactorData W) (j : ℕ) : Type 0 where
   pub improves : Improves C (v + 1) F G
+  pub rest : KeepsRest Is F G
   pub joined : (q : ℕ) (e f : Edge W) → i < q → q < j → IsEdgeAt F v i e → IsEdgeAt F v q f → AreJoined C G e f
 
--- the first i edges of v were joined with each after them
-pub record Eliminated {V W : Type 0} (C : Composition V W) (v : ℕ) (F G : FactorData W) (i : ℕ) : Type 0 where
+-- those of the first i edges of v whose heads are marked were joined with each after them
+pub record Eliminated {V W : Type 0} (C : Composition V W) (marks : List Bool) (v : ℕ) (F G : FactorData W) (i : ℕ) : Type 0 where
   pub improves : Improves C (v + 1) F G
-  pub joined : (p q : ℕ) (e f : Edge W) → p < i → p < q → IsEdgeAt F v p e → IsEdgeAt F v q f → AreJoined C G e f
+  pub rest : KeepsRest (λ z. is_on marks z ≡ true) F G
+  pub joined : (p q : ℕ) (e f : Edge W) → p < i → p < q → IsEdgeAt F v p e → IsEdgeAt F v q f → is_on marks e.place ≡ true → AreJoined C G e f
 
 -- each place below k was eliminated
-pub record EliminatedTo {V W : Type 0} (C : Composition V W) (F G : FactorData W) (k : ℕ) : Type 0 where
+pub record EliminatedTo {V W : Type 0} (C : Composition V W) (marks : List Bool) (F G : FactorData W) (k : ℕ) : Type 0 where
   pub improves : Improves C 0 F G
-  pub closed : AreClosedTo C G k
+  pub rest : KeepsRest (λ z. is_on marks z ≡ true) F G
+  pub closed : (v : ℕ) → v < k → IsClosedOn C marks G v
 
 module _ {W : Type 0} where
   -- the same edge in the same rows
@@ -95,9 +99,10 @@ module _ {V W : Type 0} (C : Composition V W) (ordered : IsOrder C.no_worse) whe
   )
 
   module _ (v : ℕ) where
-    pub passed_none : (i : ℕ) (F : FactorData W) → Passed C v i F F (i + 1)
-    passed_none i F = record {
+    pub passed_none : (Is : ℕ → Type 0) (i : ℕ) (F : FactorData W) → Passed C Is v i F F (i + 1)
+    passed_none Is i F = record {
       improves = improves_none C ordered (v + 1) F;
+      rest = λ z other. (refl, refl);
       joined = λ q e f less low at also. absurd (omega (arith, less, low));
     }
 
@@ -110,11 +115,12 @@ module _ {V W : Type 0} (C : Composition V W) (ordered : IsOrder C.no_worse) whe
     edge_back F G improves j e at =
         edge_same G F v j e (sym (improves.leaving v (omega arith))) (sym (improves.entering v (omega arith))) at
 
-    pub passed_more : (i : ℕ) (F G H : FactorData W) (j : ℕ) (first second : Edge W) → Passed C v i F G j →
-        IsEdgeAt F v i first → IsEdgeAt G v j second → Improves C (v + 1) G H → AreJoined C H first second →
-        Passed C v i F H (j + 1)
-    passed_more i F G H j first second done at_i at_j improves joined = record {
+    pub passed_more : (Is : ℕ → Type 0) (i : ℕ) (F G H : FactorData W) (j : ℕ) (first second : Edge W) → Passed C Is v i F G j →
+        IsEdgeAt F v i first → IsEdgeAt G v j second → Improves C (v + 1) G H → KeepsRest Is G H → AreJoined C H first second →
+        Passed C Is v i F H (j + 1)
+    passed_more Is i F G H j first second done at_i at_j improves rest joined = record {
       improves = improves_more C ordered (v + 1) F G H done.improves improves;
+      rest = rest_more Is F G H done.rest rest;
       joined = λ q e f less low at also. elim (cases_lt q j) [
         | inl before ↦ still_joined (v + 1) G H improves e f (done.joined q e f less before at also)
         | inr not_before ↦
@@ -125,23 +131,25 @@ module _ {V W : Type 0} (C : Composition V W) (ordered : IsOrder C.no_worse) whe
       ];
     }
 
-    pub eliminated_more : (F G H : FactorData W) (i : ℕ) → Eliminated C v F G i → Improves C (v + 1) G H →
-        ((j : ℕ) (e f : Edge W) → i < j → IsEdgeAt G v i e → IsEdgeAt G v j f → AreJoined C H e f) →
-        Eliminated C v F H (i + 1)
-    eliminated_more F G H i done improves passed = record {
+    pub eliminated_more : (marks : List Bool) (F G H : FactorData W) (i : ℕ) → Eliminated C marks v F G i → Improves C (v + 1) G H →
+        KeepsRest (λ z. is_on marks z ≡ true) G H →
+        ((j : ℕ) (e f : Edge W) → i < j → IsEdgeAt G v i e → IsEdgeAt G v j f → is_on marks e.place ≡ true → AreJoined C H e f) →
+        Eliminated C marks v F H (i + 1)
+    eliminated_more marks F G H i done improves rest passed = record {
       improves = improves_more C ordered (v + 1) F G H done.improves improves;
-      joined = λ p q e f low less at also. elim (cases_lt p i) [
-        | inl before ↦ still_joined (v + 1) G H improves e f (done.joined p q e f before less at also)
+      rest = rest_more (λ z. is_on marks z ≡ true) F G H done.rest rest;
+      joined = λ p q e f low less at also on. elim (cases_lt p i) [
+        | inl before ↦ still_joined (v + 1) G H improves e f (done.joined p q e f before less at also on)
         | inr not_before ↦
             let is : p ≡ i = omega (arith, not_before, low) in
             let here : IsEdgeAt F v i e = subst (λ (k : ℕ). IsEdgeAt F v k e) is at in
-            passed q e f (omega (arith, is, less)) (edge_kept F G done.improves i e here) (edge_kept F G done.improves q f also)
+            passed q e f (omega (arith, is, less)) (edge_kept F G done.improves i e here) (edge_kept F G done.improves q f also) on
       ];
     }
 
-    pub eliminated_all : (F G : FactorData W) → AreAligned F.leaving F.entering → (i : ℕ) → Eliminated C v F G i →
-        length (row_of F.leaving v) ≤ i → IsClosedAt C G v
-    eliminated_all F G aligned i done all = λ x y a b falls rises other.
+    pub eliminated_all : (marks : List Bool) (F G : FactorData W) → AreAligned F.leaving F.entering → IsStrictlyIncreasing (row_of (heads_in F.leaving) v) → (i : ℕ) →
+        Eliminated C marks v F G i → length (row_of F.leaving v) ≤ i → IsClosedOn C marks G v
+    eliminated_all marks F G aligned up i done all = λ x y a b falls rises other on.
         let before : Falls F x v a = subst (λ (r : List (Link W)). Contains r (record { place = x; walk = a })) (done.improves.entering v (omega arith)) falls in
         let onward : Rises F v y b = subst (λ (r : List (Link W)). Contains r (record { place = y; walk = b })) (done.improves.leaving v (omega arith)) rises in
         let e = edge_of_faller F aligned v x a before in
@@ -149,29 +157,42 @@ module _ {V W : Type 0} (C : Composition V W) (ordered : IsOrder C.no_worse) whe
         let from : e.0.place ≡ x = ap (λ (l : Link W). l.place) e.2 in
         let to : f.0.place ≡ y = ap (λ (l : Link W). l.place) f.2 in
         let apart : e.0.place ≡ f.0.place → ⊥ = λ is. other (sym from ∙ is ∙ to) in
+        let ascends : (p q : ℕ) (c d : Edge W) → p < q → IsEdgeAt F v p c → IsEdgeAt F v q d → c.place < d.place =
+        λ p q c d less at also.
+        let n = row_heads_count F.leaving v in
+        let one = head_at F.leaving v p (rising c) at.leaving_inside at.rises in
+        let two = head_at F.leaving v q (rising d) also.leaving_inside also.rises in
+        let h = rises_between (row_of (heads_in F.leaving) v) up p q less (omega (arith, n, also.leaving_inside)) in
+        omega (arith, h, one, two) in
         let leads : LeadsNoWorse C G e.0.place f.0.place (C.compose e.0.entering f.0.leaving) =
         elim (cases_lt before.0 onward.0) [
           | inl less ↦
-              (done.joined before.0 onward.0 e.0 f.0 (omega (arith, e.1.leaving_inside, all)) less e.1 f.1 apart).0
+              let lesser = ascends before.0 onward.0 e.0 f.0 less e.1 f.1 in
+              let marked = subst (λ (z : ℕ). is_on marks z ≡ true) (sym from) (on.0 (omega (arith, lesser, from, to))) in
+              (done.joined before.0 onward.0 e.0 f.0 (omega (arith, e.1.leaving_inside, all)) less e.1 f.1 marked apart).0
           | inr not_less ↦ elim (cases_eq before.0 onward.0) [
             | inl is ↦
                 let here : IsEdgeAt F v onward.0 e.0 = subst (λ (k : ℕ). IsEdgeAt F v k e.0) is e.1 in
                 absurd (apart (ap (λ (k : Edge W). k.place) (edge_unique F v onward.0 e.0 f.0 here f.1)))
             | inr differ ↦
-                (done.joined onward.0 before.0 f.0 e.0 (omega (arith, f.1.leaving_inside, all)) (omega (arith, not_less, differ)) f.1 e.1 (λ is. apart (sym is))).1
+                let less : onward.0 < before.0 = omega (arith, not_less, differ) in
+                let lesser = ascends onward.0 before.0 f.0 e.0 less f.1 e.1 in
+                let marked = subst (λ (z : ℕ). is_on marks z ≡ true) (sym to) (on.1 (omega (arith, lesser, from, to))) in
+                (done.joined onward.0 before.0 f.0 e.0 (omega (arith, f.1.leaving_inside, all)) less f.1 e.1 marked (λ is. apart (sym is))).1
           ]
         ] in
         subst (λ (l : Link W). LeadsNoWorse C G l.place y (C.compose l.walk b)) e.2
         (subst (λ (l : Link W). LeadsNoWorse C G e.0.place l.place (C.compose e.0.entering l.walk)) f.2 leads)
 
-  pub eliminated_to_more : (F G H : FactorData W) (k : ℕ) → EliminatedTo C F G k → Improves C (k + 1) G H → IsClosedAt C H k →
-      EliminatedTo C F H (k + 1)
-  eliminated_to_more F G H k done improves closed = record {
+  pub eliminated_to_more : (marks : List Bool) (F G H : FactorData W) (k : ℕ) → EliminatedTo C marks F G k → Improves C (k + 1) G H →
+      KeepsRest (λ z. is_on marks z ≡ true) G H → IsClosedOn C marks H k → EliminatedTo C marks F H (k + 1)
+  eliminated_to_more marks F G H k done improves rest closed = record {
     improves = improves_more C ordered 0 F G H done.improves (improves_lower C ordered (k + 1) 0 G H (omega arith) improves);
+    rest = rest_more (λ z. is_on marks z ≡ true) F G H done.rest rest;
     closed = λ v low. elim (cases_lt v k) [
-      | inl before ↦ stays_closed C ordered (k + 1) G H improves v low (done.closed v before)
+      | inl before ↦ stays_closed C ordered marks (k + 1) G H improves v low (done.closed v before)
       | inr not_before ↦
           let at_k : v ≡ k = omega (arith, not_before, low) in
-          subst (λ (u : ℕ). IsClosedAt C H u) (sym at_k) closed
+          subst (λ (u : ℕ). IsClosedOn C marks H u) (sym at_k) closed
     ];
   }

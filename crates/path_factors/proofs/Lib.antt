@@ -8,6 +8,8 @@ pub mod Improving
 pub mod Connecting
 pub mod Eliminating
 pub mod Loading
+pub mod Whole
+pub mod FewWeights
 pub mod Packing
 pub mod HeadRows
 pub mod Setting

@@ -1,10 +1,10 @@
 -- A link of packed rows is replaced, and rows without walks.
-use Rattle.path_factors.proofs.Words.{◌≡◌, ℕ, zero, suc, ◌+◌, ◌-◌, ◌<◌, ◌≤◌, inl, inr, List, [], ◌∷◌, length, take, drop, get_or, set, refl, ap, sym, ◌∙◌, subst, arith, All, cases_lt, Algebra, IsOrder, Composition, IsComposition, GraphData, Link, Edge, ArePlaces, IsWorthOfWalk, row_of, IsImproved, AreImproved, IsBegun, LinkRows, AreBlank, AreEdgesImproved, better_walk, rising, falling, links_of, rows_between, ArePacked, ArePackedBothWays, packed_rows, AreHeads, IsHead, heads_in}
+use Rattle.path_factors.proofs.Words.{◌≡◌, ℕ, zero, suc, ◌+◌, ◌-◌, ◌<◌, ◌≤◌, ◌⊎◌, inl, inr, Bool, true, false, Contains, cases_eq, get_or_past, get_or-set_same, get_or-set_other, length-set, heads_packed, is_on, row_heads_count, AreBlanked, IsBlankedTo, IsReplaced, List, [], ◌∷◌, length, take, drop, get_or, set, refl, ap, sym, ◌∙◌, subst, arith, All, cases_lt, Algebra, IsOrder, Composition, IsComposition, GraphData, Link, Edge, ArePlaces, FactorData, Falls, IsLinkUnder, IsWorthUnder, Rises, row_of, IsImproved, AreImproved, IsBegun, LinkRows, AreBlank, AreEdgesImproved, better_walk, rising, falling, links_of, rows_between, ArePacked, ArePackedBothWays, packed_rows, AreHeads, IsHead, heads_in}
 use Rattle.std.proofs.lemmas.List.{get_or_default, drop-set-lt, drop-set-add, take-set-le}
 use Rattle.std.proofs.lemmas.List.Elements.{All-nil, All-cons, All-head, All-tail, All-contains}
 use Rattle.std.proofs.Math.Seq.{take-set-lt}
 use Rattle.path_factors.proofs.Improving.{improved_better}
-use Rattle.path_factors.proofs.Connecting.{worth_of_none}
+use Rattle.path_factors.proofs.Connecting.{sound_of, worth_of_none}
 use Rattle.path_factors.proofs.HeadRows.{head_at, heads_count, head_of_link}
 use Rattle.path_factors.proofs.Packing.{link_at, rows_count, row_past, row_all, row_between, row_count, row_link, packed_links, row_inside, start_is, riser_inside, riser_at}
 
@@ -117,29 +117,35 @@ module _ {W : Type 0} where
       All-contains (λ (k : Link W). k.walk ≡ none) (row_of (rows_between starts (links_of places walks)) i) k
       (row_all (λ (k : Link W). k.walk ≡ none) starts (links_of places walks) (blank_links places walks none all) i) c
 
+-- links at heads that are worth walks
+pub begun_of : {V W : Type 0} (A : Algebra V) (C : Composition V W) (g : GraphData) (F : FactorData W) → ArePlaces g.vertices F.order F.places →
+    AreHeads g.vertices (heads_in F.leaving) → heads_in F.entering ≡ heads_in F.leaving →
+    ((x y : ℕ) (a : W) → Rises F x y a → IsLinkUnder A C g F x x y a) → ((x y : ℕ) (a : W) → Falls F x y a → IsLinkUnder A C g F y x y a) → IsBegun A C g F
+begun_of A C g F are heads same rising falling = record {
+  ordering = are;
+  links = record {
+    leaving_count = sym (heads_count F.leaving) ∙ heads.count;
+    entering_count = sym (heads_count F.entering) ∙ ap length same ∙ heads.count;
+    rising = λ x y a h. heads.rising x y (head_of_link F.leaving x (record { place = y; walk = a }) h);
+    falling = λ x y a h.
+        heads.rising y x (subst (λ (r : List (List ℕ)). IsHead r y x) same (head_of_link F.entering y (record { place = x; walk = a }) h));
+    sound = sound_of A C g F rising falling;
+  };
+  rising = rising;
+  falling = falling;
+}
+
 -- links without walks are worth walks
 pub begun_blank : {V W : Type 0} (A : Algebra V) (C : Composition V W) → IsComposition A C → (g : GraphData) (order places : List ℕ) → ArePlaces g.vertices order places →
     (rows : LinkRows W) → AreHeads g.vertices (heads_in rows.leaving) → heads_in rows.entering ≡ heads_in rows.leaving →
     AreBlank C.no_walk rows.leaving → AreBlank C.no_walk rows.entering →
     IsBegun A C g (record { order = order; places = places; leaving = rows.leaving; entering = rows.entering })
-begun_blank {W = W} A C composes g order places are rows heads same risers fallers = record {
-  ordering = are;
-  links = record {
-    leaving_count = sym (heads_count rows.leaving) ∙ heads.count;
-    entering_count = sym (heads_count rows.entering) ∙ ap length same ∙ heads.count;
-    rising = λ x y a h. heads.rising x y (head_of_link rows.leaving x (record { place = y; walk = a }) h);
-    falling = λ x y a h.
-        heads.rising y x (subst (λ (r : List (List ℕ)). IsHead r y x) same (head_of_link rows.entering y (record { place = x; walk = a }) h));
-    sound = λ x y a l. elim l [
-      | inl h ↦
-          subst (λ (w : W). IsWorthOfWalk A C g (get_or order x 0) (get_or order y 0) w) (sym (risers x (record { place = y; walk = a }) h))
-          (worth_of_none A C composes g (get_or order x 0) (get_or order y 0))
-      | inr h ↦
-          subst (λ (w : W). IsWorthOfWalk A C g (get_or order x 0) (get_or order y 0) w) (sym (fallers y (record { place = x; walk = a }) h))
-          (worth_of_none A C composes g (get_or order x 0) (get_or order y 0))
-    ];
-  };
-}
+begun_blank {W = W} A C composes g order places are rows heads same risers fallers =
+    let F : FactorData W = record { order = order; places = places; leaving = rows.leaving; entering = rows.entering } in
+    let none : (x u v : ℕ) → IsWorthUnder A C g (heads_in rows.leaving) places x u v C.no_walk = worth_of_none A C g (heads_in rows.leaving) places composes in
+    begun_of A C g F are heads same
+    (λ x y a h. subst (λ (w : W). IsLinkUnder A C g F x x y w) (sym (risers x (record { place = y; walk = a }) h)) (none x (get_or order x 0) (get_or order y 0)))
+    (λ x y a h. subst (λ (w : W). IsLinkUnder A C g F y x y w) (sym (fallers y (record { place = x; walk = a }) h)) (none y (get_or order x 0) (get_or order y 0)))
 
 -- the walk of a link in packed rows is made no worse, if s is where its row begins
 pub walk_improved : {V W : Type 0} (starts places : List ℕ) (walks : List W) (n : length walks ≡ length places) → ArePacked starts places →
@@ -187,3 +193,96 @@ edge_improved {V} {W} {starts} {places} {leaving} {entering} packed {rows} view 
       entering = subst (λ (r : LinkRows W). AreImproved C r.entering i (falling e) (rows_between starts (links_of places (set entering (s + j) d)))) view
           (walk_improved starts places entering f packed.packed i lt s start j falls low C ordered (falling e) is_e b is_b d is_d);
     }
+
+-- the walk of a link in packed rows is replaced, if s is where its row begins
+pub walk_replaced : {W : Type 0} (starts places : List ℕ) (walks : List W) (n : length walks ≡ length places) → ArePacked starts places →
+    (i : ℕ) (lt : i + 1 < length starts) (s : ℕ) → s ≡ get_or starts i 0 → (j : ℕ) (low : j < length (row_of (rows_between starts (links_of places walks)) i)) →
+    s + j < length places → (a : W) →
+    IsReplaced a i j (rows_between starts (links_of places walks)) (rows_between starts (links_of places (set walks (s + j) a)))
+walk_replaced {W = W} starts places walks n packed i lt s start j low inside a =
+    let links = links_of places walks in
+    let p = get_or places (s + j) 0 in
+    let l : Link W = record { place = p; walk = a } in
+    let pk = packed_links starts places walks n packed in
+    let is : rows_between starts (links_of places (set walks (s + j) a)) ≡ rows_between starts (set links (get_or starts i 0 + j) l) =
+    ap (rows_between starts) (links-set places walks (s + j) p a n inside (get_or_default places (s + j) 0 p inside) ∙ ap (λ (q : ℕ). set links (q + j) l) start) in
+    let row : row_of (rows_between starts (links_of places (set walks (s + j) a))) i ≡ set (row_of (rows_between starts links) i) j l =
+    ap (λ (r : List (List (Link W))). row_of r i) is ∙ set_row starts links pk i lt j low l in
+    let m = length-set walks (s + j) a in
+    record {
+      heads = heads_packed starts places (set walks (s + j) a) (omega (arith, m, n)) ∙ sym (heads_packed starts places walks n);
+      others = λ q other. ap (λ (r : List (List (Link W))). row_of r q) is ∙ set_others starts links pk i lt j low l q other;
+      here = λ d. ap (λ (r : List (Link W)). (get_or r j d).walk) row ∙ ap (λ (k : Link W). k.walk) (get_or-set_same (row_of (rows_between starts links) i) j l d low);
+      rest = λ q d other. ap (λ (r : List (Link W)). get_or r q d) row ∙ get_or-set_other (row_of (rows_between starts links) i) j q l d other;
+    }
+
+module _ {W : Type 0} (none : W) (i : ℕ) (F : List (List (Link W))) where
+  pub blanked_none : IsBlankedTo none i 0 F F
+  blanked_none = record { heads = refl; others = λ q other. refl; blank = λ m k low. absurd (omega (arith, low)) }
+
+  pub blanked_more : (j : ℕ) (G H : List (List (Link W))) → IsBlankedTo none i j F G → IsReplaced none i j G H → IsBlankedTo none i (j + 1) F H
+  blanked_more j G H done more = record {
+    heads = more.heads ∙ done.heads;
+    others = λ q other. more.others q other ∙ done.others q other;
+    blank = λ m k low. elim (cases_eq m j) [
+      | inl is ↦ ap (λ (q : ℕ). (get_or (row_of H i) q k).walk) is ∙ more.here k
+      | inr other ↦ ap (λ (l : Link W). l.walk) (more.rest m k other) ∙ done.blank m k (omega (arith, low, other))
+    ];
+  }
+
+  -- a row keeps its length
+  pub row_kept : (G : List (List (Link W))) → heads_in G ≡ heads_in F → length (row_of G i) ≡ length (row_of F i)
+  row_kept G same = sym (row_heads_count G i) ∙ ap (λ (h : List (List ℕ)). length (row_of h i)) same ∙ row_heads_count F i
+
+  pub rows_kept : (G : List (List (Link W))) → heads_in G ≡ heads_in F → length G ≡ length F
+  rows_kept G same = sym (heads_count G) ∙ ap length same ∙ heads_count F
+
+-- the first k rows have no walks if they are marked, and the others are the same
+pub record BlankedTo {W : Type 0} (none : W) (marks : List Bool) (F G : List (List (Link W))) (k : ℕ) : Type 0 where
+  pub heads : heads_in G ≡ heads_in F
+  pub rest : (i : ℕ) → (is_on marks i ≡ false) ⊎ (k ≤ i) → row_of G i ≡ row_of F i
+  pub blank : (i : ℕ) (l : Link W) → is_on marks i ≡ true → i < k → Contains (row_of G i) l → l.walk ≡ none
+
+module _ {W : Type 0} (none : W) (marks : List Bool) (F : List (List (Link W))) where
+  pub rows_none : BlankedTo none marks F F 0
+  rows_none = record { heads = refl; rest = λ i h. refl; blank = λ i l on low c. absurd (omega (arith, low)) }
+
+  pub rows_unmarked : (k : ℕ) (G : List (List (Link W))) → BlankedTo none marks F G k → is_on marks k ≡ false → BlankedTo none marks F G (k + 1)
+  rows_unmarked k G done off = record {
+    heads = done.heads;
+    rest = λ i h. elim h [
+      | inl not ↦ done.rest i (inl not)
+      | inr past ↦ done.rest i (inr (omega (arith, past)))
+    ];
+    blank = λ i l on low c. elim (cases_eq i k) [
+      | inl is ↦ let bad : true ≡ false = sym on ∙ ap (is_on marks) is ∙ off in absurd (cc)
+      | inr other ↦ done.blank i l on (omega (arith, low, other)) c
+    ];
+  }
+
+  pub rows_marked : (k n : ℕ) (G H : List (List (Link W))) → BlankedTo none marks F G k → is_on marks k ≡ true → IsBlankedTo none k n G H →
+      length (row_of G k) ≤ n → BlankedTo none marks F H (k + 1)
+  rows_marked k n G H done on more all = record {
+    heads = more.heads ∙ done.heads;
+    rest = λ i h. elim h [
+      | inl off ↦ more.others i (λ is. let bad : true ≡ false = sym on ∙ ap (is_on marks) (sym is) ∙ off in absurd (cc)) ∙ done.rest i (inl off)
+      | inr past ↦ more.others i (λ is. omega (arith, past, is)) ∙ done.rest i (inr (omega (arith, past)))
+    ];
+    blank = λ i l is_marked low c. elim (cases_eq i k) [
+      | inl is ↦
+          let here : Contains (row_of H k) l = subst (λ (q : ℕ). Contains (row_of H q) l) is c in
+          let size = row_kept none k G H more.heads in
+          ap (λ (q : Link W). q.walk) (sym here.2) ∙ more.blank here.0 l (omega (arith, here.1, size, all))
+      | inr other ↦ done.blank i l is_marked (omega (arith, low, other)) (subst (λ (r : List (Link W)). Contains r l) (more.others i other) c)
+    ];
+  }
+
+  pub rows_all : (k : ℕ) (G : List (List (Link W))) → BlankedTo none marks F G k → length marks ≤ k → AreBlanked none marks F G
+  rows_all k G done all = record {
+    heads = done.heads;
+    rest = λ i off. done.rest i (inl off);
+    blank = λ i l on c. elim (cases_lt i (length marks)) [
+      | inl low ↦ done.blank i l on (omega (arith, low, all)) c
+      | inr past ↦ let bad : true ≡ false = sym on ∙ get_or_past marks i false (omega (arith, past)) in absurd (cc)
+    ];
+  }

@@ -1,5 +1,5 @@
 -- The tree of an elimination: the parent of a place is its first head.
-use Rattle.path_factors.proofs.Words.{◌≡◌, ℕ, zero, suc, ◌+◌, ◌<◌, ◌≤◌, ◌⊎◌, inl, inr, List, [], ◌∷◌, ◌++◌, length, get_or, refl, ap, sym, ◌∙◌, subst, arith, IsStrictlyIncreasing, cases_lt, get_or_append_left, get_or_default, get_or_push, length-append, row_of, AreHeads, AreParentsTo, IsTreeParent, IsUp, IsAncestor, first_is_least}
+use Rattle.path_factors.proofs.Words.{◌≡◌, ℕ, zero, suc, ◌+◌, ◌<◌, ◌≤◌, ◌⊎◌, inl, inr, List, [], ◌∷◌, ◌++◌, length, get_or, refl, ap, sym, ◌∙◌, subst, arith, IsStrictlyIncreasing, cases_eq, cases_lt, get_or_append_left, get_or_default, get_or_push, length-append, row_of, AreHeads, IsHead, AreParentsTo, IsTreeParent, IsUp, IsAncestor, first_is_least}
 
 module _ (n : ℕ) (heads : List (List ℕ)) (are : AreHeads n heads) where
   pub parent_inside : (v p : ℕ) → v < n → IsTreeParent heads n v p → (v < p) × (p ≤ n)
@@ -36,6 +36,14 @@ module _ (n : ℕ) (heads : List (List ℕ)) (are : AreHeads n heads) where
       IsAncestor heads n v p
   ancestor_more v y p h low parent = (suc h.0, up_more h.0 v y p h.1 low parent)
 
+  -- an ancestor of an ancestor is one
+  pub ancestor_on : (u v y : ℕ) → IsAncestor heads n u v → IsAncestor heads n v y → IsAncestor heads n u y
+  ancestor_on u v y h on = up_on h.0 u h.1
+    where
+      up_on : (k u : ℕ) → IsUp heads n k u v → IsAncestor heads n u y
+      up_on zero u is = subst (λ (w : ℕ). IsAncestor heads n w y) (sym is) on
+      up_on (suc k) u up = let more = up_on k up.1.0 up.1.2 in (suc more.0, (up.0, (up.1.0, up.1.1, more.1)))
+
   -- an ancestor is the place, or an ancestor of its parent
   pub ancestor_less : (v p y : ℕ) → IsTreeParent heads n v p → IsAncestor heads n v y →
       (v ≡ y) ⊎ IsAncestor heads n p y
@@ -53,6 +61,29 @@ first_is_parent heads n v p up some is = record {
   least = λ y head. let first = first_is_least (row_of heads v) up y head in omega (arith, first, is);
   one = inr (0, some, get_or_default (row_of heads v) 0 p 0 some ∙ is);
 }
+
+-- a head of a place is an ancestor
+pub head_above : (n : ℕ) (heads : List (List ℕ)) → AreHeads n heads → (v y : ℕ) → IsHead heads v y → IsAncestor heads n v y
+head_above n heads are v y head = above y v (omega arith) head
+  where
+    above : (k v : ℕ) → y ≤ v + k → IsHead heads v y → IsAncestor heads n v y
+    above zero v near head = absurd (omega (arith, near, (are.rising v y head).0))
+    above (suc k) v near head =
+        let rises = are.rising v y head in
+        let p = get_or (row_of heads v) 0 0 in
+        let parent : IsTreeParent heads n v p = first_is_parent heads n v p (are.ascending v) (omega (arith, head.1)) refl in
+        let low : v < n = omega (arith, rises.0, rises.1) in
+        elim (cases_eq p y) [
+          | inl is ↦ (1, (low, (p, parent, is)))
+          | inr other ↦
+              let first = parent.least y head in
+              elim parent.one [
+                | inl none ↦ absurd (omega (arith, none, first, other, rises.1))
+                | inr up ↦
+                    let more = above k p (omega (arith, near, (are.rising v p up).0)) (are.nested v p y up head (omega (arith, first, other))) in
+                    (suc more.0, (low, (p, parent, more.1)))
+              ]
+        ]
 
 -- the parent of one more place
 pub parents_more : (heads : List (List ℕ)) (n k p : ℕ) (parents : List ℕ) → AreParentsTo heads n k parents → IsTreeParent heads n k p →

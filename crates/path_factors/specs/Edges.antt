@@ -1,10 +1,12 @@
 -- Both links between two places as one edge, and rows of links that list the same places both ways.
-use Rattle.std.specs.Prelude.{◌≡◌, ℕ, ◌<◌, List, length, map, cond, Contains, slice_index_or}
+use Rattle.std.specs.Prelude.{◌≡◌, ℕ, ◌<◌, Bool, true, false, List, length, map, cond, Contains, slice_index_or}
 use Rattle.path_algebra.specs.Composition.{Composition}
 use Rattle.path_factors.specs.declared.link.Link.{Link}
 use Rattle.path_factors.specs.declared.edge.Edge.{Edge}
 use Rattle.path_factors.specs.Factors.{FactorData, LeadsNoWorse, row_of}
+use Rattle.path_factors.specs.Asking.{is_on}
 use Rattle.path_factors.specs.Eliminating.{AreImproved}
+use Rattle.path_factors.specs.Heads.{heads_in}
 
 -- the link of an edge to its greater place
 abbrev pub rising : {W : Type 0} → Edge W → Link W
@@ -27,6 +29,25 @@ AreAligned leaving entering =
 -- each link has the same walk
 abbrev pub AreBlank : {W : Type 0} → W → List (List (Link W)) → Type 0
 AreBlank {W} none rows = (i : ℕ) (k : Link W) → Contains (row_of rows i) k → k.walk ≡ none
+
+-- rows in which the link at index j of that of place i has another walk
+pub record IsReplaced {W : Type 0} (walk : W) (i j : ℕ) (before after : List (List (Link W))) : Type 0 where
+  pub heads : heads_in after ≡ heads_in before
+  pub others : (q : ℕ) → (q ≡ i → ⊥) → row_of after q ≡ row_of before q
+  pub here : (k : Link W) → (slice_index_or (row_of after i) j k).walk ≡ walk
+  pub rest : (m : ℕ) (k : Link W) → (m ≡ j → ⊥) → slice_index_or (row_of after i) m k ≡ slice_index_or (row_of before i) m k
+
+-- rows in which the first j links of that of place i have no walk
+pub record IsBlankedTo {W : Type 0} (none : W) (i j : ℕ) (before after : List (List (Link W))) : Type 0 where
+  pub heads : heads_in after ≡ heads_in before
+  pub others : (q : ℕ) → (q ≡ i → ⊥) → row_of after q ≡ row_of before q
+  pub blank : (m : ℕ) (k : Link W) → m < j → (slice_index_or (row_of after i) m k).walk ≡ none
+
+-- rows after the walks at the links of marked places were taken away
+pub record AreBlanked {W : Type 0} (none : W) (marks : List Bool) (before after : List (List (Link W))) : Type 0 where
+  pub heads : heads_in after ≡ heads_in before
+  pub rest : (i : ℕ) → is_on marks i ≡ false → row_of after i ≡ row_of before i
+  pub blank : (i : ℕ) (k : Link W) → is_on marks i ≡ true → Contains (row_of after i) k → k.walk ≡ none
 
 -- the better of two walks, the first if both are as good
 abbrev pub better_walk : {V W : Type 0} → Composition V W → W → W → W

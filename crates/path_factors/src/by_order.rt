@@ -38,8 +38,8 @@ impl<A: ComposingAlgebra> Factors<A> {
         let heads = outline(alloc, graph, &places, making.stop)?;
         let rows = PackedRows::blank(alloc, heads, algebra.no_walk())?;
         let order = Arc::new(alloc, Snapshot::of(order)).map_err(AllocError::from)?;
-        Weighing::open(algebra, graph, order, places, rows)
-            .weighed(making.stop)?
-            .prune(alloc, making)
+        let mut weighing = Weighing::open_blank(algebra, graph, order, places, rows);
+        weighing.weigh_all(alloc, making.stop)?;
+        weighing.prune(alloc, making)
     }
 }

@@ -40,6 +40,8 @@ pub struct Factors<A: ComposingAlgebra> {
 impl<A: ComposingAlgebra> Model for Factors<A> {
     ghost use Rattle.std.specs.Arc.{arc_value};
     ghost use Rattle.std.specs.Option.{option_map};
+    ghost use Rattle.std.specs.Prelude.{◌≡◌, None};
+    ghost use Rattle.path_factors.specs.Eliminating.{IsWhole};
     ghost use Rattle.path_factors.specs.Heads.{heads_or};
     ghost use Rattle.path_factors.specs.State.{FactorState};
     ghost use Rattle.path_factors.specs.Tree.{AreParentsTo, IsFactored};
@@ -50,7 +52,8 @@ impl<A: ComposingAlgebra> Model for Factors<A> {
 
     ghost invariant = { λ f.
         IsFactored (A.meaning f.algebra) (A.walks f.algebra) f.graph.value (record { order = (arc_value f.order).value.vertices.items; places = f.places.items; leaving = f.rows.leaving; entering = f.rows.entering }) (heads_or (option_map arc_value f.heads) f.rows.leaving)
-        × AreParentsTo (heads_or (option_map arc_value f.heads) f.rows.leaving) f.graph.value.vertices f.graph.value.vertices (arc_value f.parents).items };
+        × AreParentsTo (heads_or (option_map arc_value f.heads) f.rows.leaving) f.graph.value.vertices f.graph.value.vertices (arc_value f.parents).items
+        × (f.heads ≡ None → IsWhole (A.meaning f.algebra) (A.walks f.algebra) f.graph.value (record { order = (arc_value f.order).value.vertices.items; places = f.places.items; leaving = f.rows.leaving; entering = f.rows.entering })) };
 }
 
 impl<A: ComposingAlgebra> Factors<A> {

@@ -13,6 +13,7 @@ mod chains;
 mod climb;
 mod edge;
 mod factors;
+mod few_weights;
 mod find;
 mod fits;
 mod heads;

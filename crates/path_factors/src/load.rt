@@ -1,8 +1,9 @@
 //! A walk at a link for each arc of the graph, before any place is eliminated.
-ghost use Rattle.std.specs.Prelude.{◌≡◌, ℕ, ◌<◌, IfErr, IsSome, OnOk};
+ghost use Rattle.std.specs.Prelude.{◌≡◌, ℕ, ◌<◌, ◌⊎◌, IfErr, IsSome, OnOk, length, true};
 ghost use Rattle.road_graph.specs.GraphData.{HasArc, HasVertex, arc_of};
-ghost use Rattle.path_factors.specs.Factors.{CoversArcs, LeadsNoWorse, IsWorthOfWalk, place_of};
-ghost use Rattle.path_factors.specs.Eliminating.{Improves};
+ghost use Rattle.path_factors.specs.Asking.{is_on};
+ghost use Rattle.path_factors.specs.Factors.{LeadsNoWorse, place_of};
+ghost use Rattle.path_factors.specs.Eliminating.{CoversArcsOn, Improves, IsLesser, IsLesserOn, IsWorthUnder, KeepsRest};
 ghost use Rattle.path_factors.specs.Heads.{IsHead, IsJoined, heads_in};
 ghost use Rattle.path_factors.specs.State.{IsSameState};
 ghost use Rattle.halting.specs.declared.unfinished.Unfinished.TheVariants.{Halted};
@@ -28,11 +29,15 @@ impl<'g, A: ComposingAlgebra> Weighing<'g, A> {
         requires head { HasVertex self.old.roads road.head }
         requires joined { IsJoined (IsHead (heads_in self.old.factor.leaving))
             (place_of self.old.factor tail) (place_of self.old.factor road.head) }
-        requires worth { IsWorthOfWalk (A.meaning self.old.algebra) (A.walks self.old.algebra)
-            self.old.roads tail road.head ((A.walks self.old.algebra).of_arc road.weight) }
+        requires worth { (z : ℕ) → (z ≡ place_of self.old.factor tail) ⊎ (z ≡ place_of self.old.factor road.head) →
+            IsWorthUnder (A.meaning self.old.algebra) (A.walks self.old.algebra) self.old.roads
+            (heads_in self.old.factor.leaving) self.old.factor.places z tail road.head
+            ((A.walks self.old.algebra).of_arc road.weight) }
         ensures same { IsSameState self.old self.new }
         ensures improves { Improves (A.walks self.old.algebra) 0 self.old.factor
             self.new.factor }
+        ensures rest { KeepsRest (IsLesser (place_of self.old.factor tail) (place_of self.old.factor road.head))
+            self.old.factor self.new.factor }
         ensures leads { (tail ≡ road.head → ⊥) →
             LeadsNoWorse (A.walks self.old.algebra) self.new.factor (place_of self.old.factor tail)
             (place_of self.old.factor road.head) ((A.walks self.old.algebra).of_arc road.weight) }
@@ -43,37 +48,71 @@ impl<'g, A: ComposingAlgebra> Weighing<'g, A> {
         self.connect(self.place(tail), self.place(road.head), there, back);
     }
 
-    /// Puts a walk at the link for each arc that leaves a vertex.
-    fn load_from(&mut self, tail: Vertex)
-        requires { HasVertex self.old.roads tail }
+    /// Does so if the lesser place is marked.
+    fn add_marked(&mut self, tail: Vertex, road: OutRoad, marks: &[bool])
+        requires tail { HasVertex self.old.roads tail }
+        requires head { HasVertex self.old.roads road.head }
+        requires joined { IsJoined (IsHead (heads_in self.old.factor.leaving))
+            (place_of self.old.factor tail) (place_of self.old.factor road.head) }
+        requires worth { (z : ℕ) → (z ≡ place_of self.old.factor tail) ⊎ (z ≡ place_of self.old.factor road.head) →
+            IsWorthUnder (A.meaning self.old.algebra) (A.walks self.old.algebra) self.old.roads
+            (heads_in self.old.factor.leaving) self.old.factor.places z tail road.head
+            ((A.walks self.old.algebra).of_arc road.weight) }
+        requires marks { length marks.now ≡ self.old.roads.vertices }
         ensures same { IsSameState self.old self.new }
         ensures improves { Improves (A.walks self.old.algebra) 0 self.old.factor
             self.new.factor }
+        ensures rest { KeepsRest (λ z. is_on marks.now z ≡ true) self.old.factor self.new.factor }
+        ensures leads { (tail ≡ road.head → ⊥) →
+            IsLesserOn marks.now (place_of self.old.factor tail) (place_of self.old.factor road.head) →
+            LeadsNoWorse (A.walks self.old.algebra) self.new.factor (place_of self.old.factor tail)
+            (place_of self.old.factor road.head) ((A.walks self.old.algebra).of_arc road.weight) }
+    {
+        self.holds();
+        let lesser = self.place(tail).min(self.place(road.head));
+        if marks[lesser as usize] {
+            self.add(tail, road);
+        }
+    }
+
+    /// Puts a walk at the link for each arc that leaves a vertex, if the lesser place is marked.
+    fn load_from(&mut self, tail: Vertex, marks: &[bool])
+        requires tail { HasVertex self.old.roads tail }
+        requires marks { length marks.now ≡ self.old.roads.vertices }
+        ensures same { IsSameState self.old self.new }
+        ensures improves { Improves (A.walks self.old.algebra) 0 self.old.factor
+            self.new.factor }
+        ensures rest { KeepsRest (λ z. is_on marks.now z ≡ true) self.old.factor self.new.factor }
         ensures covers { (a : ℕ) → HasArc self.old.roads a → (arc_of self.old.roads a).tail ≡ tail →
             ((arc_of self.old.roads a).tail ≡ (arc_of self.old.roads a).head → ⊥) →
+            IsLesserOn marks.now (place_of self.old.factor (arc_of self.old.roads a).tail)
+            (place_of self.old.factor (arc_of self.old.roads a).head) →
             LeadsNoWorse (A.walks self.old.algebra) self.new.factor (place_of self.old.factor (arc_of self.old.roads a).tail)
             (place_of self.old.factor (arc_of self.old.roads a).head) ((A.walks self.old.algebra).of_arc (arc_of self.old.roads a).weight) }
     {
         self.holds();
         let graph = self.graph;
         for road in graph.roads_from(tail) {
-            self.add(tail, *road);
+            self.add_marked(tail, *road, marks);
         }
     }
 
-    /// Puts a walk at the link for each arc.
-    pub(crate) fn load(&mut self, stop: &Option<Stop>) -> Result<(), Unfinished>
+    /// Puts a walk at the link for each arc, if the lesser place is marked.
+    pub(crate) fn load(&mut self, marks: &[bool], stop: &Option<Stop>) -> Result<(), Unfinished>
+        requires { length marks.now ≡ self.old.roads.vertices }
         ensures same { OnOk result (IsSameState self.old self.new) }
         ensures improves { OnOk result (Improves (A.walks self.old.algebra) 0 self.old.factor
             self.new.factor) }
-        ensures covers { OnOk result (CoversArcs (A.walks self.old.algebra) self.old.roads
+        ensures rest { OnOk result (KeepsRest (λ z. is_on marks.now z ≡ true) self.old.factor
             self.new.factor) }
+        ensures covers { OnOk result (CoversArcsOn (A.walks self.old.algebra) marks.now
+            self.old.roads self.new.factor) }
         ensures halts { IfErr result (λ e. e ≡ Halted → IsSome stop.now) }
     {
         self.holds();
         for i in 0..self.graph.vertices() {
             look_at(stop)?;
-            self.load_from(Vertex(i + 1));
+            self.load_from(Vertex(i + 1), marks);
         }
         Ok(())
     }

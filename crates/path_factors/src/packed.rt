@@ -46,6 +46,17 @@ fn repeated<W: Copy>(alloc: Global, walk: W, count: usize) -> Result<Vec<W>, Mem
     Ok(walks)
 }
 
+/// The same walks once more: a clone is not known to be equal for every type.
+fn copied<W: Copy>(alloc: Global, walks: &[W]) -> Result<Vec<W>, Memory>
+    ensures { IfOk result (λ copy. copy.items ≡ walks.now) }
+{
+    let mut copy = Vec::with_capacity(alloc, walks.len())?;
+    for walk in walks {
+        copy.push(*walk).map_err(AllocError::from)?;
+    }
+    Ok(copy)
+}
+
 /// One more edge, with the link to its greater place and the worth of that from there.
 fn put<W: Copy>(
     places: &mut Vec<u32>,
@@ -66,7 +77,7 @@ fn put<W: Copy>(
 
 impl<W: Copy> PackedRows<W> {
     ghost use Rattle.path_factors.specs.Factors.{row_of};
-    ghost use Rattle.path_factors.specs.Edges.{AreBlank, AreEdgesImproved};
+    ghost use Rattle.path_factors.specs.Edges.{AreBlank, AreBlanked, AreEdgesImproved, IsBlankedTo, IsReplaced};
     ghost use Rattle.path_factors.specs.Heads.{heads_in};
     ghost use Rattle.path_factors.specs.Pruning.{marked};
 
@@ -229,5 +240,50 @@ impl<W: Copy> PackedRows<W> {
         let k = self.starts[i] as usize + j;
         self.leaving[k] = better_of_walks(algebra, self.leaving[k], edge.leaving);
         self.entering[k] = better_of_walks(algebra, self.entering[k], edge.entering);
+    }
+
+    /// Takes away the walks of a link both ways.
+    fn blank_link(&mut self, i: usize, j: usize, none: W)
+        requires row { i < length self.old.leaving }
+        requires index { j < length (row_of self.old.leaving i) }
+        ensures leaving { IsReplaced none i j self.old.leaving self.new.leaving }
+        ensures entering { IsReplaced none i j self.old.entering self.new.entering }
+    {
+        let k = self.starts[i] as usize + j;
+        self.leaving[k] = none;
+        self.entering[k] = none;
+    }
+
+    /// Takes away the walks of the links of a place.
+    fn blank_row(&mut self, i: usize, none: W)
+        requires { i < length self.old.leaving }
+        ensures leaving { IsBlankedTo none i (length (row_of self.old.leaving i)) self.old.leaving
+            self.new.leaving }
+        ensures entering { IsBlankedTo none i (length (row_of self.old.entering i)) self.old.entering
+            self.new.entering }
+    {
+        for j in 0..self.count(i) {
+            self.blank_link(i, j, none);
+        }
+    }
+
+    /// The same rows, without walks at the links of marked places.
+    pub(crate) fn blanked(&self, alloc: Global, marks: &[bool], none: W) -> Result<Self, Memory>
+        requires { length marks.now ≡ length self.now.leaving }
+        ensures leaving { IfOk result (λ rows. AreBlanked none marks.now self.now.leaving rows.leaving) }
+        ensures entering { IfOk result (λ rows. AreBlanked none marks.now self.now.entering rows.entering) }
+    {
+        let mut rows = PackedRows {
+            starts: self.starts.to_vec(alloc)?,
+            places: self.places.to_vec(alloc)?,
+            leaving: copied(alloc, &self.leaving)?,
+            entering: copied(alloc, &self.entering)?,
+        };
+        for i in 0..marks.len() {
+            if marks[i] {
+                rows.blank_row(i, none);
+            }
+        }
+        Ok(rows)
     }
 }

@@ -1,11 +1,12 @@
 //! A graph is factored over the links of another one: the same order, other weights.
-ghost use Rattle.std.specs.Prelude.{◌≡◌, IfOk, IfErr, IsSome};
+ghost use Rattle.std.specs.Prelude.{◌≡◌, IfOk, IfErr, IsSome, OnOk};
 ghost use Rattle.std.specs.Arc.{arc_value};
 ghost use Rattle.path_factors.specs.Factors.{ArePlaces, CoversArcs};
 ghost use Rattle.path_factors.specs.Edges.{AreBlank};
-ghost use Rattle.path_factors.specs.Eliminating.{AreClosedTo};
+ghost use Rattle.path_factors.specs.Eliminating.{AreClosedTo, IsBegun, IsWholeBut};
 ghost use Rattle.path_factors.specs.Heads.{IsOutline, heads_in};
 ghost use Rattle.path_factors.specs.Reweighing.{Fits, IsReason, JoinsNoOthers};
+ghost use Rattle.path_factors.specs.State.{IsSameState};
 ghost use Rattle.halting.specs.declared.unfinished.Unfinished.TheVariants.{Halted};
 
 use crate::factors::Factors;
@@ -31,8 +32,41 @@ pub enum Unfit {
 }
 
 impl<'g, A: ComposingAlgebra> Weighing<'g, A> {
-    /// Rows with no walk at any link, before the first arc.
+    /// Rows whose links are worth walks.
     pub(crate) fn open(
+        algebra: A,
+        graph: &'g OutGraph,
+        order: Arc<Snapshot<Order>>,
+        places: Vec<u32>,
+        rows: PackedRows<A::Walk>,
+    ) -> Self
+        requires begun { IsBegun (A.meaning algebra) (A.walks algebra) graph.now (record {
+          order = (arc_value order).value.vertices.items;
+          places = places.items;
+          leaving = rows.leaving;
+          entering = rows.entering;
+        }) }
+        requires outline { IsOutline graph.now places.items (heads_in rows.leaving) }
+        ensures algebra { result.algebra ≡ algebra }
+        ensures roads { result.roads ≡ graph.now }
+        ensures factor { result.factor ≡ record {
+          order = (arc_value order).value.vertices.items;
+          places = places.items;
+          leaving = rows.leaving;
+          entering = rows.entering;
+        } }
+    {
+        Weighing {
+            algebra,
+            graph,
+            order,
+            places,
+            rows,
+        }
+    }
+
+    /// Rows with no walk at any link, before the first arc.
+    pub(crate) fn open_blank(
         algebra: A,
         graph: &'g OutGraph,
         order: Arc<Snapshot<Order>>,
@@ -50,31 +84,42 @@ impl<'g, A: ComposingAlgebra> Weighing<'g, A> {
     {
         composition_holds(algebra);
         let _ = rows.len();
-        Weighing {
-            algebra,
-            graph,
-            order,
-            places,
-            rows,
-        }
+        Weighing::open(algebra, graph, order, places, rows)
     }
 
-    /// The same, once each arc has a walk at its link and each place is eliminated.
-    pub(crate) fn weighed(self, stop: &Option<Stop>) -> Result<Self, Unfinished>
-        ensures algebra { IfOk result (λ w. w.algebra ≡ self.entry.algebra) }
-        ensures roads { IfOk result (λ w. w.roads ≡ self.entry.roads) }
-        ensures order { IfOk result (λ w. w.factor.order ≡ self.entry.factor.order) }
-        ensures heads { IfOk result (λ w. heads_in w.factor.leaving ≡ heads_in self.entry.factor.leaving) }
-        ensures covers { IfOk result (λ w. CoversArcs (A.walks w.algebra) w.roads w.factor) }
-        ensures closed { IfOk result (λ w. AreClosedTo (A.walks w.algebra) w.factor
-            w.roads.vertices) }
+    /// Puts a walk at the link for each arc and eliminates each place, as far as rows of marked
+    /// places are concerned.
+    pub(crate) fn weigh(&mut self, marks: &[bool], stop: &Option<Stop>) -> Result<(), Unfinished>
+        requires rest { IsWholeBut (A.meaning self.old.algebra) (A.walks self.old.algebra)
+            self.old.roads marks.now self.old.factor }
+        ensures same { OnOk result (IsSameState self.old self.new) }
+        ensures order { OnOk result (self.new.factor.order ≡ self.old.factor.order) }
+        ensures covers { OnOk result (CoversArcs (A.walks self.new.algebra) self.new.roads
+            self.new.factor) }
+        ensures closed { OnOk result (AreClosedTo (A.walks self.new.algebra) self.new.factor
+            self.new.roads.vertices) }
         ensures halts { IfErr result (λ e. e ≡ Halted → IsSome stop.now) }
     {
         self.holds();
-        let mut weighing = self;
-        weighing.load(stop)?;
-        weighing.eliminate_all(stop)?;
-        Ok(weighing)
+        self.load(marks, stop)?;
+        self.eliminate_all(marks, stop)?;
+        self.holds();
+        Ok(())
+    }
+
+    /// The same for the rows of all places.
+    pub(crate) fn weigh_all(&mut self, alloc: Global, stop: &Option<Stop>) -> Result<(), Unfinished>
+        ensures same { OnOk result (IsSameState self.old self.new) }
+        ensures order { OnOk result (self.new.factor.order ≡ self.old.factor.order) }
+        ensures covers { OnOk result (CoversArcs (A.walks self.new.algebra) self.new.roads
+            self.new.factor) }
+        ensures closed { OnOk result (AreClosedTo (A.walks self.new.algebra) self.new.factor
+            self.new.roads.vertices) }
+        ensures halts { IfErr result (λ e. e ≡ Halted → IsSome stop.now) }
+    {
+        self.holds();
+        let marks = vec![in alloc; true; self.places.len()]?;
+        self.weigh(&marks, stop)
     }
 }
 
@@ -93,6 +138,34 @@ impl<A: ComposingAlgebra> Factors<A> {
             heads = heads.push(self.heads(i))?;
         }
         Ok(heads)
+    }
+
+    /// The links of a graph that fits, once they are closed.
+    pub(crate) fn weighed_anew<'g>(
+        &self,
+        alloc: Global,
+        algebra: A,
+        graph: &'g OutGraph,
+        stop: &Option<Stop>,
+    ) -> Result<Weighing<'g, A>, Unfinished>
+        requires { Fits graph.now self.now }
+        ensures algebra { IfOk result (λ w. w.algebra ≡ algebra) }
+        ensures roads { IfOk result (λ w. w.roads ≡ graph.now) }
+        ensures order { IfOk result (λ w. w.factor.order ≡ self.now.factor.order) }
+        ensures heads { IfOk result (λ w. heads_in w.factor.leaving ≡ self.now.heads) }
+        ensures covers { IfOk result (λ w. CoversArcs (A.walks w.algebra) w.roads w.factor) }
+        ensures closed { IfOk result (λ w. AreClosedTo (A.walks w.algebra) w.factor
+            w.roads.vertices) }
+        ensures halts { IfErr result (λ e. e ≡ Halted → IsSome stop.now) }
+    {
+        self.holds();
+        let order = Arc::try_clone(&self.order)?;
+        let places = self.places.to_vec(alloc)?;
+        let heads = self.copied_heads(alloc)?;
+        let rows = PackedRows::blank(alloc, heads, algebra.no_walk())?;
+        let mut weighing = Weighing::open_blank(algebra, graph, order, places, rows);
+        weighing.weigh_all(alloc, stop)?;
+        Ok(weighing)
     }
 
     /// The same factor, over the heads and parents of another one, if that keeps them.
@@ -140,14 +213,9 @@ impl<A: ComposingAlgebra> Factors<A> {
         if let Err(why) = fit {
             return Ok(Err(why));
         }
-        let order = Arc::try_clone(&self.order)?;
-        let places = self.places.to_vec(alloc)?;
-        let heads = self.copied_heads(alloc)?;
-        let rows = PackedRows::blank(alloc, heads, algebra.no_walk())?;
         let links = Links::Needed;
-        let factors = Weighing::open(algebra, graph, order, places, rows)
-            .weighed(stop)?
-            .prune(alloc, Making { links, stop })?;
+        let weighing = self.weighed_anew(alloc, algebra, graph, stop)?;
+        let factors = weighing.prune(alloc, Making { links, stop })?;
         Ok(Ok(factors.sharing(self)?))
     }
 }

@@ -1,11 +1,12 @@
 //! Walks are put at the links of an outline: what makes a factor of a graph.
-ghost use Rattle.std.specs.Prelude.{◌≡◌, ℕ, ◌+◌, ◌<◌, ◌≤◌, IfErr, IsSome, OnOk, length, slice_index};
+ghost use Rattle.std.specs.Prelude.{◌≡◌, ℕ, ◌+◌, ◌<◌, ◌≤◌, ◌⊎◌, IfErr, IsSome, OnOk, length, slice_index, true};
 ghost use Rattle.road_graph.specs.GraphData.{IsGraph};
 ghost use Rattle.path_algebra.specs.Composition.{IsComposition};
 ghost use Rattle.path_factors.specs.declared.edge.Edge.{Edge};
-ghost use Rattle.path_factors.specs.Factors.{row_of, IsClosedAt, LeadsNoWorse, IsWorthOfWalk, vertex_at};
+ghost use Rattle.path_factors.specs.Asking.{is_on};
+ghost use Rattle.path_factors.specs.Factors.{row_of, LeadsNoWorse};
 ghost use Rattle.path_factors.specs.Edges.{AreAligned, IsEdgeAt, AreJoined};
-ghost use Rattle.path_factors.specs.Eliminating.{IsBegun, Improves, AreClosedTo};
+ghost use Rattle.path_factors.specs.Eliminating.{IsBegun, Improves, IsClosedOn, IsLesser, IsLinkUnder, KeepsRest};
 ghost use Rattle.path_factors.specs.Heads.{AreAhead, IsHead, IsJoined, IsOutline, heads_in};
 ghost use Rattle.path_factors.specs.State.{IsSameState};
 ghost use Rattle.halting.specs.declared.unfinished.Unfinished.TheVariants.{Halted};
@@ -53,11 +54,12 @@ impl<'g, A: ComposingAlgebra> Weighing<'g, A> {
         requires from { x < self.old.roads.vertices }
         requires index { j < length (row_of (heads_in self.old.factor.leaving) x) }
         requires head { slice_index (row_of (heads_in self.old.factor.leaving) x) j ≡ edge.place }
-        requires leaving { IsWorthOfWalk (A.meaning self.old.algebra) (A.walks self.old.algebra)
-            self.old.roads (vertex_at self.old.factor x) (vertex_at self.old.factor edge.place) edge.leaving }
-        requires entering { IsWorthOfWalk (A.meaning self.old.algebra) (A.walks self.old.algebra)
-            self.old.roads (vertex_at self.old.factor edge.place) (vertex_at self.old.factor x) edge.entering }
+        requires leaving { IsLinkUnder (A.meaning self.old.algebra) (A.walks self.old.algebra)
+            self.old.roads self.old.factor x x edge.place edge.leaving }
+        requires entering { IsLinkUnder (A.meaning self.old.algebra) (A.walks self.old.algebra)
+            self.old.roads self.old.factor x edge.place x edge.entering }
         ensures same { IsSameState self.old self.new }
+        ensures rest { KeepsRest (λ i. i ≡ x) self.old.factor self.new.factor }
         ensures improves { (low : ℕ) → low ≤ x →
             Improves (A.walks self.old.algebra) low self.old.factor self.new.factor }
         ensures leaving { LeadsNoWorse (A.walks self.old.algebra) self.new.factor x
@@ -76,11 +78,12 @@ impl<'g, A: ComposingAlgebra> Weighing<'g, A> {
         requires from { x < self.old.roads.vertices }
         requires to { y < self.old.roads.vertices }
         requires joined { IsJoined (IsHead (heads_in self.old.factor.leaving)) x y }
-        requires there { IsWorthOfWalk (A.meaning self.old.algebra) (A.walks self.old.algebra)
-            self.old.roads (vertex_at self.old.factor x) (vertex_at self.old.factor y) there }
-        requires back { IsWorthOfWalk (A.meaning self.old.algebra) (A.walks self.old.algebra)
-            self.old.roads (vertex_at self.old.factor y) (vertex_at self.old.factor x) back }
+        requires there { (z : ℕ) → (z ≡ x) ⊎ (z ≡ y) → IsLinkUnder (A.meaning self.old.algebra)
+            (A.walks self.old.algebra) self.old.roads self.old.factor z x y there }
+        requires back { (z : ℕ) → (z ≡ x) ⊎ (z ≡ y) → IsLinkUnder (A.meaning self.old.algebra)
+            (A.walks self.old.algebra) self.old.roads self.old.factor z y x back }
         ensures same { IsSameState self.old self.new }
+        ensures rest { KeepsRest (IsLesser x y) self.old.factor self.new.factor }
         ensures improves { Improves (A.walks self.old.algebra) 0 self.old.factor
             self.new.factor }
         ensures there { (x ≡ y → ⊥) →
@@ -175,6 +178,7 @@ impl<'g, A: ComposingAlgebra> Weighing<'g, A> {
         ensures same { IsSameState self.old self.new }
         ensures improves { Improves (A.walks self.old.algebra) (v + 1) self.old.factor
             self.new.factor }
+        ensures rest { KeepsRest (λ i. i ≡ e.place) self.old.factor self.new.factor }
         ensures joined { AreJoined (A.walks self.old.algebra) self.new.factor e f }
     {
         self.holds();
@@ -195,6 +199,9 @@ impl<'g, A: ComposingAlgebra> Weighing<'g, A> {
         ensures same { IsSameState self.old self.new }
         ensures improves { Improves (A.walks self.old.algebra) (v + 1) self.old.factor
             self.new.factor }
+        ensures rest { KeepsRest
+            (λ z. z ≡ slice_index (row_of (heads_in self.old.factor.leaving) v) i)
+            self.old.factor self.new.factor }
         ensures joined { (j : ℕ) (e f : Edge A.Walk) → i < j → IsEdgeAt self.old.factor v i e →
             IsEdgeAt self.old.factor v j f → AreJoined (A.walks self.old.algebra) self.new.factor e f }
     {
@@ -210,35 +217,66 @@ impl<'g, A: ComposingAlgebra> Weighing<'g, A> {
         }
     }
 
-    /// Eliminates a place: joins each two of its edges.
-    fn eliminate(&mut self, v: usize, stop: &Option<Stop>) -> Result<(), Unfinished>
-        requires { v < self.old.roads.vertices }
+    /// Does so if the head of the edge is marked.
+    fn pass_marked(&mut self, v: usize, i: usize, marks: &[bool])
+        requires place { v < self.old.roads.vertices }
+        requires edge { i < length (row_of self.old.factor.leaving v) }
+        requires marks { length marks.now ≡ self.old.roads.vertices }
+        ensures same { IsSameState self.old self.new }
+        ensures improves { Improves (A.walks self.old.algebra) (v + 1) self.old.factor
+            self.new.factor }
+        ensures rest { KeepsRest (λ z. is_on marks.now z ≡ true) self.old.factor self.new.factor }
+        ensures joined { (j : ℕ) (e f : Edge A.Walk) → i < j → IsEdgeAt self.old.factor v i e →
+            IsEdgeAt self.old.factor v j f → is_on marks.now e.place ≡ true →
+            AreJoined (A.walks self.old.algebra) self.new.factor e f }
+    {
+        self.holds();
+        let first = self.edge(v, i);
+        if marks[first.place as usize] {
+            self.pass(v, i);
+        }
+    }
+
+    /// Eliminates a place: joins each two of its edges, if the lesser head is marked.
+    fn eliminate(&mut self, v: usize, marks: &[bool], stop: &Option<Stop>) -> Result<(), Unfinished>
+        requires place { v < self.old.roads.vertices }
+        requires marks { length marks.now ≡ self.old.roads.vertices }
         ensures same { OnOk result (IsSameState self.old self.new) }
         ensures improves { OnOk result (Improves (A.walks self.old.algebra) (v + 1)
             self.old.factor self.new.factor) }
-        ensures closed { OnOk result (IsClosedAt (A.walks self.old.algebra) self.new.factor v) }
+        ensures rest { OnOk result (KeepsRest (λ z. is_on marks.now z ≡ true) self.old.factor
+            self.new.factor) }
+        ensures closed { OnOk result (IsClosedOn (A.walks self.old.algebra) marks.now
+            self.new.factor v) }
         ensures halts { IfErr result (λ e. e ≡ Halted → IsSome stop.now) }
     {
         self.holds();
         for i in 0..self.count(v) {
             look_at(stop)?;
-            self.pass(v, i);
+            self.pass_marked(v, i, marks);
         }
         Ok(())
     }
 
     /// Eliminates each place, in ascending order.
-    pub(crate) fn eliminate_all(&mut self, stop: &Option<Stop>) -> Result<(), Unfinished>
+    pub(crate) fn eliminate_all(
+        &mut self,
+        marks: &[bool],
+        stop: &Option<Stop>,
+    ) -> Result<(), Unfinished>
+        requires { length marks.now ≡ self.old.roads.vertices }
         ensures same { OnOk result (IsSameState self.old self.new) }
         ensures improves { OnOk result (Improves (A.walks self.old.algebra) 0 self.old.factor
             self.new.factor) }
-        ensures closed { OnOk result (AreClosedTo (A.walks self.old.algebra) self.new.factor
-            self.old.roads.vertices) }
+        ensures rest { OnOk result (KeepsRest (λ z. is_on marks.now z ≡ true) self.old.factor
+            self.new.factor) }
+        ensures closed { OnOk result ((v : ℕ) → v < self.old.roads.vertices →
+            IsClosedOn (A.walks self.old.algebra) marks.now self.new.factor v) }
         ensures halts { IfErr result (λ e. e ≡ Halted → IsSome stop.now) }
     {
         self.holds();
         for v in 0..self.graph.vertices() as usize {
-            self.eliminate(v, stop)?;
+            self.eliminate(v, marks, stop)?;
         }
         Ok(())
     }

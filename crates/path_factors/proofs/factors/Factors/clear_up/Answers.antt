@@ -1,4 +1,4 @@
-use Rattle.std.proofs.Common.{◌<◌, ◌∙◌, None, get_or, length-set, arith}
+use Rattle.std.proofs.Common.{◌<◌, ◌∙◌, get_or, length-set, arith}
 use Rattle.path_factors.proofs.Climbing.{clear_more, clear_ends}
 use Rattle.path_factors.proofs.factors.Factors.clear_up.Goals as goal
 

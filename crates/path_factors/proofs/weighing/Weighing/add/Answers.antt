@@ -1,4 +1,4 @@
-use Rattle.path_factors.proofs.Words.{◌≡◌, ◌∙◌, ap, sym, subst, IsWorthOfWalk, LeadsNoWorse, vertex_at, place_of, IsHead, IsJoined, heads_in}
+use Rattle.path_factors.proofs.Words.{◌≡◌, ◌∙◌, ◌⊎◌, inl, inr, ap, sym, subst, IsLesser, IsLinkUnder, IsWorthUnder, KeepsRest, LeadsNoWorse, vertex_at, place_of, IsHead, IsJoined, heads_in}
 use Rattle.path_factors.proofs.Connecting.{worth_of_none}
 use Rattle.path_factors.proofs.weighing.Weighing.add.Goals as goal
 
@@ -16,9 +16,20 @@ connect-requires-clause-there g c κs within =
     c.of_arc-there.ensures ∙ ap (λ a. (g.A.ComposingAlgebra.walks a).of_arc c.args.road.weight) alg in
     let from : vertex_at F c.place.result ≡ tail = ap (vertex_at F) c.place.ensures.place ∙ (ordering.place tail c.requires.tail).1 in
     let to : vertex_at F c.place-2.result ≡ head = ap (vertex_at F) c.place-2.ensures.place ∙ (ordering.place head c.requires.head).1 in
-    subst (λ w. IsWorthOfWalk A C G (vertex_at F c.place.result) (vertex_at F c.place-2.result) w) (sym is)
-    (subst (λ u. IsWorthOfWalk A C G u (vertex_at F c.place-2.result) (C.of_arc c.args.road.weight)) (sym from)
-    (subst (λ u. IsWorthOfWalk A C G tail u (C.of_arc c.args.road.weight)) (sym to) c.requires.worth))
+    let H = heads_in F.leaving in λ z at.
+    let here : (z ≡ place_of F tail) ⊎ (z ≡ place_of F head) = elim at [
+      | inl e ↦ inl (e ∙ c.place.ensures.place)
+      | inr e ↦ inr (e ∙ c.place-2.ensures.place)
+    ] in
+    subst (λ w. IsLinkUnder A C G F z c.place.result c.place-2.result w) (sym is)
+    (subst (λ u. IsWorthUnder A C G H F.places z u (vertex_at F c.place-2.result) (C.of_arc c.args.road.weight)) (sym from)
+    (subst (λ u. IsWorthUnder A C G H F.places z tail u (C.of_arc c.args.road.weight)) (sym to) (c.requires.worth z here)))
+
+pub returns-clause-rest : goal.returns-clause-rest
+returns-clause-rest g c =
+    let F = c.args.self.now.factor in
+    subst (λ p. KeepsRest (IsLesser p (place_of F c.args.road.head)) F c.connect.new.self.factor) c.place.ensures.place
+    (subst (λ p. KeepsRest (IsLesser c.place.result p) F c.connect.new.self.factor) c.place-2.ensures.place c.connect.ensures.rest)
 
 pub returns-clause-leads : goal.returns-clause-leads
 returns-clause-leads g c = λ other.
@@ -47,8 +58,8 @@ connect-requires-clause-back g c κs within =
     let alg : c.self.inside.algebra ≡ c.args.self.now.algebra = λ i. (c.self.view_is i).algebra in
     let is : c.no_walk-back.result ≡ C.no_walk =
     c.no_walk-back.ensures ∙ ap (λ a. (g.A.ComposingAlgebra.walks a).no_walk) alg in
-    subst (λ w. IsWorthOfWalk A C G (vertex_at F c.place-2.result) (vertex_at F c.place.result) w) (sym is)
-    (worth_of_none A C c.holds.ensures.composes G (vertex_at F c.place-2.result) (vertex_at F c.place.result))
+    λ z at. subst (λ w. IsLinkUnder A C G F z c.place-2.result c.place.result w) (sym is)
+    (worth_of_none A C G (heads_in F.leaving) F.places c.holds.ensures.composes z (vertex_at F c.place-2.result) (vertex_at F c.place.result))
 
 pub connect-requires-clause-joined : goal.connect-requires-clause-joined
 connect-requires-clause-joined g c κs within =

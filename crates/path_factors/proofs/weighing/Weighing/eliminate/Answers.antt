@@ -1,4 +1,4 @@
-use Rattle.path_factors.proofs.Words.{ℕ, ◌+◌, ◌<◌, ◌∙◌, arith, subst, Edge, Improves, IsEdgeAt, AreJoined}
+use Rattle.path_factors.proofs.Words.{◌≡◌, true, is_on, ℕ, ◌+◌, ◌<◌, ◌∙◌, arith, subst, Edge, Improves, IsEdgeAt, AreJoined}
 use Rattle.path_factors.proofs.Eliminating.{eliminated_more, eliminated_all}
 use Rattle.path_factors.proofs.weighing.Weighing.eliminate.Goals as goal
 
@@ -8,22 +8,22 @@ loop-i-preserved g c =
     let i = c.loop-i.i in
     let F = c.args.self.now.factor in
     let G = c.loop-i.self.factor in
-    let H = c.pass.new.self.factor in
+    let H = c.pass_marked.new.self.factor in
     let done = c.loop-i.invariant.eliminated in
     let alg = c.loop-i.invariant.same.algebra in
-    let improves = subst (λ a. Improves (g.A.ComposingAlgebra.walks a) (v + 1) G H) alg c.pass.ensures.improves in
+    let improves = subst (λ a. Improves (g.A.ComposingAlgebra.walks a) (v + 1) G H) alg c.pass_marked.ensures.improves in
     let joined = subst (λ a. (j : ℕ) (e f : Edge g.row.A-Walk.Denot) → i < j → IsEdgeAt G v i e → IsEdgeAt G v j f →
-    AreJoined (g.A.ComposingAlgebra.walks a) H e f) alg c.pass.ensures.joined in
+    is_on c.args.marks.now e.place ≡ true → AreJoined (g.A.ComposingAlgebra.walks a) H e f) alg c.pass_marked.ensures.joined in
     record {
       same = record {
-        algebra = c.pass.ensures.same.algebra ∙ alg;
-        roads = c.pass.ensures.same.roads ∙ c.loop-i.invariant.same.roads;
-        heads = c.pass.ensures.same.heads ∙ c.loop-i.invariant.same.heads;
+        algebra = c.pass_marked.ensures.same.algebra ∙ alg;
+        roads = c.pass_marked.ensures.same.roads ∙ c.loop-i.invariant.same.roads;
+        heads = c.pass_marked.ensures.same.heads ∙ c.loop-i.invariant.same.heads;
       };
-      eliminated = eliminated_more (g.A.ComposingAlgebra.walks c.args.self.now.algebra) c.holds.ensures.composes.ordered v F G H i done improves joined;
+      eliminated = eliminated_more (g.A.ComposingAlgebra.walks c.args.self.now.algebra) c.holds.ensures.composes.ordered v c.args.marks.now F G H i done improves c.pass_marked.ensures.rest joined;
     }
 
 pub returns-clause-closed : goal.returns-clause-closed
 returns-clause-closed g c =
-    eliminated_all (g.A.ComposingAlgebra.walks c.args.self.now.algebra) c.holds.ensures.composes.ordered c.args.v c.args.self.now.factor c.loop-i.self.factor
-    c.holds.ensures.aligned c.loop-i.i c.loop-i.invariant.eliminated (omega (arith, c.loop-i-test.false, c.count-i-end.ensures))
+    eliminated_all (g.A.ComposingAlgebra.walks c.args.self.now.algebra) c.holds.ensures.composes.ordered c.args.v c.args.marks.now c.args.self.now.factor c.loop-i.self.factor
+    c.holds.ensures.aligned (c.holds.ensures.outline.are.ascending c.args.v) c.loop-i.i c.loop-i.invariant.eliminated (omega (arith, c.loop-i-test.false, c.count-i-end.ensures))

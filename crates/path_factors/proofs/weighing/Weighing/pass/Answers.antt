@@ -1,4 +1,5 @@
 use Rattle.path_factors.proofs.Words.{◌≡◌, ℕ, ◌+◌, ◌<◌, ◌∙◌, List, length, get_or, ap, arith, sym, subst, Improves, rising, AreJoined, row_of, AreAhead, heads_in, head_at}
+use Rattle.path_factors.proofs.Connecting.{rest_weaker}
 use Rattle.path_factors.proofs.Eliminating.{passed_none, passed_more, edge_kept}
 use Rattle.path_factors.proofs.weighing.Weighing.pass.Goals as goal
 
@@ -7,7 +8,8 @@ loop-j-init g c =
     record {
       same = record { algebra = λ i. c.args.self.now.algebra; roads = λ i. c.args.self.now.roads; heads = λ i. heads_in c.args.self.now.factor.leaving };
       after = omega arith;
-      passed = passed_none (g.A.ComposingAlgebra.walks c.args.self.now.algebra) c.holds.ensures.composes.ordered c.args.v c.args.i c.args.self.now.factor;
+      passed = passed_none (g.A.ComposingAlgebra.walks c.args.self.now.algebra) c.holds.ensures.composes.ordered c.args.v
+          (λ z. z ≡ get_or (row_of (heads_in c.args.self.now.factor.leaving) c.args.v) c.args.i 0) c.args.i c.args.self.now.factor;
       ahead = λ p m from low inside is. omega arith;
     }
 
@@ -26,6 +28,9 @@ loop-j-preserved g c =
     let heads = c.loop-j.invariant.same.heads in
     let improves = subst (λ a. Improves (g.A.ComposingAlgebra.walks a) (v + 1) G H) alg c.join.ensures.improves in
     let joined = subst (λ a. AreJoined (g.A.ComposingAlgebra.walks a) H first second) alg c.join.ensures.joined in
+    let here = head_at F.leaving v c.args.i (rising first) c.edge-first.ensures.leaving_inside c.edge-first.ensures.rises in
+    let head = get_or (row_of (heads_in F.leaving) v) c.args.i 0 in
+    let rest = rest_weaker (λ (z : ℕ). z ≡ first.place) (λ (z : ℕ). z ≡ head) G H (λ z is. is ∙ sym here) c.join.ensures.rest in
     record {
       same = record {
         algebra = c.join.ensures.same.algebra ∙ alg;
@@ -33,7 +38,7 @@ loop-j-preserved g c =
         heads = c.join.ensures.same.heads ∙ heads;
       };
       after = omega (arith, c.loop-j.invariant.after);
-      passed = passed_more C c.holds.ensures.composes.ordered v c.args.i F G H j first second done c.edge-first.ensures c.edge-second.ensures improves joined;
+      passed = passed_more C c.holds.ensures.composes.ordered v (λ z. z ≡ head) c.args.i F G H j first second done c.edge-first.ensures c.edge-second.ensures improves rest joined;
       ahead = subst (λ (h : List (List ℕ)). AreAhead h v c.args.i (j + 1) (c.between-q.result + 1)) heads c.between-q.ensures.ahead;
     }
 

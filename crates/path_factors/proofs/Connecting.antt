@@ -1,6 +1,6 @@
 -- A link is put between two places: it is worth a walk, no other got worse, and lesser rows are the
 -- same.
-use Rattle.path_factors.proofs.Words.{◌≡◌, ℕ, ◌-◌, ◌<◌, ◌≤◌, ◌⊎◌, inl, inr, Bool, List, [], ◌∷◌, ◌++◌, get_or, All-cons, All-nil, All-weaker, refl, ap, sym, ◌∙◌, subst, arith, Some, None, IsTrue, Contains, cases_eq, GraphData, IsGraph, HasArc, arc_of, Algebra, IsOrder, Composition, IsComposition, same_no_worse, Link, FactorData, LeadsNoWorse, IsWorthOfWalk, IsClosedOn, KeepsRest, row_of, vertex_at, AreHeads, AreImproved, Falls, IsBegun, IsHead, IsLinkUnder, IsUnder, IsWorthUnder, Improves, Leads, LinkRows, AreEdgesImproved, Rises, heads_in}
+use Rattle.path_factors.proofs.Words.{◌≡◌, ℕ, ◌-◌, ◌<◌, ◌≤◌, ◌⊎◌, inl, inr, Bool, List, [], ◌∷◌, ◌++◌, get_or, All-cons, All-nil, All-weaker, refl, ap, sym, ◌∙◌, subst, arith, Some, None, IsTrue, Contains, cases_eq, GraphData, IsGraph, HasArc, arc_of, Algebra, IsOrder, Composition, IsComposition, same_no_worse, Link, FactorData, LeadsNoWorse, IsWorthOfWalk, IsClosedOn, KeepsRest, row_of, vertex_at, AreHeads, AreImproved, Falls, IsBegun, IsHead, IsLinkUnder, IsUnder, IsWorthUnder, Improves, Leads, LinkRows, AreEdgesImproved, Rises, heads_in, Edge, rising, falling}
 use Rattle.std.proofs.lemmas.List.Elements.{All-append}
 use Rattle.path_factors.proofs.Offers.{applied_is}
 use Rattle.path_factors.proofs.Substitution.{IsWalk-append, Extends-append}
@@ -139,6 +139,21 @@ module _ {V W : Type 0} (C : Composition V W) (ordered : IsOrder C.no_worse) whe
       (subst (λ (r : List (Link W)). Contains r (record { place = x; walk = a })) (improves.entering v h) falls)
       (subst (λ (r : List (Link W)). Contains r (record { place = y; walk = b })) (improves.leaving v h) rises) other on)
 
+  -- no link gets worse if both of an edge are made better
+  pub both_improve : (F : FactorData W) (x : ℕ) (e : Edge W) (rows : LinkRows W) →
+      AreEdgesImproved C (record { leaving = F.leaving; entering = F.entering }) x e rows → (least : ℕ) → least ≤ x →
+      Improves C least F (record { order = F.order; places = F.places; leaving = rows.leaving; entering = rows.entering })
+  both_improve F x e rows improved least h = record {
+    order = refl;
+    places = refl;
+    leaving = λ i l. improved.leaving.others i (λ e. omega (arith, l, h, e));
+    entering = λ i l. improved.entering.others i (λ e. omega (arith, l, h, e));
+    kept = λ p q b l. elim l [
+      | inl rises ↦ let k = kept_at F.leaving rows.leaving x (rising e) improved.leaving p q b rises in (k.0, inl k.1, k.2)
+      | inr falls ↦ let k = kept_at F.entering rows.entering x (falling e) improved.entering q p b falls in (k.0, inr k.1, k.2)
+    ];
+  }
+
   -- both ways between a lesser place and a greater one
   module _ (A : Algebra V) (g : GraphData) (F : FactorData W) (begun : IsBegun A C g F) (x y : ℕ) (there back : W)
       (onward : IsLinkUnder A C g F x x y there) (homeward : IsLinkUnder A C g F x y x back)
@@ -194,16 +209,4 @@ module _ {V W : Type 0} (C : Composition V W) (ordered : IsOrder C.no_worse) whe
       };
       rising = both_rising;
       falling = both_falling;
-    }
-
-    pub both_improve : (least : ℕ) → least ≤ x → Improves C least F whole
-    both_improve least h = record {
-      order = refl;
-      places = refl;
-      leaving = λ i l. improved.leaving.others i (λ e. omega (arith, l, h, e));
-      entering = λ i l. improved.entering.others i (λ e. omega (arith, l, h, e));
-      kept = λ p q b l. elim l [
-        | inl rises ↦ let k = kept_at F.leaving rows.leaving x riser improved.leaving p q b rises in (k.0, inl k.1, k.2)
-        | inr falls ↦ let k = kept_at F.entering rows.entering x faller improved.entering q p b falls in (k.0, inr k.1, k.2)
-      ];
     }

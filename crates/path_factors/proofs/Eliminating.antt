@@ -1,7 +1,7 @@
 -- The elimination of a place, edge by edge.
-use Rattle.path_factors.proofs.Words.{◌≡◌, ℕ, ◌+◌, ◌<◌, ◌≤◌, inl, inr, Bool, true, is_on, List, length, get_or, refl, ap, sym, ◌∙◌, subst, arith, Contains, cases_eq, cases_lt, get_or_default, get_or-map, length-map, IsOrder, Composition, Link, Edge, FactorData, IsStrictlyIncreasing, heads_in, head_at, row_heads_count, Rises, Falls, LeadsNoWorse, IsClosedOn, KeepsRest, row_of, Improves, rising, falling, AreAligned, IsEdgeAt, AreJoined}
-use Rattle.path_factors.proofs.Connecting.{still_leads, improves_none, improves_more, improves_lower, rest_more, stays_closed}
-use Rattle.path_factors.proofs.HeadRows.{rises_between}
+use Rattle.path_factors.proofs.Words.{◌≡◌, ℕ, ◌+◌, ◌<◌, ◌≤◌, inl, inr, Bool, true, is_on, List, length, get_or, refl, ap, sym, ◌∙◌, subst, arith, Contains, cases_eq, cases_lt, get_or_default, get_or-map, length-map, IsOrder, Composition, Link, Edge, FactorData, IsStrictlyIncreasing, heads_in, head_at, row_heads_count, Rises, Falls, LeadsNoWorse, IsClosedOn, KeepsRest, row_of, Improves, rising, falling, AreAligned, IsEdgeAt, AreJoined, Algebra, AreHeads, GraphData, IsBegun, IsComposition, IsLinkUnder, vertex_at}
+use Rattle.path_factors.proofs.Connecting.{still_leads, improves_none, improves_more, improves_lower, rest_more, stays_closed, worth_above, worth_of_both}
+use Rattle.path_factors.proofs.HeadRows.{head_of_link, rises_between}
 
 -- the edge at index i was joined with those after it, up to index j, and only such rows were changed
 pub record Passed {V W : Type 0} (C : Composition V W) (Is : ℕ → Type 0) (v i : ℕ) (F G : FactorData W) (j : ℕ) : Type 0 where
@@ -90,6 +90,21 @@ module _ {W : Type 0} where
         let k : Link W = record { place = x; walk = a } in
         let e = edge_at h.0 k (omega (arith, h.1, aligned_count)) in
         (e.0, e.1, sym e.1.falls ∙ get_or_default (row_of F.entering v) h.0 (falling e.0) k h.1 ∙ h.2)
+
+-- what two edges of a place make at their ends is worth walks under the first of these
+pub joined_worth : {V W : Type 0} (A : Algebra V) (C : Composition V W) → IsComposition A C → (g : GraphData) (F : FactorData W) →
+    AreHeads g.vertices (heads_in F.leaving) → IsBegun A C g F → (v : ℕ) (e f : Edge W) → (i : ℕ) × IsEdgeAt F v i e → (j : ℕ) × IsEdgeAt F v j f →
+    IsLinkUnder A C g F e.place e.place f.place (C.compose e.entering f.leaving) × IsLinkUnder A C g F e.place f.place e.place (C.compose f.entering e.leaving)
+joined_worth {W = W} A C composes g F are begun v e f first second =
+    let H = heads_in F.leaving in
+    let head = head_of_link F.leaving v (rising e) (edge_rises F v first.0 e first.1) in
+    let up : (x y : ℕ) (a : W) → IsLinkUnder A C g F v x y a → IsLinkUnder A C g F e.place x y a =
+    λ x y a worth. worth_above A C g H F.places are v e.place (vertex_at F x) (vertex_at F y) a head worth in
+    let both : (x y : ℕ) (a b : W) → IsLinkUnder A C g F v x v a → IsLinkUnder A C g F v v y b → IsLinkUnder A C g F e.place x y (C.compose a b) =
+    λ x y a b one two. worth_of_both A C g H F.places composes e.place (vertex_at F x) (vertex_at F v) (vertex_at F y) a b (up x v a one) (up v y b two) in (
+      both e.place f.place e.entering f.leaving (begun.falling e.place v e.entering (edge_falls F v first.0 e first.1)) (begun.rising v f.place f.leaving (edge_rises F v second.0 f second.1)),
+      both f.place e.place f.entering e.leaving (begun.falling f.place v f.entering (edge_falls F v second.0 f second.1)) (begun.rising v e.place e.leaving (edge_rises F v first.0 e first.1)),
+    )
 
 module _ {V W : Type 0} (C : Composition V W) (ordered : IsOrder C.no_worse) where
   still_joined : (low : ℕ) (F G : FactorData W) → Improves C low F G → (e f : Edge W) → AreJoined C F e f → AreJoined C G e f

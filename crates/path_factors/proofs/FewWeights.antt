@@ -1,5 +1,5 @@
 -- What few other weights change: the links of places above the changed arcs.
-use Rattle.path_factors.proofs.Words.{◌≡◌, ℕ, zero, suc, ◌+◌, ◌-◌, ◌<◌, ◌≤◌, ◌⊎◌, inl, inr, Bool, true, false, List, [], ◌∷◌, length, set, get_or, refl, ap, sym, ◌∙◌, subst, arith, All, Contains, cases_Bool, cases_eq, cases_lt, get_or-set_same, get_or-set_other, is_on, GraphData, HasArc, arc_of, Algebra, Composition, IsComposition, Link, FactorData, Rises, Falls, LeadsNoWorse, FactorState, AreArcsJoined, AreHeads, AreBlanked, ArePlaces, IsBegun, IsHead, IsJoined, IsAncestor, IsUp, IsTreeParent, IsKnownUpward, IsLesserOn, IsLinkUnder, IsOutline, IsUnder, IsWhole, IsWholeBut, IsWorthUnder, heads_in, place_of, vertex_at, LinkRows}
+use Rattle.path_factors.proofs.Words.{◌≡◌, ℕ, zero, suc, ◌+◌, ◌-◌, ◌<◌, ◌≤◌, ◌⊎◌, inl, inr, Bool, true, false, List, [], ◌∷◌, length, set, get_or, refl, ap, sym, ◌∙◌, subst, arith, All, Contains, cases_Bool, cases_eq, cases_lt, get_or-set_same, get_or-set_other, is_on, GraphData, HasArc, arc_of, Algebra, Composition, IsComposition, Link, FactorData, Rises, Falls, LeadsNoWorse, FactorState, AreArcsJoined, AreHeads, AreBlanked, ArePlaces, IsBegun, IsHead, IsJoined, IsAncestor, IsUp, IsTreeParent, IsKnownUpward, IsLesserOn, IsLinkUnder, IsOutline, IsUnder, IsWhole, IsWholeBut, IsWorthUnder, heads_in, place_of, vertex_at, LinkRows, IsOpen}
 use Rattle.std.proofs.lemmas.List.Elements.{All-cons, All-head, All-nil, All-tail}
 use Rattle.road_graph.specs.declared.RoadArc.{RoadArc}
 use Rattle.path_algebra.specs.Walks.{IsWalk, Extends}
@@ -323,8 +323,7 @@ module _ {V W : Type 0} (A : Algebra V) (C : Composition V W) (composes : IsComp
 
 -- all of it, for rows without walks at the links of marked places
 pub record Changed {V W : Type 0} (A : Algebra V) (C : Composition V W) (g : GraphData) (marks : List Bool) (F : FactorData W) : Type 0 where
-  pub begun : IsBegun A C g F
-  pub outline : IsOutline g F.places (heads_in F.leaving)
+  pub links : IsOpen A C g F
   pub whole : IsWholeBut A C g marks F
 
 pub changed : {V W T : Type 0} (A : Algebra V) (C : Composition V W) → IsComposition A C → (changes : List RoadArc) (g : GraphData) (f : FactorState T W) →
@@ -344,7 +343,9 @@ changed {W = W} A C composes changes g f differs outline whole heads aligned mar
     let e = blank F.entering rows.entering entering in
     subst (λ (o : List ℕ). Changed A C g marks (record { order = o; places = places; leaving = rows.leaving; entering = rows.entering })) (sym first)
     (subst (λ (p : List ℕ). Changed A C g marks (record { order = F.order; places = p; leaving = rows.leaving; entering = rows.entering })) (sym second) (record {
-      begun = begun_after A C composes changes g f.roads differs F here whole marks count up at rows l e aligned;
-      outline = outline_after A C composes changes g f.roads differs F here whole marks count up at rows l e aligned;
+      links = (
+        begun_after A C composes changes g f.roads differs F here whole marks count up at rows l e aligned,
+        outline_after A C composes changes g f.roads differs F here whole marks count up at rows l e aligned,
+      );
       whole = whole_after A C composes changes g f.roads differs F here whole marks count up at rows l e aligned;
     }))

@@ -7,7 +7,7 @@ use Rattle.path_algebra.specs.Walks.{IsWalk, Extends}
 use Rattle.path_factors.specs.declared.link.Link.{Link}
 use Rattle.path_factors.specs.Asking.{IsKnownUpward, is_on}
 use Rattle.path_factors.specs.Factors.{FactorData, Rises, Falls, Leads, LeadsNoWorse, IsOrdering, AreLinks, CoversArcs, IsClosedAt, place_of, row_of, vertex_at}
-use Rattle.path_factors.specs.Heads.{IsJoined, heads_in}
+use Rattle.path_factors.specs.Heads.{IsJoined, IsOutline, heads_in}
 use Rattle.path_factors.specs.Tree.{IsAncestor}
 
 -- a row after a link was added to it: its links are those before and that one, none got worse, and
@@ -60,6 +60,10 @@ pub record Improves {V W : Type 0} (C : Composition V W) (low : ℕ) (before aft
 -- the links are closed at each place below k
 abbrev pub AreClosedTo : {V W : Type 0} → Composition V W → FactorData W → ℕ → Type 0
 AreClosedTo C F k = (v : ℕ) → v < k → IsClosedAt C F v
+
+-- so begun, over an outline of the graph
+abbrev pub IsOpen : {V W : Type 0} → Algebra V → Composition V W → GraphData → FactorData W → Type 0
+IsOpen A C g F = IsBegun A C g F × IsOutline g F.places (heads_in F.leaving)
 
 -- the rows of places, except such ones, are the same
 abbrev pub KeepsRest : {W : Type 0} → (ℕ → Type 0) → FactorData W → FactorData W → Type 0

@@ -2,8 +2,7 @@
 ghost use Rattle.std.specs.Prelude.{◌≡◌, ℕ, ◌<◌, All, IfErr, IfOk, IsSome, length, true};
 ghost use Rattle.road_graph.specs.GraphData.{HasVertex};
 ghost use Rattle.path_factors.specs.Asking.{IsKnownUpward, is_on};
-ghost use Rattle.path_factors.specs.Eliminating.{AreClosedTo, IsWhole};
-ghost use Rattle.path_factors.specs.Factors.{CoversArcs};
+ghost use Rattle.path_factors.specs.Eliminating.{IsWhole};
 ghost use Rattle.path_factors.specs.Heads.{heads_in};
 ghost use Rattle.path_factors.specs.Reweighing.{AreMarkedAt, DiffersAt};
 ghost use Rattle.halting.specs.declared.unfinished.Unfinished.TheVariants.{Halted};
@@ -70,9 +69,8 @@ impl<A: ComposingAlgebra> Factors<A> {
         ensures algebra { IfOk result (λ w. w.algebra ≡ self.now.algebra) }
         ensures roads { IfOk result (λ w. w.roads ≡ graph.now) }
         ensures order { IfOk result (λ w. w.factor.order ≡ self.now.factor.order) }
-        ensures covers { IfOk result (λ w. CoversArcs (A.walks w.algebra) w.roads w.factor) }
-        ensures closed { IfOk result (λ w. AreClosedTo (A.walks w.algebra) w.factor
-            w.roads.vertices) }
+        ensures whole { IfOk result (λ w. IsWhole (A.meaning w.algebra) (A.walks w.algebra)
+            w.roads w.factor) }
         ensures halts { IfErr result (λ e. e ≡ Halted → IsSome stop.now) }
     {
         self.holds();
@@ -84,31 +82,6 @@ impl<A: ComposingAlgebra> Factors<A> {
         let mut weighing = Weighing::open(self.algebra, graph, order, places, rows);
         weighing.weigh(&marks, stop)?;
         Ok(weighing)
-    }
-
-    /// The same, or each link anew, if not all were kept.
-    fn weighed_at<'g>(
-        &self,
-        alloc: Global,
-        graph: &'g OutGraph,
-        changes: &[RoadArc],
-        stop: &Option<Stop>,
-    ) -> Result<Weighing<'g, A>, Unfinished>
-        requires ends { All (λ c. HasVertex self.now.roads c.tail × HasVertex self.now.roads c.head) changes.now }
-        requires differs { DiffersAt changes.now graph.now self.now.roads }
-        ensures algebra { IfOk result (λ w. w.algebra ≡ self.now.algebra) }
-        ensures roads { IfOk result (λ w. w.roads ≡ graph.now) }
-        ensures order { IfOk result (λ w. w.factor.order ≡ self.now.factor.order) }
-        ensures covers { IfOk result (λ w. CoversArcs (A.walks w.algebra) w.roads w.factor) }
-        ensures closed { IfOk result (λ w. AreClosedTo (A.walks w.algebra) w.factor
-            w.roads.vertices) }
-        ensures halts { IfErr result (λ e. e ≡ Halted → IsSome stop.now) }
-    {
-        self.holds();
-        match &self.heads {
-            Some(_) => self.weighed_anew(alloc, self.algebra, graph, stop),
-            None => self.weighed_above(alloc, graph, changes, stop),
-        }
     }
 
     /// The factors, with all links, of a graph that has the arcs of this one, with other weights at
@@ -129,8 +102,12 @@ impl<A: ComposingAlgebra> Factors<A> {
         ensures order { IfOk result (λ f. f.factor.order ≡ self.now.factor.order) }
         ensures halts { IfErr result (λ e. e ≡ Halted → IsSome stop.now) }
     {
+        self.holds();
         let links = Links::All;
-        let weighing = self.weighed_at(alloc, graph, changes, stop)?;
+        let weighing = match &self.heads {
+            Some(_) => self.weighed_anew(alloc, self.algebra, graph, stop)?,
+            None => self.weighed_above(alloc, graph, changes, stop)?,
+        };
         weighing.prune(alloc, Making { links, stop })
     }
 }

@@ -3,7 +3,7 @@ ghost use Rattle.std.specs.Prelude.{◌≡◌, ℕ, ◌<◌, ◌⊎◌, IfErr, I
 ghost use Rattle.road_graph.specs.GraphData.{HasArc, HasVertex, arc_of};
 ghost use Rattle.path_factors.specs.Asking.{is_on};
 ghost use Rattle.path_factors.specs.Factors.{LeadsNoWorse, place_of};
-ghost use Rattle.path_factors.specs.Eliminating.{CoversArcsOn, Improves, IsLesser, IsLesserOn, IsWorthUnder, KeepsRest};
+ghost use Rattle.path_factors.specs.Eliminating.{CoversArcsOn, Improves, IsLesserOn, IsWorthUnder, KeepsRest};
 ghost use Rattle.path_factors.specs.Heads.{IsHead, IsJoined, heads_in};
 ghost use Rattle.path_factors.specs.State.{IsSameState};
 ghost use Rattle.halting.specs.declared.unfinished.Unfinished.TheVariants.{Halted};
@@ -23,33 +23,9 @@ impl<'g, A: ComposingAlgebra> Weighing<'g, A> {
         self.places[v.0 as usize - 1]
     }
 
-    /// Puts a walk at the link for a road from a vertex, unless there is one no worse.
-    fn add(&mut self, tail: Vertex, road: OutRoad)
-        requires tail { HasVertex self.old.roads tail }
-        requires head { HasVertex self.old.roads road.head }
-        requires joined { IsJoined (IsHead (heads_in self.old.factor.leaving))
-            (place_of self.old.factor tail) (place_of self.old.factor road.head) }
-        requires worth { (z : ℕ) → (z ≡ place_of self.old.factor tail) ⊎ (z ≡ place_of self.old.factor road.head) →
-            IsWorthUnder (A.meaning self.old.algebra) (A.walks self.old.algebra) self.old.roads
-            (heads_in self.old.factor.leaving) self.old.factor.places z tail road.head
-            ((A.walks self.old.algebra).of_arc road.weight) }
-        ensures same { IsSameState self.old self.new }
-        ensures improves { Improves (A.walks self.old.algebra) 0 self.old.factor
-            self.new.factor }
-        ensures rest { KeepsRest (IsLesser (place_of self.old.factor tail) (place_of self.old.factor road.head))
-            self.old.factor self.new.factor }
-        ensures leads { (tail ≡ road.head → ⊥) →
-            LeadsNoWorse (A.walks self.old.algebra) self.new.factor (place_of self.old.factor tail)
-            (place_of self.old.factor road.head) ((A.walks self.old.algebra).of_arc road.weight) }
-    {
-        self.holds();
-        let there = self.algebra.of_arc(road.weight);
-        let back = self.algebra.no_walk();
-        self.connect(self.place(tail), self.place(road.head), there, back);
-    }
-
-    /// Does so if the lesser place is marked.
-    fn add_marked(&mut self, tail: Vertex, road: OutRoad, marks: &[bool])
+    /// Puts a walk at the link for a road from a vertex, if the lesser place is marked, unless there
+    /// is one no worse.
+    fn add(&mut self, tail: Vertex, road: OutRoad, marks: &[bool])
         requires tail { HasVertex self.old.roads tail }
         requires head { HasVertex self.old.roads road.head }
         requires joined { IsJoined (IsHead (heads_in self.old.factor.leaving))
@@ -69,9 +45,10 @@ impl<'g, A: ComposingAlgebra> Weighing<'g, A> {
             (place_of self.old.factor road.head) ((A.walks self.old.algebra).of_arc road.weight) }
     {
         self.holds();
-        let lesser = self.place(tail).min(self.place(road.head));
-        if marks[lesser as usize] {
-            self.add(tail, road);
+        let (x, y) = (self.place(tail), self.place(road.head));
+        if marks[x.min(y) as usize] {
+            let there = self.algebra.of_arc(road.weight);
+            self.connect(x, y, there, self.algebra.no_walk());
         }
     }
 
@@ -93,7 +70,7 @@ impl<'g, A: ComposingAlgebra> Weighing<'g, A> {
         self.holds();
         let graph = self.graph;
         for road in graph.roads_from(tail) {
-            self.add_marked(tail, *road, marks);
+            self.add(tail, *road, marks);
         }
     }
 

@@ -1,8 +1,8 @@
 //! Edges are left out that others do for.
 ghost use Rattle.std.specs.Prelude.{◌≡◌, ◌<◌, IfErr, IfOk, IsSome, IsTrue, OnOk, length, slice_index, true};
 ghost use Rattle.std.specs.Arc.{arc_value};
-ghost use Rattle.path_factors.specs.Factors.{CoversArcs, Leads, row_of};
-ghost use Rattle.path_factors.specs.Eliminating.{AreClosedTo};
+ghost use Rattle.path_factors.specs.Factors.{Leads, row_of};
+ghost use Rattle.path_factors.specs.Eliminating.{IsWhole};
 ghost use Rattle.path_factors.specs.Heads.{heads_in};
 ghost use Rattle.path_factors.specs.Pruning.{AreThinTo, DoForAll, IsBypassed};
 ghost use Rattle.halting.specs.declared.unfinished.Unfinished.TheVariants.{Halted};
@@ -179,8 +179,8 @@ impl<'g, A: ComposingAlgebra> Weighing<'g, A> {
     /// The factor with all edges, or without those that others do for, once each arc has a walk at
     /// its link and each place is eliminated.
     pub(crate) fn prune(self, alloc: Global, making: Making<'_>) -> Result<Factors<A>, Unfinished>
-        requires covers { CoversArcs (A.walks self.algebra) self.roads self.factor }
-        requires closed { AreClosedTo (A.walks self.algebra) self.factor self.roads.vertices }
+        requires whole { IsWhole (A.meaning self.algebra) (A.walks self.algebra) self.roads
+            self.factor }
         ensures algebra { IfOk result (λ f. f.algebra ≡ self.entry.algebra) }
         ensures roads { IfOk result (λ f. f.roads ≡ self.entry.roads) }
         ensures order { IfOk result (λ f. f.factor.order ≡ self.entry.factor.order) }

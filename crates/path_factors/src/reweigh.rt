@@ -1,9 +1,9 @@
 //! A graph is factored over the links of another one: the same order, other weights.
 ghost use Rattle.std.specs.Prelude.{◌≡◌, IfOk, IfErr, IsSome, OnOk};
 ghost use Rattle.std.specs.Arc.{arc_value};
-ghost use Rattle.path_factors.specs.Factors.{ArePlaces, CoversArcs};
+ghost use Rattle.path_factors.specs.Factors.{ArePlaces};
 ghost use Rattle.path_factors.specs.Edges.{AreBlank};
-ghost use Rattle.path_factors.specs.Eliminating.{AreClosedTo, IsBegun, IsWholeBut};
+ghost use Rattle.path_factors.specs.Eliminating.{IsOpen, IsWhole, IsWholeBut};
 ghost use Rattle.path_factors.specs.Heads.{IsOutline, heads_in};
 ghost use Rattle.path_factors.specs.Reweighing.{Fits, IsReason, JoinsNoOthers};
 ghost use Rattle.path_factors.specs.State.{IsSameState};
@@ -40,13 +40,12 @@ impl<'g, A: ComposingAlgebra> Weighing<'g, A> {
         places: Vec<u32>,
         rows: PackedRows<A::Walk>,
     ) -> Self
-        requires begun { IsBegun (A.meaning algebra) (A.walks algebra) graph.now (record {
+        requires links { IsOpen (A.meaning algebra) (A.walks algebra) graph.now (record {
           order = (arc_value order).value.vertices.items;
           places = places.items;
           leaving = rows.leaving;
           entering = rows.entering;
         }) }
-        requires outline { IsOutline graph.now places.items (heads_in rows.leaving) }
         ensures algebra { result.algebra ≡ algebra }
         ensures roads { result.roads ≡ graph.now }
         ensures factor { result.factor ≡ record {
@@ -94,10 +93,8 @@ impl<'g, A: ComposingAlgebra> Weighing<'g, A> {
             self.old.roads marks.now self.old.factor }
         ensures same { OnOk result (IsSameState self.old self.new) }
         ensures order { OnOk result (self.new.factor.order ≡ self.old.factor.order) }
-        ensures covers { OnOk result (CoversArcs (A.walks self.new.algebra) self.new.roads
-            self.new.factor) }
-        ensures closed { OnOk result (AreClosedTo (A.walks self.new.algebra) self.new.factor
-            self.new.roads.vertices) }
+        ensures whole { OnOk result (IsWhole (A.meaning self.new.algebra)
+            (A.walks self.new.algebra) self.new.roads self.new.factor) }
         ensures halts { IfErr result (λ e. e ≡ Halted → IsSome stop.now) }
     {
         self.holds();
@@ -111,10 +108,8 @@ impl<'g, A: ComposingAlgebra> Weighing<'g, A> {
     pub(crate) fn weigh_all(&mut self, alloc: Global, stop: &Option<Stop>) -> Result<(), Unfinished>
         ensures same { OnOk result (IsSameState self.old self.new) }
         ensures order { OnOk result (self.new.factor.order ≡ self.old.factor.order) }
-        ensures covers { OnOk result (CoversArcs (A.walks self.new.algebra) self.new.roads
-            self.new.factor) }
-        ensures closed { OnOk result (AreClosedTo (A.walks self.new.algebra) self.new.factor
-            self.new.roads.vertices) }
+        ensures whole { OnOk result (IsWhole (A.meaning self.new.algebra)
+            (A.walks self.new.algebra) self.new.roads self.new.factor) }
         ensures halts { IfErr result (λ e. e ≡ Halted → IsSome stop.now) }
     {
         self.holds();
@@ -153,9 +148,8 @@ impl<A: ComposingAlgebra> Factors<A> {
         ensures roads { IfOk result (λ w. w.roads ≡ graph.now) }
         ensures order { IfOk result (λ w. w.factor.order ≡ self.now.factor.order) }
         ensures heads { IfOk result (λ w. heads_in w.factor.leaving ≡ self.now.heads) }
-        ensures covers { IfOk result (λ w. CoversArcs (A.walks w.algebra) w.roads w.factor) }
-        ensures closed { IfOk result (λ w. AreClosedTo (A.walks w.algebra) w.factor
-            w.roads.vertices) }
+        ensures whole { IfOk result (λ w. IsWhole (A.meaning w.algebra) (A.walks w.algebra)
+            w.roads w.factor) }
         ensures halts { IfErr result (λ e. e ≡ Halted → IsSome stop.now) }
     {
         self.holds();

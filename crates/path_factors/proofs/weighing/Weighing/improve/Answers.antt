@@ -35,20 +35,9 @@ pub returns-clause-improves : goal.returns-clause-improves
 returns-clause-improves g c = λ low below.
     let s = c.self.inside in
     let C = g.A.ComposingAlgebra.walks s.algebra in
-    let G = s.graph.now in
-    let x = c.args.x in
-    let e = c.args.edge in
-    let leaving = subst (λ (s : FactorState g.row.A.Denot g.row.A-Walk.Denot). IsLinkUnder (g.A.PathAlgebra.meaning s.algebra) (g.A.ComposingAlgebra.walks s.algebra) s.roads s.factor x x e.place e.leaving)
-    (sym c.self.view_is) c.requires.leaving in
-    let entering = subst (λ (s : FactorState g.row.A.Denot g.row.A-Walk.Denot). IsLinkUnder (g.A.PathAlgebra.meaning s.algebra) (g.A.ComposingAlgebra.walks s.algebra) s.roads s.factor x e.place x e.entering)
-    (sym c.self.view_is) c.requires.entering in
-    let index = subst (λ (s : FactorState g.row.A.Denot g.row.A-Walk.Denot). c.args.j < length (row_of (heads_in s.factor.leaving) x)) (sym c.self.view_is) c.requires.index in
-    let is = subst (λ (s : FactorState g.row.A.Denot g.row.A-Walk.Denot). get_or (row_of (heads_in s.factor.leaving) x) c.args.j 0 ≡ e.place) (sym c.self.view_is) c.requires.head in
-    let rises = c.self.invariant.1.are.rising x e.place (c.args.j, index, get_or_default (row_of (heads_in s.rows.leaving) x) c.args.j e.place 0 index ∙ is) in
     subst (λ (s : FactorState g.row.A.Denot g.row.A-Walk.Denot). Improves (g.A.ComposingAlgebra.walks s.algebra) low s.factor
     (record { order = (arc_value c.self.inside.order).value.vertices.items; places = c.self.inside.places.items; leaving = c.improve.new.self.leaving; entering = c.improve.new.self.entering })) c.self.view_is
-    (both_improve C c.composition_holds.ensures.ordered (g.A.PathAlgebra.meaning s.algebra) G _ c.self.invariant.0 x e.place e.leaving e.entering leaving entering
-    rises.0 rises.1 c.improve.new.self c.improve.ensures.heads c.improve.ensures.improved low below)
+    (both_improve C c.composition_holds.ensures.ordered _ c.args.x c.args.edge c.improve.new.self c.improve.ensures.improved low below)
 
 pub returns-clause-rest : goal.returns-clause-rest
 returns-clause-rest g c =

@@ -8,21 +8,21 @@ loop-road-preserved g c =
     let C = g.A.ComposingAlgebra.walks c.args.self.now.algebra in
     let F = c.args.self.now.factor in
     let G = c.loop-road.self.factor in
-    let H = c.add_marked.new.self.factor in
+    let H = c.add.new.self.factor in
     let tail = c.args.tail in
     let road = c.road-item.result in
     let alg = c.loop-road.invariant.same.algebra in
     let marks = c.args.marks.now in
-    let improves = subst (λ a. Improves (g.A.ComposingAlgebra.walks a) 0 G H) alg c.add_marked.ensures.improves in
-    let leads = subst (λ a. (tail ≡ road.head → ⊥) → IsLesserOn marks (place_of G tail) (place_of G road.head) → LeadsNoWorse (g.A.ComposingAlgebra.walks a) H (place_of G tail) (place_of G road.head) ((g.A.ComposingAlgebra.walks a).of_arc road.weight)) alg c.add_marked.ensures.leads in
+    let improves = subst (λ a. Improves (g.A.ComposingAlgebra.walks a) 0 G H) alg c.add.ensures.improves in
+    let leads = subst (λ a. (tail ≡ road.head → ⊥) → IsLesserOn marks (place_of G tail) (place_of G road.head) → LeadsNoWorse (g.A.ComposingAlgebra.walks a) H (place_of G tail) (place_of G road.head) ((g.A.ComposingAlgebra.walks a).of_arc road.weight)) alg c.add.ensures.leads in
     record {
       same = record {
-        algebra = c.add_marked.ensures.same.algebra ∙ alg;
-        roads = c.add_marked.ensures.same.roads ∙ c.loop-road.invariant.same.roads;
-        heads = c.add_marked.ensures.same.heads ∙ c.loop-road.invariant.same.heads;
+        algebra = c.add.ensures.same.algebra ∙ alg;
+        roads = c.add.ensures.same.roads ∙ c.loop-road.invariant.same.roads;
+        heads = c.add.ensures.same.heads ∙ c.loop-road.invariant.same.heads;
       };
       loaded = loaded_more C c.holds.ensures.composes.ordered marks tail c.roads_from-road-items.result.now F G H c.loop-road.road-index road c.loop-road.invariant.loaded
-          c.loop-road-test.true c.road-item.is improves c.add_marked.ensures.rest leads;
+          c.loop-road-test.true c.road-item.is improves c.add.ensures.rest leads;
     }
 
 pub returns-clause-covers : goal.returns-clause-covers
@@ -32,15 +32,15 @@ returns-clause-covers g c = λ a has from other on.
     loaded_all (g.A.ComposingAlgebra.walks c.args.self.now.algebra) c.holds.ensures.composes.ordered c.args.marks.now c.args.self.now.roads c.args.tail items lists
     c.args.self.now.factor c.loop-road.self.factor c.loop-road.road-index c.loop-road.invariant.loaded c.loop-road-test.false a has from other on
 
-pub add_marked-requires-clause-head : goal.add_marked-requires-clause-head
-add_marked-requires-clause-head g c κs within =
+pub add-requires-clause-head : goal.add-requires-clause-head
+add-requires-clause-head g c κs within =
     let items = c.roads_from-road-items.result.now in
     let lists = subst (λ (s : FactorState g.row.A.Denot g.row.A-Walk.Denot). ListsRoadsFrom s.roads c.args.tail items) c.self.view_is c.roads_from-road-items.ensures in
     subst (λ r. HasVertex r c.road-item.result.head) (sym c.loop-road.invariant.same.roads)
     (road_inside c.args.self.now.roads c.holds.ensures.roads c.args.tail items lists c.loop-road.road-index c.road-item.result c.loop-road-test.true c.road-item.is)
 
-pub add_marked-requires-clause-worth : goal.add_marked-requires-clause-worth
-add_marked-requires-clause-worth g c κs within =
+pub add-requires-clause-worth : goal.add-requires-clause-worth
+add-requires-clause-worth g c κs within =
     let A = g.A.PathAlgebra.meaning c.args.self.now.algebra in
     let C = g.A.ComposingAlgebra.walks c.args.self.now.algebra in
     let items = c.roads_from-road-items.result.now in
@@ -60,8 +60,8 @@ add_marked-requires-clause-worth g c κs within =
     subst (λ a. IsWorthUnder (g.A.PathAlgebra.meaning a) (g.A.ComposingAlgebra.walks a) c.loop-road.self.roads (heads_in G.leaving) G.places z c.args.tail road.head
     ((g.A.ComposingAlgebra.walks a).of_arc road.weight)) (sym c.loop-road.invariant.same.algebra) on_roads
 
-pub add_marked-requires-clause-joined : goal.add_marked-requires-clause-joined
-add_marked-requires-clause-joined g c κs within =
+pub add-requires-clause-joined : goal.add-requires-clause-joined
+add-requires-clause-joined g c κs within =
     let F = c.args.self.now.factor in
     let G = c.loop-road.self.factor in
     let tail = c.args.tail in

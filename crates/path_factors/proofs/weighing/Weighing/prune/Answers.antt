@@ -15,12 +15,12 @@ invariant_of-result g c =
       | in-All w ↦ rw (c.of.ensures, w.heads-is, w.self-inside-is) (
         subst (λ (t : FactorState g.row.A.Denot g.row.A-Walk.Denot).
             IsFactored (g.A.PathAlgebra.meaning t.algebra) (g.A.ComposingAlgebra.walks t.algebra) t.roads t.factor (heads_in t.factor.leaving)) (sym c.self.view_is)
-            (whole_is_factored A lawful C h.composes S.factor S.roads c.requires.covers c.requires.closed h.begun h.aligned h.roads h.outline),
+            (whole_is_factored A lawful C h.composes S.factor S.roads c.requires.whole.covers c.requires.whole.closed h.begun h.aligned h.roads h.outline),
         subst (λ (t : FactorState g.row.A.Denot g.row.A-Walk.Denot).
             AreParentsTo (heads_in t.factor.leaving) t.roads.vertices t.roads.vertices (arc_value c.in_ok-parents-2.parents).items) (sym c.self.view_is) parents,
         λ none. subst (λ (t : FactorState g.row.A.Denot g.row.A-Walk.Denot).
             IsWhole (g.A.PathAlgebra.meaning t.algebra) (g.A.ComposingAlgebra.walks t.algebra) t.roads t.factor) (sym c.self.view_is)
-            (record { begun = h.begun; covers = c.requires.covers; closed = c.requires.closed }),
+            c.requires.whole,
       )
       | in-Needed+in_ok-rows-in-Needed+in_ok-heads-in-Needed w ↦
           let rows = w.in_ok-rows-in-Needed.rows in
@@ -28,7 +28,7 @@ invariant_of-result g c =
             subst (λ (t : FactorState g.row.A.Denot g.row.A-Walk.Denot).
                 IsFactored (g.A.PathAlgebra.meaning t.algebra) (g.A.ComposingAlgebra.walks t.algebra) t.roads
                 (record { order = t.factor.order; places = t.factor.places; leaving = rows.leaving; entering = rows.entering }) (heads_in t.factor.leaving)) (sym c.self.view_is)
-                (pruned_is_factored A lawful C h.composes S.factor S.roads c.requires.covers c.requires.closed h.begun h.aligned h.roads h.outline
+                (pruned_is_factored A lawful C h.composes S.factor S.roads c.requires.whole.covers c.requires.whole.closed h.begun h.aligned h.roads h.outline
                 rows w.in_ok-rows-in-Needed.ensures.thin),
             subst (λ (t : FactorState g.row.A.Denot g.row.A-Walk.Denot).
                 AreParentsTo (heads_in t.factor.leaving) t.roads.vertices t.roads.vertices (arc_value c.in_ok-parents-2.parents).items) (sym c.self.view_is) parents,

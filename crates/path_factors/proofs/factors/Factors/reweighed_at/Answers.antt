@@ -1,5 +1,5 @@
 use Rattle.path_factors.proofs.FewWeights.{changed_fits}
-use Rattle.path_factors.proofs.factors.Factors.weighed_at.Goals as goal
+use Rattle.path_factors.proofs.factors.Factors.reweighed_at.Goals as goal
 
 pub weighed_anew-requires-after_bounds : goal.weighed_anew-requires-after_bounds
 weighed_anew-requires-after_bounds g c κs within =

@@ -7,7 +7,6 @@ use Rattle.road_files.specs.declared.questions.Kind.{Kind}
 use Rattle.road_files.specs.declared.questions.Kind.TheVariants.{Sources}
 use Rattle.path_algebra.specs.Algebra.{Algebra}
 use Rattle.path_algebra.specs.Walks.{AreBest}
-use Rattle.shard_store.specs.Plans.{PlanData}
 use Rattle.shard_store.specs.Setup.{SetupData}
 use Rattle.post_floor.specs.Data.{FloorData}
 use Rattle.station.specs.Station.{StationData, BelongsTo}
@@ -21,10 +20,6 @@ use Rattle.batch_run.specs.declared.solve.queue.DiffusionQueue.{DiffusionQueue}
 use Rattle.batch_settings.specs.declared.settings.Settings.{Settings}
 use Rattle.batch_run.specs.Cut.{IsCut, pace_of}
 use Rattle.batch_run.specs.Reports.{IsAccount}
-
--- the plan is one of the graph
-abbrev pub IsPlanOf : GraphData → PlanData → Type 0
-IsPlanOf roads plan = length plan.list ≡ roads.vertices
 
 -- question i is one of them, and j the place of a source of it
 pub record HasSource (questions : List Question) (i j : ℕ) : Type 0 where
@@ -69,10 +64,14 @@ pub record IsGatheredOver {V : Type 0} (A : Algebra V) (how : Settings) (g : Gra
   pub labelling : IsLabelling A g kind (d.source ∷ []) d.labelling
   pub account : IsAccount A how g d.source d.tally
 
+-- the plan is the graph's, and it and the pace are those that the settings choose
+abbrev pub IsChosen : {V : Type 0} → Settings → GraphData → DiffusionQueue V → Type 0
+IsChosen how g queue = IsCut how g queue.counted.plan × (queue.counted.roads ≡ g) × (queue.pace ≡ pace_of how g)
+
 -- the plan and the pace are those that the settings choose, those that wait were gathered, and
 -- their sources are a prefix of those to come
 pub record AreNext {V : Type 0} (A : Algebra V) (how : Settings) (g : GraphData) (kind : Kind) (to_come : List ℕ) (queue : DiffusionQueue V) : Type 0 where
-  pub chosen : IsCut how g queue.plan × (queue.pace ≡ pace_of how g)
+  pub chosen : IsChosen how g queue
   pub gathered : All (IsGatheredOver A how g kind) queue.waiting.items
   pub rest : List ℕ
   pub sources_are : to_come ≡ map (λ d. d.source) queue.waiting.items ++ rest

@@ -14,7 +14,7 @@ use graph_text::read_gr;
 use path_algebra::{PathAlgebra, Reach, Shortest, Widest};
 use post_floor::Floor;
 use road_graph::{Graph, Vertex};
-use shard_part::{Plan, QueueOrder};
+use shard_part::{CountedPlan, Plan, QueueOrder};
 use station::{Station, open_diffusion};
 use std::process::Abort;
 use std::sync::Wait;
@@ -75,7 +75,8 @@ fn turns_alone<A: PathAlgebra>(
     assert!(rt; 1 <= shards && shards <= 64 && graph.has(source));
     let plan = Plan::blocks(rt.alloc(), graph.vertices(), shards).expect(rt, "memory");
     let order = QueueOrder::Arrival;
-    let opened = open_diffusion(rt.alloc(), algebra, &graph, &plan, source, order);
+    let counted = CountedPlan::of(rt.alloc(), &graph, plan).expect(rt, "memory");
+    let opened = open_diffusion(rt.alloc(), algebra, &graph, &counted, source, order);
     let (floor, stations) = opened.expect(rt, "memory");
     turns_to_the_end(rt, &floor, stations)
 }

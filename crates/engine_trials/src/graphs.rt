@@ -1,7 +1,8 @@
 //! The graphs that the tests ask about, and their plans.
+ghost use Rattle.std.specs.Prelude.{◌≡◌};
 
 use road_graph::{Graph, RoadArc, Vertex};
-use shard_part::{Plan, QueueOrder};
+use shard_part::{CountedPlan, Plan, QueueOrder};
 use std::alloc::Global;
 use std::process::Abort;
 
@@ -29,7 +30,8 @@ pub const ORDERS: [QueueOrder; 2] = [QueueOrder::Arrival, QueueOrder::BestFirst]
 #[derive(Drop)]
 pub struct Ground {
     pub graph: Graph,
-    pub plan: Plan,
+    pub counted: CountedPlan,
+    ghost own: { counted.roads ≡ graph },
 }
 
 /// The graph of these tails, heads and weights, or none if memory was refused.
@@ -62,6 +64,15 @@ pub fn blocks_of(rt: &(impl Abort + AllocGlobal), n: u32, shards: u8) -> Plan {
     }
 }
 
+/// A graph and its plan, or none if memory was refused or the plan is another graph's.
+pub fn planned(alloc: Global, graph: Graph, plan: Plan) -> Option<Ground> {
+    if plan.vertices() != graph.vertices() {
+        return None;
+    }
+    let counted = CountedPlan::of(alloc, &graph, plan).ok()?;
+    Some(Ground { graph, counted })
+}
+
 /// The graph of these tails, heads and weights, in blocks.
 pub fn ground_of(
     rt: &(impl Abort + AllocGlobal),
@@ -69,6 +80,12 @@ pub fn ground_of(
     arcs: &[(u32, u32, u32)],
     shards: u8,
 ) -> Ground {
-    let (graph, plan) = (graph_of(rt, n, arcs), blocks_of(rt, n, shards));
-    Ground { graph, plan }
+    let (alloc, graph, plan) = (rt.alloc(), graph_of(rt, n, arcs), blocks_of(rt, n, shards));
+    match planned(alloc, graph, plan) {
+        Some(ground) => ground,
+        None => {
+            let (graph, plan) = (graph_of(rt, n, arcs), blocks_of(rt, n, shards));
+            planned(alloc, graph, plan).expect(rt, "memory")
+        }
+    }
 }

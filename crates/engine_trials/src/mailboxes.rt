@@ -48,7 +48,7 @@ fn opened<'g, A: PathAlgebra>(
     ensures second { IsAt A.meaning result.0 result.2.0 result.2.1 }
 {
     let mut parts = parts_of(rt, algebra, ground, QueueOrder::Arrival);
-    let opened = Floor::open(rt.alloc(), &ground.plan, Vertex(1), &parts);
+    let opened = Floor::open(rt.alloc(), ground.counted.plan(), Vertex(1), &parts);
     let (floor, mut seats) = opened.expect(rt, "memory");
     let second = last_place(rt, &floor, &mut seats, &mut parts);
     let first = last_place(rt, &floor, &mut seats, &mut parts);

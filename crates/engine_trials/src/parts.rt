@@ -14,18 +14,18 @@ pub fn parts_of<'g, A: PathAlgebra>(
     ground: &'g Ground,
     order: QueueOrder,
 ) -> Vec<Part<'g, A>>
-    ensures { IsFresh A.meaning ground.now.plan 1 result.items }
+    ensures { IsFresh A.meaning ground.now.counted.plan 1 result.items }
 {
-    let (graph, plan) = (&ground.graph, &ground.plan);
+    let (graph, counted) = (&ground.graph, &ground.counted);
+    let plan = counted.plan();
     assert!(rt; graph.has(Vertex(1)));
-    assert!(rt; plan.vertices() == graph.vertices());
     let mut parts = Vec::new(rt.alloc());
     for shard in 0..plan.shards() {
         let part = Part::open(
             rt.alloc(),
             algebra,
             graph,
-            plan,
+            counted,
             Shard(shard),
             Vertex(1),
             order,
@@ -212,7 +212,7 @@ fn assert_rings<A: PathAlgebra>(
 ) {
     let mut sum: usize = 0;
     for part in &parts_of(rt, algebra, ground, order) {
-        sum = sum.saturating_add(rings_of(part, ground.plan.shards()));
+        sum = sum.saturating_add(rings_of(part, ground.counted.plan().shards()));
     }
     assert!(rt; sum == wanted);
 }

@@ -33,11 +33,11 @@ pub fn opened<'g, A: PathAlgebra>(
 ) -> (Floor<A>, Vec<Station<'g, A>>)
     ensures { All (BelongsTo result.0) result.1.items }
 {
-    let (graph, plan, source) = (&ground.graph, &ground.plan, Vertex(source));
-    assert!(rt; graph.has(source) && plan.vertices() == graph.vertices());
-    match open_diffusion(rt.alloc(), algebra, graph, plan, source, order) {
+    let (graph, counted, source) = (&ground.graph, &ground.counted, Vertex(source));
+    assert!(rt; graph.has(source));
+    match open_diffusion(rt.alloc(), algebra, graph, counted, source, order) {
         Ok(opened) => opened,
-        Err(_) => open_diffusion(rt.alloc(), algebra, graph, plan, source, order).expect(
+        Err(_) => open_diffusion(rt.alloc(), algebra, graph, counted, source, order).expect(
             rt, "memory",
         ),
     }

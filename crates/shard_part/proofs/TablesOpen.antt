@@ -4,7 +4,7 @@ use Rattle.shard_store.specs.Queue.{Line, line, room}
 use Rattle.shard_store.specs.Rows.{Rows, idle_rows, AreIdle}
 use Rattle.shard_store.specs.Layout.{ShardLayoutData, is_first, AreOffsets, CountsAll, layout_view}
 use Rattle.shard_store.proofs.Counting.{total_index}
-use Rattle.shard_store.proofs.CapacitiesByVertex.{capacities_sum, queue_bound_most, queue_bound_first}
+use Rattle.shard_store.proofs.Capacities.{capacities_sum, queue_bound_most, queue_bound_first}
 use Rattle.shard_part.proofs.Opened.{opened_seen, opened_stored}
 
 module _ (w : ShardLayoutData) (P : IsPlanned w.setup w.shard) where

@@ -10,4 +10,4 @@ mod state;
 pub use closed::ClosedPart;
 pub use part::Part;
 pub use scholten_core::Item;
-pub use shard_store::{Batch, Plan, PlanFault, QueueOrder, Setup, Shard, Tally};
+pub use shard_store::{Batch, CountedPlan, Plan, PlanFault, QueueOrder, Setup, Shard, Tally};

@@ -21,7 +21,7 @@ use crate::state::PartState;
 use path_algebra::{PathAlgebra, laws_hold};
 use road_graph::{Graph, Memory, Vertex};
 use scholten_core::roads_hold;
-use shard_store::{Batch, Plan, QueueOrder, Shard, ShardLayout};
+use shard_store::{Batch, CountedPlan, QueueOrder, Shard, ShardLayout};
 use std::alloc::Global;
 use std::marker::Model;
 
@@ -52,20 +52,21 @@ impl<'g, A: PathAlgebra> Part<'g, A> {
         alloc: Global,
         algebra: A,
         graph: &'g Graph,
-        plan: &'g Plan,
+        counted: &'g CountedPlan,
         shard: Shard,
         source: Vertex,
         order: QueueOrder,
     ) -> Result<Part<'g, A>, Memory>
         requires source { HasVertex graph.now source }
-        requires plan { length plan.now.list ≡ graph.now.vertices }
-        requires shard { shard < plan.now.shards }
+        requires graph { counted.now.roads ≡ graph.now }
+        requires shard { shard < counted.now.plan.shards }
         ensures part { IfOk result (λ p. p ≡ opened_part (A.meaning algebra)
-            (setup_of algebra graph.now source plan.now order) shard) }
+            (setup_of algebra graph.now source counted.now.plan order) shard) }
         ensures share { IfOk result (λ p. HoldsShare A.meaning (state_after (A.meaning algebra)
             (network graph.now source) []) p) }
     {
         roads_hold(graph);
+        let plan = counted.plan();
         plan_holds(plan);
         let layout = ShardLayout {
             graph,
@@ -73,7 +74,7 @@ impl<'g, A: PathAlgebra> Part<'g, A> {
             source,
             shard,
         };
-        let state = PartState::open(alloc, algebra, layout, order)?;
+        let state = PartState::open(alloc, algebra, layout, counted, order)?;
         Ok(Part { state })
     }
 

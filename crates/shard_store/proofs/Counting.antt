@@ -27,10 +27,6 @@ pub total_same : {X : Type 0} (f g : X → ℕ) (xs : List X) → ((x : X) → f
 total_same f g [] e = refl
 total_same f g (x ∷ xs) e = let p = total_same f g xs e in let q = e x in omega (arith, p, q)
 
-pub total_both : {X : Type 0} (f g : X → ℕ) (xs : List X) → total (λ x. f x + g x) xs ≡ total f xs + total g xs
-total_both f g [] = refl
-total_both f g (x ∷ xs) = let p = total_both f g xs in omega (arith, p)
-
 pub total_ones : {X : Type 0} (xs : List X) → total (λ x. 1) xs ≡ length xs
 total_ones [] = refl
 total_ones (x ∷ xs) = let p = total_ones xs in omega (arith, p)

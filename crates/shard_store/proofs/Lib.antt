@@ -9,6 +9,7 @@ pub mod Totals
 pub mod Counting
 pub mod Places
 pub mod Graphs
-pub mod CapacitiesByVertex
+pub mod Capacities
 mod ShardLayouts
+mod Crossings
 pub mod Sharing

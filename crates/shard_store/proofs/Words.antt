@@ -9,7 +9,7 @@ pub use Rattle.scholten_core.specs.Sums.{one_if, sum_below}
 pub use Rattle.scholten_core.specs.declared.item.Item.{Item}
 pub use Rattle.scholten_core.specs.declared.item.Item.TheVariants.{Message as MessageOn}
 pub use Rattle.shard_store.specs.Capacities.{outbox_bound}
-pub use Rattle.shard_store.specs.Layout.{IsExtent, ShardLayoutData, coming_from, leading_to, reversed_network}
+pub use Rattle.shard_store.specs.Layout.{IsExtent, ShardLayoutData}
 pub use Rattle.shard_store.specs.Outgoing.{arcs_from, local_vertices, outgoing}
 unfoldable pub use Rattle.shard_store.specs.Outgoing.{arcs_out}
 pub use Rattle.shard_store.specs.Plans.{shard_in}

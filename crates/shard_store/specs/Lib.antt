@@ -1,5 +1,6 @@
 pub mod Places
 pub mod Plans
+pub mod Crossings
 pub mod Tallies
 pub mod Tables
 pub mod Queue

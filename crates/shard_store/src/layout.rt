@@ -1,12 +1,13 @@
 //! What a part is made for, and what is counted before its tables are made.
 ghost use Rattle.std.specs.Prelude.{◌≡◌, ◌≢◌, ◌↔◌, ℕ, ◌+◌, ◌<◌, ◌≤◌, ◌^◌, eqb, cond, List, [], ◌∷◌, ◌++◌, get_or, length, IsTrue, IfOk};
-ghost use Rattle.road_graph.specs.GraphData.{HasVertex, ListsArcsFrom, ListsArcsInto};
+ghost use Rattle.road_graph.specs.GraphData.{HasVertex, ListsArcsFrom};
 ghost use Rattle.shard_store.specs.Tables.{placed};
 ghost use Rattle.shard_store.specs.Setup.{network_of, place_in, IsPlanned};
 ghost use Rattle.shard_store.specs.Outgoing.{local_vertices, outgoing};
-ghost use Rattle.shard_store.specs.Totals.{total, is};
-ghost use Rattle.shard_store.specs.Layout.{is_first, IsExtent, AreOffsets, CountsOut, CountsInto, CountsAll};
+ghost use Rattle.shard_store.specs.Totals.{total};
+ghost use Rattle.shard_store.specs.Layout.{is_first, IsExtent, AreOffsets, CountsAll};
 
+use crate::counted_plan::CountedPlan;
 use crate::local_vertices::LocalVertices;
 use crate::plan::Plan;
 use crate::shard::Shard;
@@ -167,61 +168,21 @@ impl<'g> ShardLayout<'g> {
         count
     }
 
-    /// Counts the arcs out of a vertex, each at the shard that it leads to.
-    fn add_out(&self, v: Vertex, capacities: &mut [usize])
-        requires vertex { HasVertex self.now.setup.diffusion.roads v }
-        requires shards { length capacities.old ≡ self.now.setup.plan.shards }
-        requires small { (t : ℕ) → get_or capacities.old t 0 ≤ 2 ^ 32 }
-        ensures { CountsOut self.now v capacities.old capacities.new }
-    {
-        for a in self.graph.out(v) {
-            let to = self.plan.shard_of(self.graph.arc(*a).head);
-            capacities[to.0 as usize] += 1;
-        }
-    }
-
-    /// Counts the arcs into a vertex from other shards, each at the shard that it comes from.
-    fn add_into(&self, v: Vertex, capacities: &mut [usize])
-        requires vertex { HasVertex self.now.setup.diffusion.roads v }
-        requires shards { length capacities.old ≡ self.now.setup.plan.shards }
-        requires small { (t : ℕ) → get_or capacities.old t 0 ≤ 2 ^ 33 }
-        ensures { CountsInto self.now v capacities.old capacities.new }
-    {
-        for a in self.graph.into(v) {
-            let from = self.plan.shard_of(self.graph.arc(*a).tail);
-            if from != self.shard {
-                capacities[from.0 as usize] += 1;
-            }
-        }
-    }
-
-    /// Counts the arcs out of and into all vertices of the shard.
-    fn add_all(&self, own: &LocalVertices, capacities: &mut [usize])
-        requires own { own.now ≡ local_vertices self.now.setup self.now.shard }
-        requires shards { length capacities.old ≡ self.now.setup.plan.shards }
-        requires first { (t : ℕ) → t < self.now.setup.plan.shards → get_or capacities.old t 0 ≡ cond
-            (is_first self.now.setup self.now.shard) (is t self.now.shard) 0 }
-        ensures { CountsAll self.now capacities.new }
-    {
-        self.holds();
-        for j in 1..own.len() {
-            let v = own.vertex(j);
-            self.add_out(v, capacities);
-            self.add_into(v, capacities);
-        }
-    }
-
     /// How many arcs there are between the shard and each shard; for the shard itself, how many are
     /// within it.
-    pub fn capacities(&self, alloc: Global, own: &LocalVertices) -> Result<Vec<usize>, AllocError>
-        requires { own.now ≡ local_vertices self.now.setup self.now.shard }
+    pub fn capacities(&self, alloc: Global, counted: &CountedPlan) -> Result<Vec<usize>, AllocError>
+        requires { counted.now ≡ record {
+          roads = self.now.setup.diffusion.roads;
+          plan = self.now.setup.plan;
+        } }
         ensures { IfOk result (λ capacities. CountsAll self.now capacities.items) }
     {
-        let mut capacities = vec![in alloc; 0usize; self.plan.shards() as usize]?;
+        self.holds();
+        let shard = self.shard;
+        let mut capacities = counted.row(alloc, shard)?;
         if self.is_first() {
-            capacities[self.shard.0 as usize] = 1;
+            capacities[shard.0 as usize] += 1;
         }
-        self.add_all(own, &mut capacities);
         Ok(capacities)
     }
 }

@@ -3,6 +3,7 @@
 #![tactic(auto)]
 
 mod batch;
+mod counted_plan;
 mod idle;
 mod layout;
 mod local_vertices;
@@ -16,6 +17,7 @@ mod tables;
 mod tally;
 
 pub use batch::{Batch, arc_of, empty_batches};
+pub use counted_plan::CountedPlan;
 pub use idle::idle_tables;
 pub use layout::{ShardLayout, sum_of};
 pub use local_vertices::LocalVertices;

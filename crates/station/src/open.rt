@@ -12,7 +12,7 @@ use path_algebra::PathAlgebra;
 use post_floor::{Floor, Seat};
 use road_graph::{Graph, Memory, Vertex};
 use shard_part::laws::plan_holds;
-use shard_part::{Part, Plan, QueueOrder, Shard};
+use shard_part::{CountedPlan, Part, Plan, QueueOrder, Shard};
 use std::alloc::{AllocError, Global};
 
 /// Appends an item.
@@ -28,20 +28,21 @@ fn open_parts<'g, A: PathAlgebra>(
     alloc: Global,
     algebra: A,
     graph: &'g Graph,
-    plan: &'g Plan,
+    counted: &'g CountedPlan,
     source: Vertex,
     order: QueueOrder,
 ) -> Result<Vec<Part<'g, A>>, Memory>
     requires source { HasVertex graph.now source }
-    requires plan { length plan.now.list ≡ graph.now.vertices }
+    requires graph { counted.now.roads ≡ graph.now }
     ensures parts { IfOk result
-        (λ v. v.items ≡ first_parts A.meaning (setup_of algebra graph.now source plan.now order)
-        plan.now.shards) }
+        (λ v. v.items ≡ first_parts A.meaning (setup_of algebra graph.now source
+        counted.now.plan order) counted.now.plan.shards) }
     ensures known { IfOk result (λ v. All (HoldsReachedShare A.meaning) v.items) }
 {
+    let plan = counted.plan();
     let mut parts = Vec::new(alloc);
     for shard in 0..plan.shards() {
-        let part = Part::open(alloc, algebra, graph, plan, Shard(shard), source, order)?;
+        let part = Part::open(alloc, algebra, graph, counted, Shard(shard), source, order)?;
         push(&mut parts, part)?;
     }
     Ok(parts)
@@ -82,18 +83,19 @@ pub fn open_diffusion<'g, A: PathAlgebra>(
     alloc: Global,
     algebra: A,
     graph: &'g Graph,
-    plan: &'g Plan,
+    counted: &'g CountedPlan,
     source: Vertex,
     order: QueueOrder,
 ) -> Result<(Floor<A>, Vec<Station<'g, A>>), Memory>
     requires source { HasVertex graph.now source }
-    requires plan { length plan.now.list ≡ graph.now.vertices }
+    requires graph { counted.now.roads ≡ graph.now }
     ensures { IfOk result
-        (λ r. AreOpened A.meaning (setup_of algebra graph.now source plan.now order) None r.0
-        r.1.items) }
+        (λ r. AreOpened A.meaning (setup_of algebra graph.now source counted.now.plan order) None
+        r.0 r.1.items) }
 {
+    let plan = counted.plan();
     plan_holds(plan);
-    let parts = open_parts(alloc, algebra, graph, plan, source, order)?;
+    let parts = open_parts(alloc, algebra, graph, counted, source, order)?;
     let (floor, seats) = Floor::open(alloc, plan, source, &parts)?;
     let stations = pair(alloc, &floor, plan, order, parts, seats)?;
     Ok((floor, stations))

@@ -11,7 +11,7 @@ use crate::stops::Stops;
 use path_algebra::{Labels, PathAlgebra};
 use post_floor::Floor;
 use road_graph::{Graph, Vertex};
-use shard_part::{Plan, QueueOrder};
+use shard_part::{CountedPlan, Plan, QueueOrder};
 use station::{Finished, Station, gather, open_diffusion};
 use std::alloc::{AllocError, Global};
 use std::sync::atomic::{AtomicU64, Ordering};
@@ -85,16 +85,16 @@ fn solved_on_threads<A: PathAlgebra, R: Threads + Sync>(
     alloc: Global,
     algebra: A,
     graph: &Graph,
-    plan: &Plan,
+    counted: &CountedPlan,
     source: Vertex,
     board: &Board,
 ) -> Result<Labels<A::Value>, Fault>
     requires source { HasVertex graph.now source }
-    requires plan { length plan.now.list ≡ graph.now.vertices }
+    requires graph { counted.now.roads ≡ graph.now }
     ensures { IfOk result (λ labels. AreBest (A.meaning algebra) graph.now (source ∷ []) labels) }
 {
     let order = QueueOrder::Arrival;
-    let (floor, stations) = open_diffusion(alloc, algebra, graph, plan, source, order)?;
+    let (floor, stations) = open_diffusion(alloc, algebra, graph, counted, source, order)?;
     let stations = turn_all(rt, &floor, algebra, stations, board)?;
     let done = finished(alloc, &floor, stations)?;
     match gather(alloc, floor, done) {
@@ -131,11 +131,12 @@ pub fn show<R: Print + AllocGlobal + Threads + Sync>(rt: &R) -> Result<(), Fault
     let alloc = rt.alloc();
     let graph = five_vertices(alloc)?;
     let plan = Plan::blocks(alloc, graph.vertices(), 3)?;
+    let counted = CountedPlan::of(alloc, &graph, plan)?;
     let board = Board {
         vertex: Vertex(4),
         code: AtomicU64::new(u64::MAX),
     };
-    let labels = solved_on_threads(rt, alloc, Stops, &graph, &plan, Vertex(1), &board)?;
+    let labels = solved_on_threads(rt, alloc, Stops, &graph, &counted, Vertex(1), &board)?;
     for v in 1..=graph.vertices() {
         match labels.of(Vertex(v)) {
             Some(time) => println!(rt; "time to {v}: {time}")?,

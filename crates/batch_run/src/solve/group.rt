@@ -4,7 +4,6 @@ ghost use Rattle.std.specs.List.{All, AllZip};
 ghost use Rattle.road_graph.specs.GraphData.{HasVertex};
 ghost use Rattle.batch_run.specs.Batches.{IsCountedIn, IsCutIn, IsEndedIn, IsGatheredFromIn, IsGatheredIn, IsOpenedIn, StopsOver};
 ghost use Rattle.batch_run.specs.Cut.{pace_of};
-ghost use Rattle.batch_run.specs.Diffusions.{IsPlanOf};
 
 use crate::batch::BatchOver;
 use crate::solve::diffusion::{EndedDiffusion, GatheredDiffusion, gather_ended};
@@ -14,8 +13,8 @@ use post_floor::Floor;
 use rayon::prelude::*;
 use road_graph::Vertex;
 use scholten_core::roads_hold;
-use shard_part::Plan;
 use shard_part::laws::plan_holds;
+use shard_part::{CountedPlan, Plan};
 use station::{Station, open_diffusion};
 use std::alloc::{AllocError, Global};
 use std::collections::VecDeque;
@@ -27,16 +26,16 @@ use worker_fleet::{Gate, GroupFault, GroupSettings, TurnSettings, run_group};
 /// says.
 fn open_at_pace<'g, A: PathAlgebra, R, T>(
     over: &'g BatchOver<'_, A, R, T>,
-    plan: &'g Plan,
+    counted: &'g CountedPlan,
     source: Vertex,
     pace: Pace,
 ) -> Result<(Floor<A>, Vec<Station<'g, A>>), AllocError>
-    requires plan { IsPlanOf over.now.graph.now plan.now }
+    requires graph { counted.now.roads ≡ over.now.graph.now }
     requires source { HasVertex over.now.graph.now source }
-    ensures { IfOk result (IsOpenedIn A.meaning over.now plan.now pace source) }
+    ensures { IfOk result (IsOpenedIn A.meaning over.now counted.now.plan pace source) }
 {
     let (alloc, algebra, graph) = (over.batch.task.alloc, over.batch.task.algebra, over.graph);
-    let Ok(opened) = open_diffusion(alloc, algebra, graph, plan, source, pace.order) else {
+    let Ok(opened) = open_diffusion(alloc, algebra, graph, counted, source, pace.order) else {
         return Err(AllocError);
     };
     let (mut floor, stations) = opened;
@@ -50,14 +49,14 @@ fn open_at_pace<'g, A: PathAlgebra, R, T>(
 /// as many threads as there are workers.
 fn open_each<'g, A: PathAlgebra, R: Threads + Sync, T: Gate>(
     over: &'g BatchOver<'_, A, R, T>,
-    plan: &'g Plan,
+    counted: &'g CountedPlan,
     sources: &[Vertex],
     pace: Pace,
 ) -> Result<Vec<(Floor<A>, Vec<Station<'g, A>>)>, AllocError>
-    requires plan { IsPlanOf over.now.graph.now plan.now }
+    requires graph { counted.now.roads ≡ over.now.graph.now }
     requires sources { All (HasVertex over.now.graph.now) sources.now }
-    ensures { IfOk result (λ v. AllZip (IsOpenedIn A.meaning over.now plan.now pace) sources.now
-        v.items) }
+    ensures { IfOk result (λ v. AllZip (IsOpenedIn A.meaning over.now counted.now.plan pace)
+        sources.now v.items) }
 {
     let (task, settings) = (&over.batch.task, over.batch.settings);
     let share = sources.len().div_ceil(settings.workers as usize);
@@ -67,10 +66,10 @@ fn open_each<'g, A: PathAlgebra, R: Threads + Sync, T: Gate>(
         .map(
             |source: &Vertex| -> Result<(Floor<A>, Vec<Station<'_, A>>), AllocError>
                 requires { HasVertex over.now.graph.now source.now ×
-                    IsPlanOf over.now.graph.now plan.now }
-                ensures { IfOk result (IsOpenedIn A.meaning over.entry.now plan.entry.now pace
-                    source.now) }
-            { open_at_pace(over, plan, *source, pace) },
+                    (counted.now.roads ≡ over.now.graph.now) }
+                ensures { IfOk result (IsOpenedIn A.meaning over.entry.now counted.entry.now.plan
+                    pace source.now) }
+            { open_at_pace(over, counted, *source, pace) },
         )
         .collect(task.rt, task.alloc)?;
     opened
@@ -194,11 +193,12 @@ fn run_opened<'g, A: PathAlgebra, R: Threads + Wait + Sync, T: Gate>(
 /// Runs diffusions from each source to their end, together, and gathers each, in order.
 pub(crate) fn run_together<A: PathAlgebra, R: Threads + Wait + Sync, T: Gate>(
     over: &BatchOver<'_, A, R, T>,
-    plan: &Plan,
+    counted: &CountedPlan,
     pace: Pace,
     sources: &[Vertex],
 ) -> Result<Vec<GatheredDiffusion<A::Value>>, GroupFault>
-    requires plan { IsCutIn over.now plan.now }
+    requires cut { IsCutIn over.now counted.now.plan }
+    requires graph { counted.now.roads ≡ over.now.graph.now }
     requires pace { pace ≡ pace_of over.now.batch.now.settings.now over.now.graph.now }
     requires sources { All (HasVertex over.now.graph.now) sources.now }
     requires width { length sources.now ≤ over.now.batch.now.settings.now.width }
@@ -206,6 +206,6 @@ pub(crate) fn run_together<A: PathAlgebra, R: Threads + Wait + Sync, T: Gate>(
     ensures sources { IfOk result (λ v. map (λ d. d.source) v.items ≡ sources.now) }
     ensures stops { IfErr result (StopsOver A.meaning T.may_answer over.now) }
 {
-    let opened = open_each(over, plan, sources, pace)?;
-    run_opened(over, plan, sources, opened)
+    let opened = open_each(over, counted, sources, pace)?;
+    run_opened(over, counted.plan(), sources, opened)
 }

@@ -12,7 +12,7 @@ use crate::solve::pace::Pace;
 use crate::solve::upcoming::upcoming;
 use crate::watcher::{Progress, Watcher};
 use path_algebra::PathAlgebra;
-use shard_part::Plan;
+use shard_part::CountedPlan;
 use std::collections::VecDeque;
 use std::sync::Wait;
 use std::thread::Threads;
@@ -22,7 +22,7 @@ use worker_fleet::{Gate, GroupFault};
 /// the next one first.
 #[derive(Drop)]
 pub(crate) struct DiffusionQueue<V: Copy> {
-    pub(crate) plan: Plan,
+    pub(crate) counted: CountedPlan,
     pub(crate) pace: Pace,
     pub(crate) waiting: VecDeque<GatheredDiffusion<V>>,
 }
@@ -45,7 +45,7 @@ fn refill<A: PathAlgebra, R: Threads + Wait + Sync, T: Gate>(
     }
     let (task, width) = (&over.batch.task, over.batch.settings.width as usize);
     let sources = upcoming(task.alloc, task.questions, i, j, width)?;
-    let gathered = run_together(over, &queue.plan, queue.pace, &sources)?;
+    let gathered = run_together(over, &queue.counted, queue.pace, &sources)?;
     queue.waiting = VecDeque::from(gathered);
     Ok(())
 }

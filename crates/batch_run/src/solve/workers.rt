@@ -20,7 +20,7 @@ use question_solvers::Solved;
 use road_files::Questions;
 use road_graph::{Graph, Memory};
 use route_tree::{route_between, tree_outgoing};
-use shard_part::Plan;
+use shard_part::{CountedPlan, Plan};
 use std::alloc::Global;
 use std::collections::VecDeque;
 use std::sync::Wait;
@@ -119,9 +119,10 @@ pub(crate) fn start_workers<A: PathAlgebra, R, T>(
 {
     let (alloc, settings) = (batch.task.alloc, batch.settings);
     let plan = Plan::blocks(alloc, solver.graph.vertices(), settings.shards as u8)?;
+    let counted = CountedPlan::of(alloc, &solver.graph, plan)?;
     let pace = Pace::of(settings, &solver.graph);
     solver.queue = Some(DiffusionQueue {
-        plan,
+        counted,
         pace,
         waiting: VecDeque::new(alloc),
     });

@@ -1,6 +1,6 @@
 //! The five vertices over three shards, by blocks and by a table.
 use super::{Schedule, Wanted, assert_answer};
-use crate::graphs::{FIVE, Ground, SHORTEST, graph_of, ground_of};
+use crate::graphs::{FIVE, Ground, SHORTEST, graph_of, ground_of, planned};
 use path_algebra::Shortest;
 use shard_part::{Plan, QueueOrder};
 use std::process::Abort;
@@ -48,5 +48,6 @@ fn stations_in_turn(rt: HostRuntime) {
 #[test]
 fn any_plan(rt: HostRuntime) {
     let (graph, plan) = (graph_of(&rt, 5, &FIVE), by_table(&rt));
-    assert_ends(&rt, &Ground { graph, plan }, 2);
+    let ground = planned(rt.alloc(), graph, plan).expect(&rt, "a plan");
+    assert_ends(&rt, &ground, 2);
 }

@@ -13,7 +13,9 @@ use crate::state::PartState;
 use path_algebra::PathAlgebra;
 use road_graph::Memory;
 use scholten_core::{ENTRY, Item};
-use shard_store::{Queue, QueueOrder, ShardLayout, empty_batches, idle_tables, sum_of};
+use shard_store::{
+    CountedPlan, Queue, QueueOrder, ShardLayout, empty_batches, idle_tables, sum_of,
+};
 use std::alloc::Global;
 
 impl<'g, A: PathAlgebra> PartState<'g, A> {
@@ -23,8 +25,13 @@ impl<'g, A: PathAlgebra> PartState<'g, A> {
         alloc: Global,
         algebra: A,
         layout: ShardLayout<'g>,
+        counted: &CountedPlan,
         order: QueueOrder,
     ) -> Result<PartState<'g, A>, Memory>
+        requires { counted.now ≡ record {
+          roads = layout.setup.diffusion.roads;
+          plan = layout.setup.plan;
+        } }
         ensures part { IfOk result (λ d. d ≡ opened_part (A.meaning algebra)
             (setup_of algebra layout.entry.setup.diffusion.roads layout.entry.setup.diffusion.source
             layout.entry.setup.plan order) layout.entry.shard) }
@@ -36,7 +43,7 @@ impl<'g, A: PathAlgebra> PartState<'g, A> {
         // What a closed part keeps is allocated first, so that the memory freed by closing is in
         // one piece after it.
         let tables = idle_tables(alloc, &layout, own, algebra.origin())?;
-        let mut capacities = layout.capacities(alloc, &tables.own)?;
+        let mut capacities = layout.capacities(alloc, counted)?;
         let queue = opening_queue(alloc, algebra, order, sum_of(&capacities), first)?;
         let shard = layout.shard;
         capacities[shard.0 as usize] = 0;

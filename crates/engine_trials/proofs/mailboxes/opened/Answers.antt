@@ -4,7 +4,7 @@ use Rattle.engine_trials.proofs.Places.{opened_at}
 use Rattle.engine_trials.proofs.mailboxes.opened.Goals as goal
 
 pub open-opened-requires-clause-fresh : goal.open-opened-requires-clause-fresh
-open-opened-requires-clause-fresh g c κs within = let f = c.parts_of-parts.ensures in (f.0, c.deref.ensures.value ∙ f.1, f.2, f.3)
+open-opened-requires-clause-fresh g c κs within = let f = c.parts_of-parts.ensures in rw c.plan.ensures.plan (f.0, c.deref.ensures.value ∙ f.1, f.2, f.3)
 
 pub last_place-second-requires-clause-at : goal.last_place-second-requires-clause-at
 last_place-second-requires-clause-at g c κs within =

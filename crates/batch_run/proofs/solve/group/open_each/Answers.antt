@@ -24,11 +24,11 @@ collect-requires-send-C g c κs within =
 
 pub returns : goal.returns
 returns g c =
-    let at = IsOpenedIn g.A.PathAlgebra.meaning c.args.over.now c.args.plan.now c.args.pace in
+    let at = IsOpenedIn g.A.PathAlgebra.meaning c.args.over.now c.args.counted.now.plan c.args.pace in
     let done = c.in_ok-opened.ensures in
     let chain = done.1 in
     let slice = ap (λ it. it.base.slice.now) c.map.ensures.base ∙ ap (λ it. it.slice.now) c.with_min_len.ensures.base ∙ c.par_iter.ensures in
     let ran = AllZip-weaken _ (λ source r. IfOk r (at source.now))
-    (λ source r found. subst (λ f. IfOk r (IsOpenedIn g.A.PathAlgebra.meaning f.0.now f.1.now f.2.now source.now)) c.map.ensures.f found) chain.0 done.0 chain.2 in
+    (λ source r found. subst (λ f. IfOk r (IsOpenedIn g.A.PathAlgebra.meaning f.0.now f.1.now.plan f.2.now source.now)) c.map.ensures.f found) chain.0 done.0 chain.2 in
     let each = slice-AllZip chain.0 c.args.sources.now (chain.1 ∙ slice) (λ source r. IfOk r (at source)) done.0 ran in
     gathered at c.args.sources.now done.0 c.in_ok-opened.opened each done.2

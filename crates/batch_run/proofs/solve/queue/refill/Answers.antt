@@ -11,11 +11,14 @@ run_together-requires-clause-sources g c κs within =
     (All-take (IsVertexOf c.args.over.now.graph.now.vertices) c.args.over.now.batch.now.settings.now.width (sources_to_come (questions_in c.args.over.now) c.args.i c.args.j)
     (to_come_within c.args.over.now.graph.now.vertices c.args.over.now.batch.now.task.questions.now c.args.i c.args.j c.args.over.now.within))
 
-pub run_together-requires-clause-plan : goal.run_together-requires-clause-plan
-run_together-requires-clause-plan g c κs within = c.requires.ready.chosen.0
+pub run_together-requires-clause-cut : goal.run_together-requires-clause-cut
+run_together-requires-clause-cut g c κs within = c.requires.ready.chosen.0
 
 pub run_together-requires-clause-pace : goal.run_together-requires-clause-pace
-run_together-requires-clause-pace g c κs within = c.requires.ready.chosen.1
+run_together-requires-clause-pace g c κs within = c.requires.ready.chosen.2
+
+pub run_together-requires-clause-graph : goal.run_together-requires-clause-graph
+run_together-requires-clause-graph g c κs within = c.requires.ready.chosen.1
 
 pub returns-clause-some : goal.returns-clause-some
 returns-clause-some g c =

@@ -11,7 +11,7 @@ sources_of_all ds = map (λ d. d.source) ds
 
 module _ {V : Type 0} (A : Algebra V) (how : Settings) (g : GraphData) (kind : Kind) where
   -- none waits
-  pub none_waits : (to_come : List ℕ) (queue : DiffusionQueue V) → IsChosen how g queue → queue.waiting.items ≡ [] → AreNext A how g kind to_come queue
+  pub none_waits : (to_come : List ℕ) (queue : DiffusionQueue V) → IsChosen how g kind queue → queue.waiting.items ≡ [] → AreNext A how g kind to_come queue
   none_waits to_come queue chosen none = record {
     chosen = chosen;
     gathered = rw none (All-nil (IsGatheredOver A how g kind));
@@ -21,7 +21,7 @@ module _ {V : Type 0} (A : Algebra V) (how : Settings) (g : GraphData) (kind : K
 
   module _ (to_come : List ℕ) (w : ℕ) where
     -- those that were gathered together wait
-    pub group_waits : (queue : DiffusionQueue V) → sources_of_all queue.waiting.items ≡ take w to_come → IsChosen how g queue → All (IsGatheredOver A how g kind) queue.waiting.items → AreNext A how g kind to_come queue
+    pub group_waits : (queue : DiffusionQueue V) → sources_of_all queue.waiting.items ≡ take w to_come → IsChosen how g kind queue → All (IsGatheredOver A how g kind) queue.waiting.items → AreNext A how g kind to_come queue
     group_waits queue are chosen gathered = record {
       chosen = chosen;
       gathered = gathered;
@@ -48,7 +48,7 @@ module _ {V : Type 0} (A : Algebra V) (how : Settings) (g : GraphData) (kind : K
     all = subst (All (IsGatheredOver A how g kind)) is were.gathered
 
     -- it is the next to come, it was gathered, and the others wait
-    pub taken : IsChosen how g new → (to_come ≡ e.source ∷ left) × IsGatheredOver A how g kind e × AreNext A how g kind left new
+    pub taken : IsChosen how g kind new → (to_come ≡ e.source ∷ left) × IsGatheredOver A how g kind e × AreNext A how g kind left new
     taken chosen = (
       let o = order in cc,
       All-head (IsGatheredOver A how g kind) e new.waiting.items all,

@@ -4,7 +4,7 @@ use Rattle.std.specs.List.{All, flat_map}
 use Rattle.road_graph.specs.GraphData.{GraphData}
 use Rattle.road_files.specs.Asked.{FromSource, Question, sources_of}
 use Rattle.road_files.specs.declared.questions.Kind.{Kind}
-use Rattle.road_files.specs.declared.questions.Kind.TheVariants.{Sources}
+use Rattle.road_files.specs.declared.questions.Kind.TheVariants.{Sources, Pairs}
 use Rattle.path_algebra.specs.Algebra.{Algebra}
 use Rattle.path_algebra.specs.Walks.{AreBest}
 use Rattle.shard_store.specs.Setup.{SetupData}
@@ -64,14 +64,15 @@ pub record IsGatheredOver {V : Type 0} (A : Algebra V) (how : Settings) (g : Gra
   pub labelling : IsLabelling A g kind (d.source ∷ []) d.labelling
   pub account : IsAccount A how g d.source d.tally
 
--- the plan is the graph's, and it and the pace are those that the settings choose
-abbrev pub IsChosen : {V : Type 0} → Settings → GraphData → DiffusionQueue V → Type 0
-IsChosen how g queue = IsCut how g queue.counted.plan × (queue.counted.roads ≡ g) × (queue.pace ≡ pace_of how g)
+-- the plan is the graph's, it and the pace are those that the settings choose, and pairs have the
+-- graph by head
+abbrev pub IsChosen : {V : Type 0} → Settings → GraphData → Kind → DiffusionQueue V → Type 0
+IsChosen how g kind queue = IsCut how g queue.counted.plan × (queue.counted.roads ≡ g) × (queue.pace ≡ pace_of how g) × (kind ≡ Pairs → queue.by_head ≡ Some g)
 
 -- the plan and the pace are those that the settings choose, those that wait were gathered, and
 -- their sources are a prefix of those to come
 pub record AreNext {V : Type 0} (A : Algebra V) (how : Settings) (g : GraphData) (kind : Kind) (to_come : List ℕ) (queue : DiffusionQueue V) : Type 0 where
-  pub chosen : IsChosen how g queue
+  pub chosen : IsChosen how g kind queue
   pub gathered : All (IsGatheredOver A how g kind) queue.waiting.items
   pub rest : List ℕ
   pub sources_are : to_come ≡ map (λ d. d.source) queue.waiting.items ++ rest

@@ -1,9 +1,9 @@
 //! Graphs along whose arcs a search can go back.
 
-ghost use Rattle.std.specs.Prelude.{◌≡◌, ◌++◌, OnOk, map};
-ghost use Rattle.road_graph.specs.GraphData.{GraphData, IsGraph, HasArc, HasVertex, ListsRoadsInto, arc_of, road_of, reversed_arc};
+ghost use Rattle.std.specs.Prelude.{OnOk};
+ghost use Rattle.road_graph.specs.GraphData.{GraphData, IsGraph, HasVertex, ListsRoadsInto};
 
-use road_graph::{Graph, InGraph, Memory, OutRoad, Vertex};
+use road_graph::{InGraph, Memory, OutRoad, Vertex};
 use std::alloc::AllocError;
 
 /// A graph along whose arcs a search can go back.
@@ -21,26 +21,6 @@ pub trait Entering {
     fn list_into(&self, v: Vertex, list: &mut Vec<OutRoad>) -> Result<(), Memory>
         requires { HasVertex (roads self.now) v }
         ensures { OnOk result (ListsRoadsInto (roads self.now) v list.new.items) };
-}
-
-impl Entering for Graph {
-    ghost roads = { λ g. g };
-
-    fn holds(&self) {
-        self.holds()
-    }
-
-    fn list_into(&self, v: Vertex, list: &mut Vec<OutRoad>) -> Result<(), Memory> {
-        list.clear();
-        for a in self.into(v) {
-            let road = OutRoad {
-                head: self.tail(*a),
-                weight: self.road(*a).weight,
-            };
-            list.push(road).map_err(AllocError::from)?;
-        }
-        Ok(())
-    }
 }
 
 impl Entering for InGraph {

@@ -11,7 +11,7 @@ use crate::hops_and_parents::Tree;
 use crate::route_finder::RouteFinder;
 use halting::Halt;
 use path_algebra::{Labels, PathAlgebra, laws_hold};
-use road_graph::{Graph, Memory, Vertex};
+use road_graph::{InGraph, Memory, OutGraph, Vertex};
 use std::alloc::{AllocError, Global};
 
 /// Puts a vertex at the end of a list.
@@ -67,29 +67,30 @@ pub(crate) fn found_in(
     Ok(Some(Found { code, hops, route }))
 }
 
-/// The best value of a target and the route to it, for labels that are best from the source; none
-/// if no walk has a value. The only error is `Memory`.
+/// The best value of a pair's target and the route to it, for labels that are best from the pair's
+/// source; none if no walk has a value. `by_head` has the arcs of the graph by head. The only error
+/// is `Memory`.
 ///
 /// The route is that of the whole tree, but only vertices with a walk of tight arcs to the target
 /// are looked at, and no further back than the source.
 pub fn route_between<A: PathAlgebra>(
     alloc: Global,
     algebra: A,
-    graph: &Graph,
-    source: Vertex,
-    target: Vertex,
+    graph: &OutGraph,
+    by_head: &InGraph,
+    pair: (Vertex, Vertex),
     labels: &Labels<A::Value>,
 ) -> Result<Option<Found>, Memory>
-    requires source { HasVertex graph.now source }
-    requires target { HasVertex graph.now target }
-    requires labels { AreBest (A.meaning algebra) graph.now (source ∷ []) labels.now }
-    ensures { IfOk result (IsPairFound (A.meaning algebra) graph.now source target) }
+    requires by_head { by_head.now ≡ graph.now }
+    requires source { HasVertex graph.now pair.0 }
+    requires target { HasVertex graph.now pair.1 }
+    requires labels { AreBest (A.meaning algebra) graph.now (pair.0 ∷ []) labels.now }
+    ensures { IfOk result (IsPairFound (A.meaning algebra) graph.now pair.0 pair.1) }
 {
     laws_hold(algebra);
     graph.holds();
     let mut finder = RouteFinder::new(alloc, graph.vertices());
-    let (ends, halt) = ((source, target), &mut Halt::Never);
-    match finder.route(algebra, graph.outgoing(), graph, labels, ends, halt)? {
+    match finder.route(algebra, graph, by_head, labels, pair, &mut Halt::Never)? {
         Nearby::Decided(found) => Ok(found),
         Nearby::Undecided => unreachable!(),
     }

@@ -12,6 +12,7 @@ use crate::solve::pace::Pace;
 use crate::solve::upcoming::upcoming;
 use crate::watcher::{Progress, Watcher};
 use path_algebra::PathAlgebra;
+use road_graph::InGraph;
 use shard_part::CountedPlan;
 use std::collections::VecDeque;
 use std::sync::Wait;
@@ -19,11 +20,12 @@ use std::thread::Threads;
 use worker_fleet::{Gate, GroupFault};
 
 /// How the graph is cut into shards, the pace of diffusions, and those that were gathered and wait,
-/// the next one first.
+/// the next one first; and for pairs the graph by head.
 #[derive(Drop)]
 pub(crate) struct DiffusionQueue<V: Copy> {
     pub(crate) counted: CountedPlan,
     pub(crate) pace: Pace,
+    pub(crate) by_head: Option<InGraph>,
     pub(crate) waiting: VecDeque<GatheredDiffusion<V>>,
 }
 

@@ -1,8 +1,9 @@
 //! Solves questions by workers, one diffusion for each source.
-ghost use Rattle.std.specs.Prelude.{◌≡◌, ◌+◌, [], ◌∷◌, false, IfOk, IfErr, OnOk};
+ghost use Rattle.std.specs.Prelude.{◌≡◌, ◌+◌, [], ◌∷◌, false, IfOk, IfErr, OnOk, Some};
 ghost use Rattle.std.specs.Borrow.{sem};
-ghost use Rattle.road_files.specs.Asked.{AreQuestionsOf, Question, sources_of};
-ghost use Rattle.batch_run.specs.Batches.{AreNextAt, IsLabellingIn, IsSolvedIn, ReportedAccounts, StopsBatch, StopsOver, asked_in, question_at};
+ghost use Rattle.road_files.specs.Asked.{AreQuestionsOf, Question, asked_of, sources_of};
+ghost use Rattle.road_files.specs.declared.questions.Kind.TheVariants.{Pairs};
+ghost use Rattle.batch_run.specs.Batches.{AreNextAt, IsLabellingIn, IsSolvedIn, ReportedAccounts, StopsBatch, StopsOver, asked_in, kind_in, question_at};
 ghost use Rattle.batch_run.specs.Lending.{EndsWorkers};
 ghost use Rattle.question_solvers.specs.Questions.{HasPlace};
 ghost use Rattle.question_solvers.specs.Solved.{IsSolvedFor};
@@ -18,7 +19,7 @@ use answer_text::Answer;
 use path_algebra::PathAlgebra;
 use question_solvers::Solved;
 use road_files::Questions;
-use road_graph::{Graph, Memory};
+use road_graph::{Graph, InGraph, Memory};
 use route_tree::{route_between, tree_outgoing};
 use shard_part::{CountedPlan, Plan};
 use std::alloc::Global;
@@ -40,10 +41,12 @@ pub struct WorkerSolver<V: Copy> {
 /// Solves the question at a place by best labels from its sources, if it is not solved ahead.
 fn solve_by_labels<A: PathAlgebra, R, T>(
     over: &BatchOver<'_, A, R, T>,
+    by_head: &Option<InGraph>,
     i: usize,
     labelling: Labelling<A::Value>,
 ) -> Result<Solved<A::Value>, Memory>
     requires place { HasPlace over.now.batch.now.task.questions.now i }
+    requires by_head { kind_in over.now ≡ Pairs → by_head.now ≡ Some over.now.graph.now }
     requires labels { (default : Question) → IsLabellingIn A.meaning over.now (sources_of
         (question_at over.now.batch.now i default)) labelling }
     ensures { IfOk result (IsSolvedIn A.meaning over.now i) }
@@ -56,8 +59,12 @@ fn solve_by_labels<A: PathAlgebra, R, T>(
     };
     match task.questions {
         Questions::Pairs(pairs) => {
+            let Some(by_head) = by_head else {
+                unreachable!()
+            };
             let (source, target) = pairs[i];
-            let found = route_between(alloc, algebra, graph, source, target, &labels)?;
+            let (graph, pair) = (graph.outgoing(), (source, target));
+            let found = route_between(alloc, algebra, graph, by_head, pair, &labels)?;
             Ok(Solved::Answer(Answer::Pair {
                 source,
                 target,
@@ -88,7 +95,7 @@ fn solve_by_workers<A: PathAlgebra, R: Threads + Wait + Sync, T: Gate, O: Watche
         O.may_become watcher.old watcher.new result }
 {
     let labelling = merge_all(over, queue, i, watcher)?;
-    match solve_by_labels(over, i, labelling) {
+    match solve_by_labels(over, &queue.by_head, i, labelling) {
         Ok(solved) => Ok(solved),
         Err(_) => Err(GroupFault::Memory),
     }
@@ -109,6 +116,20 @@ impl<V: Copy> WorkerSolver<V> {
     }
 }
 
+/// The graph by head, if the questions are pairs.
+fn by_head_for(
+    alloc: Global,
+    questions: &Questions,
+    graph: &Graph,
+) -> Result<Option<InGraph>, Memory>
+    ensures { IfOk result (λ by_head. (asked_of questions.now).kind ≡ Pairs → by_head ≡ Some graph.now) }
+{
+    match questions {
+        Questions::Pairs(_) => Ok(Some(InGraph::of(alloc, graph.outgoing())?)),
+        _ => Ok(None),
+    }
+}
+
 /// Before the first question: cuts the graph into shards, sets the pace, and forgets what waits.
 pub(crate) fn start_workers<A: PathAlgebra, R, T>(
     batch: &Batch<'_, A, R, T>,
@@ -117,13 +138,16 @@ pub(crate) fn start_workers<A: PathAlgebra, R, T>(
     ensures graph { solver.new.graph ≡ solver.old.graph }
     ensures ready { OnOk result (IsWorkerReady A.meaning batch.now 0 solver.new) }
 {
-    let (alloc, settings) = (batch.task.alloc, batch.settings);
+    let (task, settings) = (&batch.task, batch.settings);
+    let alloc = task.alloc;
     let plan = Plan::blocks(alloc, solver.graph.vertices(), settings.shards as u8)?;
     let counted = CountedPlan::of(alloc, &solver.graph, plan)?;
     let pace = Pace::of(settings, &solver.graph);
+    let by_head = by_head_for(alloc, task.questions, &solver.graph)?;
     solver.queue = Some(DiffusionQueue {
         counted,
         pace,
+        by_head,
         waiting: VecDeque::new(alloc),
     });
     Ok(())

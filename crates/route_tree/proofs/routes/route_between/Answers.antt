@@ -4,4 +4,4 @@ use Rattle.route_tree.proofs.routes.route_between.Goals as goal
 
 pub route-requires-clause-labels : goal.route-requires-clause-labels
 route-requires-clause-labels g c κs within =
-    rw c.outgoing.ensures (best_up_to (g.A.PathAlgebra.meaning c.args.algebra) c.laws_hold.ensures.lawful c.args.graph.now c.holds.ensures (c.args.source ∷ []) c.args.target c.requires.target c.args.labels.now c.requires.labels)
+    best_up_to (g.A.PathAlgebra.meaning c.args.algebra) c.laws_hold.ensures.lawful c.args.graph.now c.holds.ensures (c.args.pair.0 ∷ []) c.args.pair.1 c.requires.target c.args.labels.now c.requires.labels

@@ -33,13 +33,7 @@ fn bad_ends_hand_back(rt: HostRuntime) {
 }
 
 /// The vertices with the numbers of the arcs that leave them, and of those that enter them.
-const NUMBERS: [(u32, &[u32], &[u32]); 5] = [
-    (1, &[2, 4, 6], &[5]),
-    (2, &[], &[1, 2]),
-    (3, &[1], &[4, 6]),
-    (4, &[3], &[3]),
-    (5, &[5], &[]),
-];
+const NUMBERS: [(u32, &[u32]); 5] = [(1, &[2, 4, 6]), (2, &[]), (3, &[1]), (4, &[3]), (5, &[5])];
 
 /// Asserts the numbers of some arcs.
 fn assert_numbers(rt: &impl Abort, found: &[ArcNo], wanted: &[u32]) {
@@ -79,12 +73,11 @@ fn assert_arcs(rt: &impl Abort, graph: &Graph) {
 }
 
 #[test]
-fn rows_by_tail_and_head(rt: HostRuntime) {
+fn rows_of_numbers(rt: HostRuntime) {
     let graph = &graph_of(&rt, 5, &PARALLEL);
-    for &(v, out, into) in &NUMBERS {
+    for &(v, out) in &NUMBERS {
         assert!(rt; graph.has(Vertex(v)));
         assert_numbers(&rt, graph.out(Vertex(v)), out);
-        assert_numbers(&rt, graph.into(Vertex(v)), into);
     }
     assert!(rt; !graph.has(Vertex(0)) && !graph.has(Vertex(6)));
 }

@@ -1,5 +1,5 @@
 -- The words and lemmas that many proofs of this crate use.
-pub use Rattle.road_graph.specs.GraphData.{GraphData, HasArc, HasVertex, IsAscendingFrom, IsGraph, IsRank, IsReversed, JoinsVertices, ListsArcsFrom, ListsArcsInto, ListsRoadsFrom, ListsRoadsInto, arc_of, reversed_arc, road_of, roads_of}
+pub use Rattle.road_graph.specs.GraphData.{GraphData, HasArc, HasVertex, IsAscendingFrom, IsGraph, IsRank, IsReversed, JoinsVertices, ListsArcsFrom, ListsRoadsFrom, ListsRoadsInto, arc_of, reversed_arc, road_of, roads_of}
 pub use Rattle.road_graph.specs.Making.{AreCounts, AreEnds, AreNumbers, AreRoadRows, AreRows, IsEntry, IsIndex, count_at, end_of, numbers_at, reversed_of, start_at}
 pub use Rattle.road_graph.specs.Placing.{Placed, PlacedRoads}
 pub use Rattle.road_graph.specs.declared.OutRoad.{OutRoad}

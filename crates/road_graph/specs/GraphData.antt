@@ -42,11 +42,6 @@ pub record ListsArcsFrom (g : GraphData) (v : ℕ) (numbers : List ℕ) : Type 0
   pub complete : (a : ℕ) → Contains numbers a ↔ (HasArc g a × ((arc_of g a).tail ≡ v))
   pub ascending : IsAscendingFrom 0 numbers
 
--- the list has exactly the arcs that enter v, in ascending order
-pub record ListsArcsInto (g : GraphData) (v : ℕ) (numbers : List ℕ) : Type 0 where
-  pub complete : (a : ℕ) → Contains numbers a ↔ (HasArc g a × ((arc_of g a).head ≡ v))
-  pub ascending : IsAscendingFrom 0 numbers
-
 -- a is at this index in the list of the arcs that leave its tail
 pub record IsRank (g : GraphData) (a index : ℕ) : Type 0 where
   pub numbers : List ℕ

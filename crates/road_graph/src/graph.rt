@@ -1,4 +1,4 @@
-//! The graph in compressed sparse rows: its arcs by number, by tail and by head.
+//! The graph in compressed sparse rows: its arcs by number and by tail.
 
 ghost use Rattle.std.specs.Prelude.{◌≡◌, ◌≤◌, ◌↔◌, ◌^◌, length, IsTrue, IfOk, MatchResult};
 ghost use Rattle.road_graph.specs.GraphData.{IsGraph};
@@ -7,7 +7,7 @@ use crate::bad_ends::first_bad;
 use crate::index::{IndexEntry, entries_of};
 use crate::lookup::{out_in, rank_in, road_in};
 use crate::out_graph::OutGraph;
-use crate::rows::{Rows, roads_at, row_of, rows_of, tails_of};
+use crate::rows::{roads_at, rows_of, tails_of};
 use crate::{ArcNo, GraphFault, Memory, OutRoad, RoadArc, Side, Vertex};
 use std::alloc::Global;
 use std::marker::Model;
@@ -21,23 +21,22 @@ enum Ends {
     Index(Vec<IndexEntry>),
 }
 
-/// A directed graph with its arcs by number, by tail and by head.
+/// A directed graph with its arcs by number and by tail.
 ///
-/// It takes 20 bytes for each arc and 8 for each vertex: heads and weights are kept once, in the
+/// It takes 16 bytes for each arc and 4 for each vertex: heads and weights are kept once, in the
 /// order of the outgoing rows. Once indexed it takes 4 bytes more for each arc, and one load gives
 /// the tail of an arc and its index among the arcs that leave that tail.
 #[derive(Debug, Drop)]
 pub struct Graph {
     out: OutGraph,
     out_numbers: Vec<ArcNo>,
-    into_rows: Rows,
     ends: Ends,
 }
 
 impl Model for Graph {
     ghost use Rattle.road_graph.specs.GraphData.{GraphData, IsGraph};
-    ghost use Rattle.road_graph.specs.Making.{AreRows, AreNumbers, IsEnds};
-    ghost use Rattle.road_graph.specs.declared.Side.TheVariants.{Tail, Head};
+    ghost use Rattle.road_graph.specs.Making.{AreNumbers, IsEnds};
+    ghost use Rattle.road_graph.specs.declared.Side.TheVariants.{Tail};
 
     ghost Value = { GraphData };
 
@@ -46,14 +45,13 @@ impl Model for Graph {
     ghost invariant = { λ g.
         IsGraph g.out
         × AreNumbers Tail g.out g.out_numbers.items
-        × AreRows Head g.out.vertices g.out.arcs g.into_rows.starts.items g.into_rows.numbers.items
         × IsEnds g.out g.ends };
 }
 
 impl Graph {
     ghost use Rattle.road_graph.specs.Making.{IsRefusal};
     ghost use Rattle.road_graph.specs.GraphData.{GraphData, HasVertex, HasArc, arc_of, road_of};
-    ghost use Rattle.road_graph.specs.GraphData.{IsRank, ListsArcsFrom, ListsArcsInto, ListsRoadsFrom};
+    ghost use Rattle.road_graph.specs.GraphData.{IsRank, ListsArcsFrom, ListsRoadsFrom};
 
     /// The graph of exactly these arcs on the vertices 1 to n.
     ///
@@ -96,12 +94,10 @@ impl Graph {
     {
         let out_rows = rows_of(alloc, n, arcs, Side::Tail)?;
         let roads = roads_at(alloc, arcs, &out_rows.numbers)?;
-        let into_rows = rows_of(alloc, n, arcs, Side::Head)?;
         let tails = tails_of(alloc, arcs)?;
         Ok(Graph {
             out: OutGraph::of_rows(n, arcs, out_rows.starts, roads),
             out_numbers: out_rows.numbers,
-            into_rows,
             ends: Ends::Tails(tails),
         })
     }
@@ -217,14 +213,6 @@ impl Graph {
         ensures { ListsArcsFrom self.now v result.now }
     {
         out_in(&self.out, &self.out_numbers, v)
-    }
-
-    /// The arcs that enter a vertex, in ascending order.
-    pub fn into(&self, v: Vertex) -> &[ArcNo]
-        requires { HasVertex self.now v }
-        ensures { ListsArcsInto self.now v result.now }
-    {
-        row_of(&self.into_rows.starts, &self.into_rows.numbers, v)
     }
 
     /// The heads and weights of the arcs that leave a vertex, in the order of `out`.

@@ -1,9 +1,9 @@
-//! A directed road graph in compact form: its arcs by number, by tail and by head.
+//! A directed road graph in compact form: its arcs by number and by tail, or by head.
 //!
-//! Vertices and arcs are numbered from 1. For each direction one list has the numbers of the arcs,
-//! vertex by vertex, and a list of offsets says where the row of each vertex starts. Heads and
-//! weights are in the order of the outgoing rows too, for callers that go along all of them: with
-//! the offsets of these rows they are a graph by themselves, `OutGraph`.
+//! Vertices and arcs are numbered from 1. One list has the numbers of the arcs, vertex by vertex,
+//! and a list of offsets says where the row of each vertex starts. Heads and weights are in the
+//! order of these rows too, for callers that go along all of them: with the offsets they are a
+//! graph by themselves, `OutGraph`. `InGraph` has the rows by head, for those that ask for them.
 #![tactic(auto)]
 
 mod bad_ends;

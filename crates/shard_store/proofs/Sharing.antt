@@ -9,7 +9,6 @@ use Rattle.shard_store.specs.contracts.tables.ArcTable as ArcTable
 use Rattle.shard_store.specs.contracts.batch.Batch as Batch
 use Rattle.shard_store.specs.contracts.queue.Queue as Queue
 use Rattle.shard_store.specs.contracts.plan.Plan as Plan
-use Rattle.shard_store.specs.contracts.counted_plan.CountedPlan as CountedPlan
 use Rattle.path_algebra.specs.declared.algebra.PathAlgebra.{Ghosts}
 use Rattle.road_graph.specs.contracts.graph.Graph as Graph
 
@@ -33,6 +32,3 @@ Graph-sync = search (sendable, crosses) depth 40
 
 pub Plan-sync : IsSync Plan.the_row
 Plan-sync = search (sendable, crosses) depth 40
-
-pub CountedPlan-sync : IsSync CountedPlan.the_row
-CountedPlan-sync = search (sendable, crosses) depth 40

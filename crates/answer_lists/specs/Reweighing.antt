@@ -13,9 +13,9 @@ abbrev pub IsHeavy : Shared → GraphData → Type 0
 IsHeavy first g = (cost : Cost) × (is_factored first cost ≡ true) × ((k : ℕ) → CountsFit g (cost_of cost) k → ⊥)
 
 -- the status says why g is not factored over the links of the first: out of memory, sums that do
--- not fit, or an arc with no link; there is none only if g joins vertices that no arc of the first
--- joins
+-- not fit, an arc with no link, or a stop; there is no link only if g joins vertices that no arc of
+-- the first joins
 pub record IsRefusal (g : GraphData) (first : Shared) (status : ℤ) : Type 0 where
-  pub one_of : IsOneOf (3 ∷ 8 ∷ 44 ∷ []) status
+  pub one_of : IsOneOf (3 ∷ 8 ∷ 44 ∷ 45 ∷ []) status
   pub heavy : status ≡ pos 8 → IsHeavy first g
   pub link : status ≡ pos 44 → JoinsNoOthers g first.roads → ⊥

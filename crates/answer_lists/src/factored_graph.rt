@@ -8,6 +8,7 @@ ghost use Rattle.path_algebra.specs.Walks.{AreBest};
 ghost use Rattle.route_tree.specs.Tree.{IsTree};
 ghost use Rattle.route_tree.specs.Found.{IsPairFound};
 ghost use Rattle.factor_routes.specs.Reweighing.{IsCause};
+ghost use Rattle.factor_routes.specs.declared.reweighed.Unweighed.TheVariants.{Stopped};
 ghost use Rattle.answer_lists.specs.Answers.{HasBoth};
 ghost use Rattle.answer_lists.specs.Table.{AreRowCodes};
 ghost use Rattle.answer_lists.specs.Tree.{HasLowCodes};
@@ -74,13 +75,15 @@ impl FactoredGraph {
         &self,
         graph: &OutGraph,
         by_head: &InGraph,
+        stop: &Option<Stop>,
     ) -> Result<FactoredGraph, Unweighed>
         requires { by_head.now ≡ graph.now }
         ensures roads { IfOk result (λ f. f.roads ≡ graph.now) }
         ensures cost { IfOk result (λ f. f.algebra.cost ≡ self.now.algebra.cost) }
         ensures cause { IfErr result (λ why. IsCause why graph.now self.now) }
+        ensures stopped { IfErr result (λ why. why ≡ Stopped → IsSome stop.now) }
     {
-        let factors = self.factors.reweighed(self.alloc, graph, by_head)?;
+        let factors = self.factors.reweighed(self.alloc, graph, by_head, stop)?;
         match FactoredGraph::of(self.alloc, factors) {
             Ok(factored) => Ok(factored),
             Err(AllocError) => Err(Unweighed::Memory),

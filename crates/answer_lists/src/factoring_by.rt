@@ -1,14 +1,15 @@
 //! Factors of a graph by an order that the caller gives.
-ghost use Rattle.std.specs.Prelude.{◌≡◌, ◌↔◌, ◌≢◌, ◌∷◌, [], length, pos, IfErr, IfOk};
+ghost use Rattle.std.specs.Prelude.{◌≡◌, ◌↔◌, ◌≢◌, ◌∷◌, [], length, pos, IfErr, IfOk, IsSome};
 ghost use Rattle.elimination_order.specs.Orders.{HasEachPlace};
 ghost use Rattle.path_algebra.specs.Choices.{IsAlgebra, OfAlgebra, Under, arc_cost_of};
 ghost use Rattle.answer_lists.specs.Answers.{IsOneOf};
 ghost use Rattle.answer_lists.specs.Factoring.{IsTooHeavy, OfCost, ReportsFactoring, ReportsPlaces};
 
 use crate::shared_graph::SharedGraph;
-use crate::status::{DONE, HEAVY, MEMORY, NO_ALGEBRA, NO_FACTORS, NO_ORDER, NO_ROOM};
+use crate::status::{DONE, HEAVY, MEMORY, NO_ALGEBRA, NO_FACTORS, NO_ORDER, NO_ROOM, STOPPED};
 use elimination_order::Order;
 use factor_routes::Unfactored;
+use halting::Stop;
 use path_algebra::{AlgebraChoice, PathAlgebra, with_algebra};
 use road_graph::Memory;
 
@@ -33,13 +34,19 @@ fn order_of(shared: &SharedGraph, places: &[u32]) -> Result<Order, i32>
 }
 
 /// Factors a graph for an algebra by these places.
-fn factor_by<A: PathAlgebra>(algebra: A, shared: &mut SharedGraph, places: &[u32]) -> i32
+fn factor_by<A: PathAlgebra>(
+    algebra: A,
+    shared: &mut SharedGraph,
+    stop: &Option<Stop>,
+    places: &[u32],
+) -> i32
     ensures graph { shared.new.roads ≡ shared.old.roads }
     ensures kept { (result ≡ pos 0 → ⊥) → shared.new ≡ shared.old }
     ensures factored { ReportsFactoring shared.old shared.new result (A.arc_cost algebra) }
     ensures places { ReportsPlaces shared.old.roads.vertices places.now result }
     ensures heavy { result ≡ pos 8 → IsTooHeavy (A.meaning algebra) shared.old.roads }
-    ensures status { IsOneOf (0 ∷ 2 ∷ 3 ∷ 8 ∷ 9 ∷ 48 ∷ []) result }
+    ensures stopped { result ≡ pos 45 → IsSome stop.now }
+    ensures status { IsOneOf (0 ∷ 2 ∷ 3 ∷ 8 ∷ 9 ∷ 45 ∷ 48 ∷ []) result }
 {
     let Some(cost) = algebra.cost() else {
         return NO_FACTORS;
@@ -48,10 +55,11 @@ fn factor_by<A: PathAlgebra>(algebra: A, shared: &mut SharedGraph, places: &[u32
         Ok(order) => order,
         Err(status) => return status,
     };
-    match shared.factor_by(cost, &order) {
+    match shared.factor_by(cost, &order, stop) {
         Ok(()) => DONE,
         Err(Unfactored::Memory) => MEMORY,
         Err(Unfactored::Heavy) => HEAVY,
+        Err(Unfactored::Stopped) => STOPPED,
         Err(Unfactored::Dense(_)) => unreachable!(),
     }
 }
@@ -61,17 +69,23 @@ fn factor_by<A: PathAlgebra>(algebra: A, shared: &mut SharedGraph, places: &[u32
 ///
 /// What is asked afterwards has the same answers, whatever the order; a good one makes fewer links.
 #[tactic(auto, using(path_algebra::proofs::Chosen::of_numbered, crate::proofs::Costs::cost_of_numbered))]
-pub fn factor_graph_by(number: u32, shared: &mut SharedGraph, places: &[u32]) -> i32
+pub fn factor_graph_by(
+    number: u32,
+    shared: &mut SharedGraph,
+    stop: &Option<Stop>,
+    places: &[u32],
+) -> i32
     ensures graph { shared.new.roads ≡ shared.old.roads }
     ensures kept { (result ≡ pos 0 → ⊥) → shared.new ≡ shared.old }
     ensures factored { OfCost number (ReportsFactoring shared.old shared.new result) }
     ensures places { ReportsPlaces shared.old.roads.vertices places.now result }
     ensures heavy { result ≡ pos 8 → OfAlgebra number 0 (λ V A. IsTooHeavy A shared.old.roads) }
     ensures algebra { (result ≡ pos 43) ↔ (IsAlgebra number 0 → ⊥) }
-    ensures status { IsOneOf (0 ∷ 2 ∷ 3 ∷ 8 ∷ 9 ∷ 43 ∷ 48 ∷ []) result }
+    ensures stopped { result ≡ pos 45 → IsSome stop.now }
+    ensures status { IsOneOf (0 ∷ 2 ∷ 3 ∷ 8 ∷ 9 ∷ 43 ∷ 45 ∷ 48 ∷ []) result }
 {
     let Some(chosen) = AlgebraChoice::numbered(number, 0) else {
         return NO_ALGEBRA;
     };
-    with_algebra!(chosen, |algebra| factor_by(algebra, shared, places))
+    with_algebra!(chosen, |algebra| factor_by(algebra, shared, stop, places))
 }

@@ -17,10 +17,11 @@ fn line_of(code: u64, hops: u32, parent: u32) -> Option<Reached>
     Some(Reached { code, hops, parent })
 }
 
-/// The three lists of a tree, as a caller lends them to be read: the code, the hops and the parent
-/// of each vertex.
+/// The sources of a tree and its three lists, as a caller lends them to be read: the code, the hops
+/// and the parent of each vertex.
 #[derive(Clone, Copy)]
 pub struct ListedTree<'l> {
+    pub sources: &'l [u32],
     pub codes: &'l [u64],
     pub hops: &'l [u32],
     pub parents: &'l [u32],

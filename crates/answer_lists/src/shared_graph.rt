@@ -1,11 +1,11 @@
 //! A graph that handles share, with what was made of it for its answers.
-ghost use Rattle.std.specs.Prelude.{◌≡◌, ◌≢◌, ℕ, length, IfOk, IfErr, IfNone, IfSome, OnErr, OnOk, is_some};
+ghost use Rattle.std.specs.Prelude.{◌≡◌, ◌≢◌, ℕ, length, IfOk, IfErr, IfNone, IfSome, IsSome, OnErr, OnOk, is_some};
 ghost use Rattle.std.specs.Arc.{arc_value};
 ghost use Rattle.path_algebra.specs.Carried.{IsCarried};
 ghost use Rattle.path_algebra.specs.Counted.{cost_of, CountsFit};
 ghost use Rattle.elimination_order.specs.Bounds.{IsTooDense};
 ghost use Rattle.elimination_order.specs.declared.counts.Counts.{Counts};
-ghost use Rattle.factor_routes.specs.declared.road_factors.Unfactored.TheVariants.{Dense, Heavy};
+ghost use Rattle.factor_routes.specs.declared.road_factors.Unfactored.TheVariants.{Dense, Heavy, Stopped};
 ghost use Rattle.answer_lists.specs.Sharing.{factored_for, is_factored, unfactored};
 
 mod searching;
@@ -14,8 +14,9 @@ use crate::factored_graph::FactoredGraph;
 use crate::kept::Kept;
 use elimination_order::Order;
 use factor_routes::{RoadFactors, Unfactored};
+use halting::Stop;
 use path_algebra::{AlgebraChoice, Cost, PathAlgebra, with_algebra};
-use path_factors::Links;
+use path_factors::{Links, Making};
 use road_graph::{InGraph, Memory, OutGraph};
 use std::alloc::{AllocError, Global};
 use std::marker::Model;
@@ -199,7 +200,7 @@ impl SharedGraph {
     /// `Heavy` only if no number of low bits leaves room for both the hops and the sums; `Dense`
     /// only if some do, with counts of which one is above its bound.
     #[tactic(auto, using(crate::proofs::SameFactors::factored_again))]
-    pub(crate) fn factor(&mut self, cost: Cost) -> Result<(), Unfactored>
+    pub(crate) fn factor(&mut self, cost: Cost, stop: &Option<Stop>) -> Result<(), Unfactored>
         ensures done { OnOk result (self.new ≡ factored_for self.old cost) }
         ensures kept { OnErr result (self.new ≡ self.old) }
         ensures heavy { IfErr result (λ e. e ≡ Heavy → (k : ℕ) →
@@ -208,6 +209,7 @@ impl SharedGraph {
             (k : ℕ) × CountsFit self.old.roads (cost_of cost) k) }
         ensures bounds { IfErr result (λ e. (c : Counts) → e ≡ Dense c →
             IsTooDense self.old.roads.vertices (length self.old.roads.arcs) c) }
+        ensures stopped { IfErr result (λ e. e ≡ Stopped → IsSome stop.now) }
     {
         if self.factored(cost).is_some() {
             return Ok(());
@@ -215,7 +217,7 @@ impl SharedGraph {
         let Ok(by_head) = self.by_head() else {
             return Err(Unfactored::Memory);
         };
-        let factors = match RoadFactors::of(self.alloc, cost, &self.graph, &by_head) {
+        let factors = match RoadFactors::of(self.alloc, cost, &self.graph, &by_head, stop) {
             Ok(factors) => factors,
             Err(why) => return Err(why),
         };
@@ -227,7 +229,12 @@ impl SharedGraph {
     }
 
     /// The factors of the graph for arcs that cost this, by an order of its vertices.
-    fn factors_by(&mut self, cost: Cost, order: &Order) -> Result<RoadFactors, Unfactored>
+    fn factors_by(
+        &mut self,
+        cost: Cost,
+        order: &Order,
+        stop: &Option<Stop>,
+    ) -> Result<RoadFactors, Unfactored>
         requires order { length order.now.vertices.items ≡ self.old.roads.vertices }
         ensures same { self.new ≡ self.old }
         ensures roads { IfOk result (λ f. f.roads ≡ self.old.roads) }
@@ -236,18 +243,16 @@ impl SharedGraph {
         ensures heavy { IfErr result (λ e. e ≡ Heavy → (k : ℕ) →
             CountsFit self.old.roads (cost_of cost) k → ⊥) }
         ensures dense { IfErr result (λ e. (c : Counts) → e ≢ Dense c) }
+        ensures stopped { IfErr result (λ e. e ≡ Stopped → IsSome stop.now) }
     {
         let Ok(by_head) = self.by_head() else {
             return Err(Unfactored::Memory);
         };
-        RoadFactors::by_order(
-            self.alloc,
-            cost,
-            &self.graph,
-            &by_head,
-            order,
-            Links::Needed,
-        )
+        let making = Making {
+            links: Links::Needed,
+            stop,
+        };
+        RoadFactors::by_order(self.alloc, cost, &self.graph, &by_head, order, making)
     }
 
     /// Factors the graph by an order of its vertices for arcs that cost this, in place of factors
@@ -255,15 +260,21 @@ impl SharedGraph {
     ///
     /// # Errors
     /// `Heavy` as of `factor`; never `Dense`.
-    pub(crate) fn factor_by(&mut self, cost: Cost, order: &Order) -> Result<(), Unfactored>
+    pub(crate) fn factor_by(
+        &mut self,
+        cost: Cost,
+        order: &Order,
+        stop: &Option<Stop>,
+    ) -> Result<(), Unfactored>
         requires order { length order.now.vertices.items ≡ self.old.roads.vertices }
         ensures done { OnOk result (self.new ≡ factored_for self.old cost) }
         ensures kept { OnErr result (self.new ≡ self.old) }
         ensures heavy { IfErr result (λ e. e ≡ Heavy → (k : ℕ) →
             CountsFit self.old.roads (cost_of cost) k → ⊥) }
         ensures dense { IfErr result (λ e. (c : Counts) → e ≢ Dense c) }
+        ensures stopped { IfErr result (λ e. e ≡ Stopped → IsSome stop.now) }
     {
-        let factors = match self.factors_by(cost, order) {
+        let factors = match self.factors_by(cost, order, stop) {
             Ok(factors) => factors,
             Err(why) => return Err(why),
         };

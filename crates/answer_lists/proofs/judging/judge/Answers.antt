@@ -13,5 +13,5 @@ returns g c =
     let a = c.args in
     let listed = c.deref.ensures.value ∙ c.in_ok-list.ensures in
     let judged = rw listed at c.first_wrong_line.ensures in
-    IfOk-weaker c.first_wrong_line.result _ _ (tree_judged (g.A.PathAlgebra.meaning a.algebra) c.laws_hold.ensures.lawful a.by_head.now c.holds.ensures a.sources.now c.requires.sources
+    IfOk-weaker c.first_wrong_line.result _ _ (tree_judged (g.A.PathAlgebra.meaning a.algebra) c.laws_hold.ensures.lawful a.by_head.now c.holds.ensures a.tree.now.sources.now c.requires.sources
     a.tree.now.codes.now a.tree.now.hops.now a.tree.now.parents.now c.requires.places) judged

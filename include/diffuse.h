@@ -96,7 +96,7 @@ enum diffuse_status {
     DIFFUSE_STATUS_TOO_FEW = 19,
     DIFFUSE_STATUS_NO_ALGEBRA = 43,     /* there is no such algebra, or its limit is above 2^63 */
     DIFFUSE_STATUS_NO_LINK = 44,        /* reweigh: an arc between vertices between which the factors have no link */
-    DIFFUSE_STATUS_STOPPED = 45,        /* route, tree, near and table: the handle's stop was set before there was an answer */
+    DIFFUSE_STATUS_STOPPED = 45,        /* the handle's stop was set before the call was done */
     DIFFUSE_STATUS_OTHER_ARCS = 46,     /* number: the arcs are not those of the graph */
     DIFFUSE_STATUS_NO_NUMBERS = 47,     /* route_arcs: the arcs of the graph were not numbered */
     DIFFUSE_STATUS_NO_ORDER = 48        /* factor_by: the list does not have each place once */
@@ -193,7 +193,7 @@ enum diffuse_status diffuse_graph_route(struct diffuse_graph *graph, enum diffus
    apart: the list is that which was given to open, or has the same arcs in another order, if those of one tail are in the order
    in which diffuse_graph_arcs_from reads them back. It may be changed or freed afterwards. A later call puts other numbers in
    their place. If they are other arcs, nothing changes.
-   CLOSED, OTHER_ARCS, MEMORY or DONE. */
+   CLOSED, OTHER_ARCS, MEMORY, STOPPED or DONE. */
 DIFFUSE_CHECKED((1))
 enum diffuse_status diffuse_graph_number(struct diffuse_graph *graph, const struct diffuse_arc *arcs, size_t n_arcs);
 
@@ -230,7 +230,7 @@ enum diffuse_status diffuse_graph_near(struct diffuse_graph *graph, enum diffuse
 /* Whether these lists are what diffuse_graph_tree writes, by the same algebra, limit and sources. Nothing is solved: each line
    is judged by itself and those of the vertices with an arc to it. If the lists are not the tree, the status is WRONG; then
    *vertex is the first vertex whose line the others refute, and *reason the first reason, an enum diffuse_reason.
-   CLOSED, NO_VERTEX, NO_ROOM, NO_ALGEBRA, MEMORY, WRONG or DONE. */
+   CLOSED, NO_VERTEX, NO_ROOM, NO_ALGEBRA, MEMORY, STOPPED, WRONG or DONE. */
 DIFFUSE_CHECKED((1))
 enum diffuse_status diffuse_graph_check(struct diffuse_graph *graph, enum diffuse_algebra algebra, uint64_t limit,
     const uint32_t *sources, size_t n_sources, const uint64_t *codes, size_t n_codes,
@@ -249,14 +249,14 @@ enum diffuse_status diffuse_graph_table(struct diffuse_graph *graph, enum diffus
    by a search first.
    SHORTEST and WITHIN at every limit have one factoring, HOPS has its own, and the other algebras have none. Once it is done, a
    second call for the same factoring does nothing. After a refusal calls search, as before, and a second call tries again.
-   CLOSED, NO_ALGEBRA, NO_FACTORS, MEMORY, HEAVY, DENSE or DONE. */
+   CLOSED, NO_ALGEBRA, NO_FACTORS, MEMORY, STOPPED, HEAVY, DENSE or DONE. */
 DIFFUSE_CHECKED((1))
 enum diffuse_status diffuse_graph_factor(struct diffuse_graph *graph, enum diffuse_algebra algebra);
 
 /* The same by an order of elimination: the place of each vertex in it, from 0, as `diffuse order` writes them; so one that was found
    with care is kept with a graph, and serves each time. Factors that the handle had for the algebra go; other handles keep theirs.
    Any order gives the same answers; a bad one takes much time and memory.
-   CLOSED, NO_ALGEBRA, NO_FACTORS, NO_ROOM, NO_ORDER, MEMORY, HEAVY or DONE. */
+   CLOSED, NO_ALGEBRA, NO_FACTORS, NO_ROOM, NO_ORDER, MEMORY, STOPPED, HEAVY or DONE. */
 DIFFUSE_CHECKED((1))
 enum diffuse_status diffuse_graph_factor_by(struct diffuse_graph *graph, enum diffuse_algebra algebra, const uint32_t *places,
     size_t n_places);
@@ -265,7 +265,7 @@ enum diffuse_status diffuse_graph_factor_by(struct diffuse_graph *graph, enum di
    that it has, in about half the time of diffuse_graph_factor. Weights may change, and arcs may go, come back or have others
    beside them; two vertices that an arc of the first graph joins, this way or that, always have a link. The first handle and those
    that share it go on to answer about their graph, on other threads meanwhile too. The arcs may be changed or freed afterwards.
-   OPEN, CLOSED, LIMIT, NO_VERTEX, MEMORY, HEAVY, NO_LINK or DONE. */
+   OPEN, CLOSED, LIMIT, NO_VERTEX, MEMORY, STOPPED, HEAVY, NO_LINK or DONE. */
 DIFFUSE_CHECKED((1, 4))
 enum diffuse_status diffuse_graph_reweigh(struct diffuse_graph *graph, const struct diffuse_arc *arcs, size_t n_arcs,
     struct diffuse_graph *second);
@@ -273,11 +273,10 @@ enum diffuse_status diffuse_graph_reweigh(struct diffuse_graph *graph, const str
 /* Opens a closed stop, which is not set. OPEN, MEMORY or DONE. */
 DIFFUSE_CHECKED((1)) enum diffuse_status diffuse_stop_new(struct diffuse_stop *stop);
 
-/* Gives a handle a stop, in place of the one that it had: once the stop is set, routes, trees, tables and near answers of the
-   handle end with STOPPED, at the latest after a few thousand more steps of a search or of a pass over the factors, or after one
-   pass over the arcs, and nothing is written. A call that has its answer sooner gives it. The stop stays with the handle, freed or
-   not, until another takes its place; a closed one takes it away. A second handle, by share or reweigh, has none. Many handles may
-   have one stop. CLOSED, MEMORY or DONE. */
+/* Gives a handle a stop, in place of the one that it had: once the stop is set, calls of the handle that list STOPPED end with it,
+   at the latest after a few thousand more steps of a search or of a pass over the factors, or after one pass over the arcs, and
+   nothing is written. The stop stays with the handle, freed or not, until another takes its place; a closed one takes it away. A
+   second handle, by share or reweigh, has none. Many handles may have one stop. CLOSED, MEMORY or DONE. */
 DIFFUSE_CHECKED((1, 2)) enum diffuse_status diffuse_graph_stop_by(struct diffuse_graph *graph, struct diffuse_stop *stop);
 
 /* Sets or clears a stop. It may be set while another thread is in a call of a handle that has it, or by a signal handler: its flag

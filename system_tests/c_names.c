@@ -651,6 +651,46 @@ static void stop_a_call(int by_signal) {
     IS(DIFFUSE_STATUS_STOPPED, found);
 }
 
+/* What the calls return that check, number, factor and reweigh. */
+static void work_on_five(enum diffuse_status wanted) {
+    static const uint32_t PLACES[] = {2, 0, 4, 1, 3};
+    vertex = reason = 77;
+    IS(wanted, check(&RIGHT, 5));
+    IS(77, vertex + reason - 77);
+    IS(wanted, diffuse_graph_number(&graph, FIVE, 7));
+    IS(wanted, diffuse_graph_factor(&graph, DIFFUSE_ALGEBRA_SHORTEST));
+    IS(wanted, factor_by(DIFFUSE_ALGEBRA_HOPS, PLACES, 5));
+    IS(wanted, factor_by(DIFFUSE_ALGEBRA_SHORTEST, PLACES, 5));
+    diffuse_graph_close(&second);
+    IS(wanted, reweigh(FIVE, 7));
+    IS(wanted == DIFFUSE_STATUS_DONE, second.is_open);
+}
+
+/* A set stop ends each of these, which leaves the handle as it was: it has no numbers, and then those that it had; and answers. */
+static void stopped_works(void) {
+    uint32_t arcs[4] = {77, 77, 77, 77};
+    enum diffuse_status numbered = DIFFUSE_STATUS_NO_NUMBERS;
+    open(FIVE, 5, 7);
+    for (int turn = 0; turn < 2; turn++) {
+        IS(DIFFUSE_STATUS_DONE, diffuse_graph_stop_by(&graph, &stop));
+        IS(DIFFUSE_STATUS_DONE, diffuse_stop_set(&stop));
+        work_on_five(DIFFUSE_STATUS_STOPPED);
+        IS(DIFFUSE_STATUS_NO_ALGEBRA, diffuse_graph_factor(&graph, (enum diffuse_algebra)6));
+        IS(DIFFUSE_STATUS_NO_FACTORS, diffuse_graph_factor(&graph, DIFFUSE_ALGEBRA_WIDEST));
+        IS(DIFFUSE_STATUS_NO_ROOM, check(&RIGHT, 4));
+        IS(DIFFUSE_STATUS_NO_VERTEX, reweigh(BAD, 2));
+        IS(DIFFUSE_STATUS_DONE, diffuse_stop_clear(&stop));
+        IS(numbered, diffuse_graph_route_arcs(&graph, DIFFUSE_ALGEBRA_SHORTEST, 0, 1, 4, &code, &hops, room, 8, arcs, 4));
+        tables();
+        work_on_five(DIFFUSE_STATUS_DONE);
+        tables();
+        numbered = DIFFUSE_STATUS_DONE;
+        open(FIVE, 5, 7);
+        IS(DIFFUSE_STATUS_DONE, diffuse_graph_number(&graph, FIVE, 7));
+    }
+    diffuse_graph_close(&graph);
+}
+
 static void stops(void) {
     struct diffuse_stop none = DIFFUSE_CLOSED;
     diffuse_graph_close(&graph);
@@ -662,6 +702,7 @@ static void stops(void) {
     IS(DIFFUSE_STATUS_DONE, diffuse_stop_new(&stop));
     IS(DIFFUSE_STATUS_OPEN, diffuse_stop_new(&stop));
     IS(DIFFUSE_STATUS_CLOSED, diffuse_graph_stop_by(&graph, &stop));
+    stopped_works();
     open_chain();
     IS(DIFFUSE_STATUS_DONE, diffuse_graph_stop_by(&graph, &stop));
     for (int by = 0; by < 4; by++) {
@@ -685,7 +726,10 @@ static void stops(void) {
     stop_a_call(0);
     signal(SIGUSR1, set_by_signal);
     stop_a_call(1);
+    IS(DIFFUSE_STATUS_STOPPED, diffuse_graph_factor(&graph, DIFFUSE_ALGEBRA_SHORTEST));
+    IS(DIFFUSE_STATUS_DONE, diffuse_stop_clear(&stop));
     IS(DIFFUSE_STATUS_DONE, diffuse_graph_factor(&graph, DIFFUSE_ALGEBRA_SHORTEST));
+    IS(DIFFUSE_STATUS_DONE, diffuse_stop_set(&stop));
     IS(DIFFUSE_STATUS_STOPPED, diffuse_graph_tree(&graph, DIFFUSE_ALGEBRA_SHORTEST, 0, &ONE, 1, codes_of, LONG, NULL, 0, NULL, 0));
     IS(DIFFUSE_STATUS_DONE, diffuse_graph_tree(&graph, DIFFUSE_ALGEBRA_WITHIN, 9, &ONE, 1, codes_of, LONG, NULL, 0, NULL, 0));
     IS(9, codes_of[9]);

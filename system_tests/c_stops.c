@@ -1,5 +1,6 @@
 /* A stop that is set while one call runs, which would take about a second: the call ends within 0.2 s of processor time; a widest
-   tree, of which many vertices wait, and a tree by factors, which takes less, within 0.05 s. Link with -pthread.
+   tree, of which many vertices wait, and what takes less, a tree by factors and the factoring of a square, within 0.05 s. Link with
+   -pthread.
    c_library beside this file says what it must print. */
 #define _GNU_SOURCE
 #include <diffuse.h>
@@ -10,11 +11,13 @@
 
 /* A graph whose search takes its time, since its arcs lead anywhere; all but the last vertex are nearer than the last. */
 enum { MANY = 1200000, ROWS = 3000000, SIDE = 200, PLACES = SIDE * SIDE, EACH = 1500, TRIES = 5 };
-static const double BEGUN = 0.1, LATE = 0.2, SWEPT = 0.02, SOON = 0.05;
+static const double BEGUN = 0.1, LATE = 0.2, SWEPT = 0.02, SOON = 0.05, BUILT = 0.6;
 static struct diffuse_graph wide = DIFFUSE_CLOSED, grid = DIFFUSE_CLOSED, reweighed = DIFFUSE_CLOSED, chain = DIFFUSE_CLOSED;
 static struct diffuse_stop stop = DIFFUSE_CLOSED;
 static uint32_t *numbers, *sources, few[EACH];
 static uint64_t *codes;
+static struct diffuse_arc *street;
+static size_t street_arcs;
 
 static void expect(enum diffuse_status status, const char *what) {
     if (status == DIFFUSE_STATUS_DONE) return;
@@ -73,15 +76,13 @@ static void open_grid(void) {
 
 /* One street that leads both ways, factored: it has few links, but a tree of it is swept over all places. */
 static void open_chain(void) {
-    struct diffuse_arc *arcs = (struct diffuse_arc *)list_of((size_t)2 * ROWS, sizeof *arcs);
-    size_t m = 0;
+    street = (struct diffuse_arc *)list_of((size_t)2 * ROWS, sizeof *street);
     for (uint32_t v = 1; v < ROWS; v++) {
-        arcs[m++] = (struct diffuse_arc){v, v + 1, 7};
-        arcs[m++] = (struct diffuse_arc){v + 1, v, 7};
+        street[street_arcs++] = (struct diffuse_arc){v, v + 1, 7};
+        street[street_arcs++] = (struct diffuse_arc){v + 1, v, 7};
     }
-    open_graph(&chain, ROWS, arcs, m);
+    open_graph(&chain, ROWS, street, street_arcs);
     expect(diffuse_graph_factor(&chain, DIFFUSE_ALGEBRA_SHORTEST), "factor");
-    free(arcs);
 }
 
 static const uint32_t ONE = 1, LAST = MANY, NEXT = 2;
@@ -114,6 +115,16 @@ static enum diffuse_status reweighed_table(enum diffuse_algebra by) {
 
 static enum diffuse_status factored_tree(enum diffuse_algebra by) {
     return diffuse_graph_tree(&chain, by, DIFFUSE_MAX_LIMIT, &ONE, 1, codes, ROWS, NULL, 0, NULL, 0);
+}
+
+static enum diffuse_status factor_chain(enum diffuse_algebra by) { return diffuse_graph_factor(&chain, by); }
+static enum diffuse_status factor_grid(enum diffuse_algebra by) { return diffuse_graph_factor(&grid, by); }
+static enum diffuse_status reweigh(enum diffuse_algebra by) {
+    struct diffuse_graph second = DIFFUSE_CLOSED;
+    enum diffuse_status status = diffuse_graph_reweigh(&chain, street, street_arcs, &second);
+    (void)by;
+    diffuse_graph_close(&second);
+    return status;
 }
 
 /* A call, how long it has run when the stop is set, and how long it may run on; then when it ended and how. */
@@ -179,7 +190,10 @@ int main(void) {
                            {"table of near targets by hops", near_table, DIFFUSE_ALGEBRA_HOPS, BEGUN, LATE, 0, DIFFUSE_STATUS_NONE},
                            {"table by factors", factored_table, DIFFUSE_ALGEBRA_SHORTEST, BEGUN, LATE, 0, DIFFUSE_STATUS_NONE},
                            {"table by factors of a reweighed graph", reweighed_table, DIFFUSE_ALGEBRA_WITHIN, BEGUN, LATE, 0, DIFFUSE_STATUS_NONE},
-                           {"tree by factors", factored_tree, DIFFUSE_ALGEBRA_SHORTEST, SWEPT, SOON, 0, DIFFUSE_STATUS_NONE}};
+                           {"tree by factors", factored_tree, DIFFUSE_ALGEBRA_SHORTEST, SWEPT, SOON, 0, DIFFUSE_STATUS_NONE},
+                           {"factor", factor_chain, DIFFUSE_ALGEBRA_HOPS, BEGUN, LATE, 0, DIFFUSE_STATUS_NONE},
+                           {"factor a square", factor_grid, DIFFUSE_ALGEBRA_HOPS, SWEPT, SOON, 0, DIFFUSE_STATUS_NONE},
+                           {"reweigh", reweigh, DIFFUSE_ALGEBRA_SHORTEST, BUILT, LATE, 0, DIFFUSE_STATUS_NONE}};
     numbers = (uint32_t *)list_of(MANY, sizeof *numbers);
     sources = (uint32_t *)list_of(ROWS, sizeof *sources);
     codes = (uint64_t *)list_of(ROWS, sizeof *codes);
@@ -195,6 +209,6 @@ int main(void) {
     diffuse_graph_close(&reweighed);
     diffuse_graph_close(&chain);
     diffuse_stop_free(&stop);
-    free(numbers), free(sources), free(codes);
+    free(numbers), free(sources), free(codes), free(street);
     return 0;
 }

@@ -195,6 +195,7 @@ static void stops() {
         expect(!stop.is_set(), "a new stop");
         stop.set();
         expect(stop.is_set() && refused(DIFFUSE_STATUS_STOPPED, [&] { line.route(1, 200000); }), "a stop that is set");
+        expect(refused(DIFFUSE_STATUS_STOPPED, [&] { line.factor(); }), "a factoring that is stopped");
         stop.clear();
         expect(!stop.is_set(), "a stop that is clear");
     }

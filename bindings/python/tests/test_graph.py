@@ -352,6 +352,7 @@ class Refusals(unittest.TestCase):
                      lambda: graph.table(1, n, stop=stop), lambda: graph.tree(1, "widest", stop=stop)):
             with self.assertRaisesRegex(diffuse.Stopped, "The stop was set before there was an answer."):
                 call()
+        graph.number()  # by the handle of a call that was stopped
         self.assertEqual(graph.route(1, n).value, n - 1)
         stop.clear()
         self.assertEqual(len(graph.near(1, stop=stop).vertices), n)

@@ -25,8 +25,8 @@ fn judge<A: PathAlgebra>(
 ) -> Result<Option<Place>, Memory>
     requires sources { All (HasVertex by_head.now) tree.now.sources.now }
     requires places { HavePlaces by_head.now.vertices tree.now.codes.now tree.now.hops.now tree.now.parents.now }
-    ensures { IfOk result (AreJudged (A.meaning algebra) by_head.now tree.now.sources.now tree.now.codes.now
-        tree.now.hops.now tree.now.parents.now) }
+    ensures { IfOk result (AreJudged (A.meaning algebra) by_head.now tree.now.sources.now
+        tree.now.codes.now tree.now.hops.now tree.now.parents.now) }
 {
     laws_hold(algebra);
     by_head.holds();
@@ -44,8 +44,8 @@ fn judge_chosen(
 ) -> Result<Option<Place>, Memory>
     requires sources { All (HasVertex by_head.now) tree.now.sources.now }
     requires places { HavePlaces by_head.now.vertices tree.now.codes.now tree.now.hops.now tree.now.parents.now }
-    ensures { Under chosen (λ V A. IfOk result (AreJudged A by_head.now tree.now.sources.now tree.now.codes.now
-        tree.now.hops.now tree.now.parents.now)) }
+    ensures { Under chosen (λ V A. IfOk result (AreJudged A by_head.now tree.now.sources.now
+        tree.now.codes.now tree.now.hops.now tree.now.parents.now)) }
 {
     with_algebra!(chosen, |algebra| judge(alloc, algebra, by_head, tree))
 }
@@ -69,10 +69,11 @@ pub fn check_tree(
 ) -> i32
     ensures graph { shared.new ≡ shared.old }
     ensures right { result ≡ pos 0 → OfAlgebra by.algebra by.limit (λ V A. AreTreeLists A
-        shared.old.roads tree.now.sources.now tree.now.codes.now tree.now.hops.now tree.now.parents.now) }
+        shared.old.roads tree.now.sources.now tree.now.codes.now tree.now.hops.now
+        tree.now.parents.now) }
     ensures wrong { result ≡ pos 6 → OfAlgebra by.algebra by.limit (λ V A. IsFirstRefuted A
-        shared.old.roads tree.now.sources.now tree.now.codes.now tree.now.hops.now tree.now.parents.now
-        first.new.vertex.now first.new.reason.now) }
+        shared.old.roads tree.now.sources.now tree.now.codes.now tree.now.hops.now
+        tree.now.parents.now first.new.vertex.now first.new.reason.now) }
     ensures same { IsSameReport first.old first.new }
     ensures kept { (result ≡ pos 6 → ⊥) → (first.new.vertex.now ≡ first.old.vertex.now) ×
         (first.new.reason.now ≡ first.old.reason.now) }

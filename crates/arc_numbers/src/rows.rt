@@ -59,7 +59,8 @@ impl NumberRows {
         stop: &Option<Stop>,
     ) -> Result<NumberRows, Unfinished>
         requires { IsReordered graph.now numbered.now }
-        ensures rows { IfOk result (λ r. r ≡ record { roads = graph.now; numbered = numbered.now }) }
+        ensures rows { IfOk result (λ r. r ≡
+            record { roads = graph.now; numbered = numbered.now }) }
         ensures halts { IfErr result (λ e. e ≡ Halted → IsSome stop.now) }
     {
         let mut starts = Vec::with_capacity(alloc, numbered.vertices() as usize + 1)?;

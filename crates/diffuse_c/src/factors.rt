@@ -1,5 +1,5 @@
 //! The calls that factor a graph.
-ghost use Rattle.std.specs.Prelude.{◌≡◌, ◌↔◌, ◌∷◌, [], pos, None};
+ghost use Rattle.std.specs.Prelude.{◌≡◌, ◌↔◌, ◌∷◌, [], pos, IsSome, None};
 ghost use Rattle.path_algebra.specs.Choices.{IsAlgebra, OfAlgebra};
 ghost use Rattle.answer_lists.specs.Answers.{IsOneOf};
 ghost use Rattle.answer_lists.specs.Factoring.{IsDense, IsTooHeavy, OfCost, ReportsFactoring, ReportsPlaces};
@@ -7,6 +7,7 @@ ghost use Rattle.diffuse_c.specs.Holding.{OfGraph, OfShared};
 ghost use Rattle.diffuse_c.specs.Keeping.{KeepsUnlessFactored};
 
 use crate::handle::{DiffuseGraph, put, take};
+use crate::owners::Owner;
 use crate::status::CLOSED;
 use answer_lists::{factor_graph, factor_graph_by};
 use std::alloc::Global;
@@ -30,12 +31,14 @@ pub extern "C" fn diffuse_graph_factor(
     ensures algebra { OfGraph handle.old.held.shared
         (λ g. (result ≡ pos 43) ↔ (IsAlgebra algebra 0 → ⊥)) }
     ensures closed { (result ≡ pos 4) ↔ (handle.old.held.shared ≡ None) }
-    ensures status { IsOneOf (0 ∷ 3 ∷ 4 ∷ 7 ∷ 8 ∷ 9 ∷ 43 ∷ []) result }
+    ensures stopped { result ≡ pos 45 → IsSome handle.old.held.stop }
+    ensures status { IsOneOf (0 ∷ 3 ∷ 4 ∷ 7 ∷ 8 ∷ 9 ∷ 43 ∷ 45 ∷ []) result }
 {
     let Some(mut owner) = take(alloc, handle) else {
         return CLOSED;
     };
-    let status = factor_graph(algebra, &mut owner.shared);
+    let Owner { shared, stop, .. } = &mut *owner;
+    let status = factor_graph(algebra, shared, stop);
     put(handle, owner);
     status
 }
@@ -60,12 +63,14 @@ pub extern "C" fn diffuse_graph_factor_by(
     ensures algebra { OfGraph handle.old.held.shared
         (λ g. (result ≡ pos 43) ↔ (IsAlgebra algebra 0 → ⊥)) }
     ensures closed { (result ≡ pos 4) ↔ (handle.old.held.shared ≡ None) }
-    ensures status { IsOneOf (0 ∷ 2 ∷ 3 ∷ 4 ∷ 8 ∷ 9 ∷ 43 ∷ 48 ∷ []) result }
+    ensures stopped { result ≡ pos 45 → IsSome handle.old.held.stop }
+    ensures status { IsOneOf (0 ∷ 2 ∷ 3 ∷ 4 ∷ 8 ∷ 9 ∷ 43 ∷ 45 ∷ 48 ∷ []) result }
 {
     let Some(mut owner) = take(alloc, handle) else {
         return CLOSED;
     };
-    let status = factor_graph_by(algebra, &mut owner.shared, places);
+    let Owner { shared, stop, .. } = &mut *owner;
+    let status = factor_graph_by(algebra, shared, stop, places);
     put(handle, owner);
     status
 }

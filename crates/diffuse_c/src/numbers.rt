@@ -13,14 +13,20 @@ ghost use Rattle.diffuse_c.specs.Rooms.{FillsRouteArcs, route_places};
 use crate::arcs::{DiffuseArc, roads_of};
 use crate::handle::{DiffuseGraph, put, take};
 use crate::status::{CLOSED, NO_NUMBERS, OTHER_ARCS};
-use answer_lists::{AlgebraNumber, DONE, MEMORY, RouteArcsRoom, answer_route_arcs};
+use answer_lists::{AlgebraNumber, DONE, MEMORY, RouteArcsRoom, STOPPED, answer_route_arcs};
 use arc_numbers::ArcNumbers;
 use factor_routes::Pair;
-use road_graph::{Memory, OutGraph, Vertex};
+use halting::{Stop, Unfinished};
+use road_graph::{OutGraph, Vertex};
 use std::alloc::Global;
 
 /// The numbers of lent arcs, or the status that says why there are none.
-fn numbers_of(alloc: Global, graph: &OutGraph, arcs: &[DiffuseArc]) -> Result<ArcNumbers, i32>
+fn numbers_of(
+    alloc: Global,
+    graph: &OutGraph,
+    stop: &Option<Stop>,
+    arcs: &[DiffuseArc],
+) -> Result<ArcNumbers, i32>
     ensures numbers { IfOk result (λ n. n ≡ record {
       roads = graph.now;
       numbered = lent graph.now.vertices arcs.now;
@@ -28,15 +34,17 @@ fn numbers_of(alloc: Global, graph: &OutGraph, arcs: &[DiffuseArc]) -> Result<Ar
     ensures same { IfOk result (λ n. IsReordered graph.now (lent graph.now.vertices arcs.now)) }
     ensures other { IfErr result (λ n. n ≡ pos 46 →
         IsReordered graph.now (lent graph.now.vertices arcs.now) → ⊥) }
-    ensures status { IfErr result (IsOneOf (3 ∷ 46 ∷ [])) }
+    ensures stopped { IfErr result (λ n. n ≡ pos 45 → IsSome stop.now) }
+    ensures status { IfErr result (IsOneOf (3 ∷ 45 ∷ 46 ∷ [])) }
 {
     let Ok(list) = roads_of(alloc, arcs) else {
         return Err(MEMORY);
     };
-    match ArcNumbers::of(alloc, graph, list) {
+    match ArcNumbers::of(alloc, graph, list, stop) {
         Ok(Some(numbers)) => Ok(numbers),
         Ok(None) => Err(OTHER_ARCS),
-        Err(Memory) => Err(MEMORY),
+        Err(Unfinished::Memory) => Err(MEMORY),
+        Err(Unfinished::Halted) => Err(STOPPED),
     }
 }
 
@@ -61,12 +69,13 @@ pub extern "C" fn diffuse_graph_number(
         IsReordered g (lent g.vertices arcs.now) → ⊥) }
     ensures unchanged { result ≢ pos 0 → handle.new.held.numbers ≡ handle.old.held.numbers }
     ensures closed { (result ≡ pos 4) ↔ (handle.old.held.shared ≡ None) }
-    ensures status { IsOneOf (0 ∷ 3 ∷ 4 ∷ 46 ∷ []) result }
+    ensures stopped { result ≡ pos 45 → IsSome handle.old.held.stop }
+    ensures status { IsOneOf (0 ∷ 3 ∷ 4 ∷ 45 ∷ 46 ∷ []) result }
 {
     let Some(mut owner) = take(alloc, handle) else {
         return CLOSED;
     };
-    let status = match numbers_of(alloc, owner.shared.graph(), arcs) {
+    let status = match numbers_of(alloc, owner.shared.graph(), &owner.stop, arcs) {
         Ok(numbers) => {
             owner.numbers = Some(numbers);
             DONE

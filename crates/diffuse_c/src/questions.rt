@@ -136,19 +136,22 @@ pub extern "C" fn diffuse_graph_check(
         (All (HasVertex g) sources.now) (HavePlaces g.vertices codes.now hops.now parents.now)
         algebra limit result) }
     ensures closed { (result ≡ pos 4) ↔ (handle.old.held.shared ≡ None) }
-    ensures status { IsOneOf (0 ∷ 2 ∷ 3 ∷ 4 ∷ 6 ∷ 17 ∷ 43 ∷ []) result }
+    ensures stopped { result ≡ pos 45 → IsSome handle.old.held.stop }
+    ensures status { IsOneOf (0 ∷ 2 ∷ 3 ∷ 4 ∷ 6 ∷ 17 ∷ 43 ∷ 45 ∷ []) result }
 {
     let Some(mut owner) = take(alloc, handle) else {
         return CLOSED;
     };
+    let Owner { shared, stop, .. } = &mut *owner;
     let by = AlgebraNumber { algebra, limit };
     let tree = ListedTree {
+        sources,
         codes,
         hops,
         parents,
     };
     let mut first = FirstRefuted { vertex, reason };
-    let status = check_tree(by, &mut owner.shared, sources, &tree, &mut first);
+    let status = check_tree(by, shared, stop, &tree, &mut first);
     put(handle, owner);
     status
 }

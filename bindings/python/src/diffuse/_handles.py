@@ -329,6 +329,7 @@ class Handles:
     def work(self, call: Callable[[Handle], int]) -> tuple[int, Handle]:
         """The status of a call that no stop ends, and its handle."""
         handle = self.pool.taken(self._lock)
+        _give_stop(handle, False)  # that of an earlier call, which may be set
         return patiently(lambda: call(handle), self.is_long), handle
 
     def ask_patiently(self, call: Callable[[Handle], int]) -> int:
@@ -394,7 +395,6 @@ class Handles:
         if status != DONE:
             old.free.append(handle)
             return status
-        _give_stop(handle, False)
         with self._lock:
             if self._pool is not None:
                 self._pool = Pool(handle, factored)

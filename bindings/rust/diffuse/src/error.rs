@@ -22,7 +22,7 @@ pub enum Error {
     NoFactors,
     /// An arc joins vertices between which the factors have no link.
     NoLink,
-    /// The stop of the graph was set before there was an answer.
+    /// The stop of the graph was set before the call was done.
     Stopped,
     /// The arcs that were to be numbered are not those of the graph.
     OtherArcs,

@@ -62,7 +62,7 @@ impl Graph {
         Ok(second)
     }
 
-    /// From now on routes, trees, tables and near answers of this graph end with [`Error::Stopped`] once the stop is set; with none
+    /// From now on calls of this graph, but for [`share`](Graph::share), end with [`Error::Stopped`] once the stop is set; with none
     /// they never do. A graph that [`share`](Graph::share) or [`reweigh`](Graph::reweigh) makes has none.
     pub fn stop_by(&self, stop: Option<&Stop>) -> Result<(), Error> {
         let mut none = StopHandle::CLOSED;

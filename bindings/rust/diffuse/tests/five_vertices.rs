@@ -257,6 +257,7 @@ fn a_stop_ends_searches() {
     assert_eq!(graph.tree(Algebra::Widest, &[1]).unwrap_err(), Error::Stopped);
     assert_eq!(graph.near(Algebra::Hops, &[1]).unwrap_err(), Error::Stopped);
     assert_eq!(graph.table(Algebra::Reach, &[1], &[2]).unwrap_err(), Error::Stopped);
+    assert_eq!(graph.factor(Algebra::Shortest), Err(Error::Stopped));
     assert_eq!(Error::Stopped.to_string(), "stopped before there was an answer");
     stop.clear();
     assert_eq!(graph.route(Algebra::Shortest, 1, 100_000).unwrap().unwrap().code, 99_999);

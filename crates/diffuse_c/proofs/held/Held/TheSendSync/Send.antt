@@ -10,7 +10,7 @@ use Rattle.path_algebra.specs.declared.algebra.PathAlgebra.{Ghosts}
 use Rattle.answer_lists.specs.contracts.kept.Kept as kept
 use Rattle.route_tree.specs.contracts.pair_searcher.PairSearcher as pairs
 use Rattle.tree_search.specs.contracts.searcher.TreeSearcher as trees
-use Rattle.path_plain.specs.contracts.halt.Stop as stop
+use Rattle.halting.specs.contracts.stop.Stop as stop
 use Rattle.arc_numbers.specs.contracts.numbers.ArcNumbers as numbers
 use Rattle.answer_lists.specs.contracts.shared_graph.SharedGraph as shared
 use Rattle.diffuse_c.specs.Holding.{held_at, owner_of, owner_row, the_heap}

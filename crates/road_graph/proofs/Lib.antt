@@ -9,3 +9,5 @@ mod Entries
 mod OneRows
 mod Reversing
 mod ByHead
+mod Ghosts
+mod Changing

@@ -6,6 +6,8 @@
 //! graph by themselves, `OutGraph`. `InGraph` has the rows by head, for those that ask for them.
 #![tactic(auto)]
 
+mod arc_source;
+mod arcs;
 mod bad_ends;
 mod graph;
 mod in_graph;
@@ -13,6 +15,7 @@ mod index;
 mod lookup;
 mod out_graph;
 mod rows;
+mod weights;
 
 pub use graph::Graph;
 pub use in_graph::InGraph;

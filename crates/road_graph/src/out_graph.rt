@@ -1,11 +1,15 @@
 //! A graph with its arcs by tail alone.
 
-ghost use Rattle.std.specs.Prelude.{◌≡◌, ℕ, ◌+◌, ◌-◌, ◌<◌, ◌≤◌, ◌↔◌, ◌^◌, List, length, IsTrue, IfOk, MatchResult};
+ghost use Rattle.std.specs.Prelude.{◌≡◌, ℕ, ◌+◌, ◌-◌, ◌<◌, ◌≤◌, ◌↔◌, ◌^◌, List, length, IsTrue, IfOk, IfSome, MatchResult, None};
 ghost use Rattle.road_graph.specs.GraphData.{IsGraph};
 ghost use Rattle.road_graph.specs.Making.{AreRoadRows, AreNumbers, AreRowStarts};
+ghost use Rattle.road_graph.specs.Changing.{graph_after, HaveEnds};
 
+use crate::arc_source::ArcSource;
+use crate::arcs::Arcs;
 use crate::bad_ends::first_bad;
 use crate::rows::{range_of, road_rows_of};
+use crate::weights::set_weights;
 use crate::{GraphFault, Memory, OutRoad, RoadArc, Vertex};
 use std::alloc::Global;
 use std::fmt;
@@ -18,7 +22,7 @@ use std::snapshot::Snapshot;
 #[derive(Drop)]
 pub struct OutGraph {
     vertices: u32,
-    arcs: Snapshot<Vec<RoadArc>>,
+    arcs: Snapshot<Arcs>,
     starts: Vec<u32>,
     roads: Vec<OutRoad>,
 }
@@ -39,11 +43,11 @@ impl Model for OutGraph {
 
     ghost Value = { GraphData };
 
-    ghost view = { λ g. record { vertices = g.vertices; arcs = g.arcs.value.items } };
+    ghost view = { λ g. record { vertices = g.vertices; arcs = g.arcs.value.list } };
 
     ghost invariant = { λ g.
-        IsGraph (record { vertices = g.vertices; arcs = g.arcs.value.items })
-        × AreRoadRows g.vertices g.arcs.value.items g.starts.items g.roads.items };
+        IsGraph (record { vertices = g.vertices; arcs = g.arcs.value.list })
+        × AreRoadRows g.vertices g.arcs.value.list g.starts.items g.roads.items };
 }
 
 impl OutGraph {
@@ -85,6 +89,44 @@ impl OutGraph {
         OutGraph::make(alloc, n, &arcs)
     }
 
+    /// The graph after changes of weights, one after the other: each gives all arcs from its tail to
+    /// its head its weight. None if there is no such arc for one of them.
+    ///
+    /// It takes a copy of the roads, and a look through the row of a tail for each change.
+    pub fn with_weights(
+        &self,
+        alloc: Global,
+        changes: &Vec<RoadArc>,
+    ) -> Result<Option<OutGraph>, Memory>
+        ensures changed { IfOk result (λ found. IfSome found (λ g.
+            g ≡ graph_after changes.now.items self.now)) }
+        ensures known { IfOk result (λ found. IfSome found (λ _.
+            HaveEnds self.now changes.now.items)) }
+        ensures unknown { IfOk result (λ found. found ≡ None →
+            HaveEnds self.now changes.now.items → ⊥) }
+    {
+        self.holds();
+        let starts = self.starts.to_vec(alloc)?;
+        let mut roads = self.roads.to_vec(alloc)?;
+        for k in 0..changes.len() {
+            let change = changes[k];
+            if !self.has(change.tail) {
+                return Ok(None);
+            }
+            let (start, end) = range_of(&starts, change.tail);
+            if !set_weights(&mut roads, start, end, change) {
+                return Ok(None);
+            }
+        }
+        let source = ArcSource::Changed(Snapshot::of(&self.arcs), Snapshot::of(changes));
+        Ok(Some(OutGraph {
+            vertices: self.vertices,
+            arcs: Snapshot::of(&source.arcs()),
+            starts,
+            roads,
+        }))
+    }
+
     /// Borrows the arcs, so that `new` can give them back.
     fn make(alloc: Global, n: u32, arcs: &Vec<RoadArc>) -> Result<OutGraph, Memory>
         requires { IsGraph (record { vertices = n; arcs = arcs.now.items }) }
@@ -105,9 +147,10 @@ impl OutGraph {
         requires rows { AreRoadRows n arcs.now.items starts.items roads.items }
         ensures { result ≡ record { vertices = n; arcs = arcs.now.items } }
     {
+        let source = ArcSource::Given(Snapshot::of(arcs));
         OutGraph {
             vertices: n,
-            arcs: Snapshot::of(arcs),
+            arcs: Snapshot::of(&source.arcs()),
             starts,
             roads,
         }

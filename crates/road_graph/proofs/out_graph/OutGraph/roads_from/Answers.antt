@@ -4,7 +4,7 @@ use Rattle.road_graph.proofs.out_graph.OutGraph.roads_from.Goals as goal
 
 pub returns : goal.returns
 returns c =
-    let G : GraphData = record { vertices = c.self.inside.vertices; arcs = c.self.inside.arcs.value.items } in
+    let G : GraphData = record { vertices = c.self.inside.vertices; arcs = c.self.inside.arcs.value.list } in
     let is : G ≡ c.args.self.now = c.self.view_is in
     let in_v : HasVertex G c.args.v = subst (λ (h : GraphData). HasVertex h c.args.v) (sym is) c.requires in
     let starts = c.self.inside.starts.items in

@@ -4,7 +4,7 @@ use halting::{Stop, Unfinished};
 use path_algebra::{Cost, CountedSums, Labels};
 use path_factors::{Factors, Links, Making, Unfit};
 use path_trials::{FIVE, made};
-use road_graph::{Graph, Vertex};
+use road_graph::{Graph, RoadArc, Vertex};
 use std::process::Abort;
 
 /// The labels of the five vertices.
@@ -88,10 +88,8 @@ fn order_of(rt: &(impl Abort + AllocGlobal), number: usize) -> Order {
 fn factored(rt: &(impl Abort + AllocGlobal), graph: &Graph, order: &Order) -> Factors<CountedSums> {
     let roads = graph.outgoing();
     assert!(rt; order.vertices.len() == roads.vertices() as usize);
-    let making = Making {
-        links: Links::Needed,
-        stop: &None,
-    };
+    let (links, stop) = (Links::Needed, &None);
+    let making = Making { links, stop };
     Factors::by_order(rt.alloc(), sums(rt), roads, order, making).expect(rt, "memory")
 }
 
@@ -109,10 +107,8 @@ fn five(rt: &impl Abort, labels: &Labels<u64>) -> Five {
 fn assert_whole(rt: &(impl Abort + AllocGlobal), graph: &Graph, order: &Order, wanted: &Five) {
     let roads = graph.outgoing();
     assert!(rt; graph.has(Vertex(1)) && order.vertices.len() == roads.vertices() as usize);
-    let making = Making {
-        links: Links::All,
-        stop: &None,
-    };
+    let (links, stop) = (Links::All, &None);
+    let making = Making { links, stop };
     let factors = Factors::by_order(rt.alloc(), sums(rt), roads, order, making);
     let labels = factors
         .expect(rt, "memory")
@@ -198,19 +194,54 @@ fn a_stop_ends_factoring(rt: HostRuntime) {
     let set = Stop::new(rt.alloc()).expect(&rt, "memory");
     set.set(true);
     let stop = Some(set.try_clone().expect(&rt, "memory"));
-    let making = Making {
-        links: Links::Needed,
-        stop: &stop,
-    };
+    let (links, stop) = (Links::Needed, &stop);
+    let making = Making { links, stop };
     assert!(rt; order.vertices.len() == roads.vertices() as usize);
     let made = Factors::by_order(rt.alloc(), sums(&rt), roads, &order, making);
     assert!(rt; made.err() == Some(Unfinished::Halted));
-    let again = factors.reweighed(rt.alloc(), sums(&rt), roads, &stop);
+    let again = factors.reweighed(rt.alloc(), sums(&rt), roads, stop);
     assert!(rt; again.err() == Some(Unfinished::Halted));
     set.set(false);
     assert!(rt;
         factors
-            .reweighed(rt.alloc(), sums(&rt), roads, &stop)
+            .reweighed(rt.alloc(), sums(&rt), roads, stop)
             .is_ok()
     );
+}
+
+/// Changes of all arcs to these weights, one list after the other.
+fn changes_to(rt: &(impl Abort + AllocGlobal), lists: &[[u32; 7]]) -> Vec<RoadArc> {
+    let mut changes = Vec::new(rt.alloc());
+    for weights in lists {
+        for i in 0..7 {
+            let (tail, head, _) = FIVE[i];
+            let (tail, head, weight) = (Vertex(tail), Vertex(head), weights[i]);
+            let change = RoadArc { tail, head, weight };
+            changes.push(change).expect(rt, "memory");
+        }
+    }
+    changes
+}
+
+/// After the weights of all arcs are changed twice, the last ones count. A change of an arc that
+/// there is not is refused.
+#[test]
+fn changed_weights(rt: HostRuntime) {
+    let graph = five_of(&rt, &ONE);
+    let factors = factored(&rt, &graph, &order_at(&rt, &[1, 2, 3, 4, 0]));
+    let mut changes = changes_to(&rt, &[LEAST, OTHERS]);
+    let changed = graph.outgoing().with_weights(rt.alloc(), &changes);
+    let changed = changed.expect(&rt, "memory").expect(&rt, "arcs");
+    assert!(rt; changed.has(Vertex(1)));
+    let again = factors.reweighed(rt.alloc(), sums(&rt), &changed, &None);
+    let again = again.expect(&rt, "memory").expect(&rt, "links");
+    let labels = again.solve_by(rt.alloc(), &[Vertex(1)]);
+    let wanted = [Some(0), Some(9), Some(73), Some(82), None];
+    assert!(rt; five(&rt, &labels.expect(&rt, "memory")) == wanted);
+    let (tail, head, weight) = (Vertex(4), Vertex(2), 1);
+    changes
+        .push(RoadArc { tail, head, weight })
+        .expect(&rt, "memory");
+    let refused = graph.outgoing().with_weights(rt.alloc(), &changes);
+    assert!(rt; refused.expect(&rt, "memory").is_none());
 }

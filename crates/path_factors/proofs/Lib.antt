@@ -22,3 +22,4 @@ pub mod Climbing
 pub mod Backward
 pub mod Finding
 pub mod Asking
+pub mod AfterChanges

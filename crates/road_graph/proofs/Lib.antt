@@ -9,5 +9,4 @@ mod Entries
 mod OneRows
 mod Reversing
 mod ByHead
-mod Ghosts
 mod Changing

@@ -2,8 +2,6 @@
 use Rattle.std.specs.Prelude.{◌≡◌, ℕ, cond, eqb, List, [], ◌∷◌, map, All, slice_index_or}
 use Rattle.road_graph.specs.declared.RoadArc.{RoadArc}
 use Rattle.road_graph.specs.declared.OutRoad.{OutRoad}
-use Rattle.road_graph.specs.declared.arc_source.ArcSource.{ArcSource}
-use Rattle.road_graph.specs.declared.arc_source.ArcSource.TheVariants.{Given, Changed}
 use Rattle.road_graph.specs.GraphData.{GraphData, HasArc, arc_of, road_of}
 
 -- an arc after a change, which gives each arc from its tail to its head its weight
@@ -35,7 +33,7 @@ road_after c r = cond (eqb r.head c.head) (road_of c) r
 abbrev pub road_at : List OutRoad → ℕ → OutRoad
 road_at roads k = slice_index_or roads k (record { head = 0; weight = 0 })
 
--- the arcs that a source gives
-abbrev pub arcs_in : ArcSource → List RoadArc
-arcs_in (Given arcs) = arcs.value.items
-arcs_in (Changed arcs changes) = map (arc_after changes.value.items) arcs.value.value.list
+-- arcs, and how often weights of them were changed
+pub record ArcHistory : Type 0 where
+  pub list : List RoadArc
+  pub changes : ℕ

@@ -6,7 +6,6 @@
 //! graph by themselves, `OutGraph`. `InGraph` has the rows by head, for those that ask for them.
 #![tactic(auto)]
 
-mod arc_source;
 mod arcs;
 mod bad_ends;
 mod graph;

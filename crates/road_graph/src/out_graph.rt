@@ -5,8 +5,7 @@ ghost use Rattle.road_graph.specs.GraphData.{IsGraph};
 ghost use Rattle.road_graph.specs.Making.{AreRoadRows, AreNumbers, AreRowStarts};
 ghost use Rattle.road_graph.specs.Changing.{graph_after, HaveEnds};
 
-use crate::arc_source::ArcSource;
-use crate::arcs::Arcs;
+use crate::arcs::{ArcSource, Arcs};
 use crate::bad_ends::first_bad;
 use crate::rows::{range_of, road_rows_of};
 use crate::weights::set_weights;
@@ -121,7 +120,7 @@ impl OutGraph {
         let source = ArcSource::Changed(Snapshot::of(&self.arcs), Snapshot::of(changes));
         Ok(Some(OutGraph {
             vertices: self.vertices,
-            arcs: Snapshot::of(&source.arcs()),
+            arcs: Snapshot::of(&Arcs { source }),
             starts,
             roads,
         }))
@@ -150,7 +149,7 @@ impl OutGraph {
         let source = ArcSource::Given(Snapshot::of(arcs));
         OutGraph {
             vertices: n,
-            arcs: Snapshot::of(&source.arcs()),
+            arcs: Snapshot::of(&Arcs { source }),
             starts,
             roads,
         }

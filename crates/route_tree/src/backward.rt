@@ -10,21 +10,20 @@ ghost use Rattle.route_tree.specs.Regions.{Covers, LeadTo, unmarked};
 ghost use Rattle.route_tree.specs.Backward.{VisitsBack, VisitsAllBack, VisitsLevelBack, finds_tail};
 ghost use Rattle.halting.specs.declared.unfinished.Unfinished.TheVariants.{Halted};
 
-use crate::entering::Entering;
 use crate::routes::push;
 use crate::tightness::is_tight;
 use halting::{Halt, Unfinished};
 use path_algebra::{Labels, PathAlgebra};
-use road_graph::{Memory, OutRoad, Vertex};
+use road_graph::{InGraph, Memory, OutRoad, Vertex};
 use std::alloc::Global;
 use std::marker::Model;
 use std::mem;
 
 /// The search in progress.
 #[derive(Drop)]
-struct Backward<'g, A: PathAlgebra, G: Entering> {
+struct Backward<'g, A: PathAlgebra> {
     algebra: A,
-    by_head: &'g G,
+    by_head: &'g InGraph,
     labels: &'g Labels<A::Value>,
     /// Whether a vertex was found.
     marks: Vec<bool>,
@@ -34,37 +33,36 @@ struct Backward<'g, A: PathAlgebra, G: Entering> {
     next: Vec<Vertex>,
 }
 
-impl<'g, A: PathAlgebra, G: Entering> Model for Backward<'g, A, G> {
+impl<'g, A: PathAlgebra> Model for Backward<'g, A> {
     ghost use Rattle.route_tree.specs.Backward.{BackwardState, IsBackward};
 
     ghost Value = { BackwardState A A.Value };
 
-    ghost view = { λ s. record { over = record { algebra = s.algebra; roads = G.roads s.by_head.now; labels = s.labels.now }; marks = s.marks.items; next = s.next.items } };
+    ghost view = { λ s. record { over = record { algebra = s.algebra; roads = s.by_head.now; labels = s.labels.now }; marks = s.marks.items; next = s.next.items } };
 
-    ghost invariant = { λ s. IsBackward (G.roads s.by_head.now) s.labels.now s.marks.items s.found.items s.next.items };
+    ghost invariant = { λ s. IsBackward s.by_head.now s.labels.now s.marks.items s.found.items s.next.items };
 }
 
-impl<'g, A: PathAlgebra, G: Entering> Backward<'g, A, G> {
+impl<'g, A: PathAlgebra> Backward<'g, A> {
     /// A search that has found the target alone. No vertex has a mark before.
     fn open(
         alloc: Global,
         algebra: A,
-        by_head: &'g G,
+        by_head: &'g InGraph,
         labels: &'g Labels<A::Value>,
         target: Vertex,
         marks: Vec<bool>,
     ) -> Result<Self, Memory>
-        requires target { HasVertex (G.roads by_head.now) target }
-        requires labels { length labels.now ≡ (G.roads by_head.now).vertices }
-        requires marks { marks.items ≡ replicate (G.roads by_head.now).vertices false }
+        requires target { HasVertex by_head.now target }
+        requires labels { length labels.now ≡ by_head.now.vertices }
+        requires marks { marks.items ≡ replicate by_head.now.vertices false }
         ensures over { IfOk result (λ s. s.over ≡ record {
           algebra = algebra;
-          roads = G.roads
-              by_head.now;
+          roads = by_head.now;
           labels = labels.now;
         }) }
         ensures marks { IfOk result
-            (λ s. s.marks ≡ slice_set (replicate (G.roads by_head.now).vertices false) (target - 1)
+            (λ s. s.marks ≡ slice_set (replicate by_head.now.vertices false) (target - 1)
             true) }
         ensures next { IfOk result (λ s. s.next ≡ target ∷ []) }
     {
@@ -128,8 +126,8 @@ impl<'g, A: PathAlgebra, G: Entering> Backward<'g, A, G> {
         }
     }
 
-    /// Visits a vertex: goes back along the arcs that enter it. `row` is room for them.
-    fn visit(&mut self, v: Vertex, row: &mut Vec<OutRoad>) -> Result<(), Memory>
+    /// Visits a vertex: goes back along the arcs that enter it.
+    fn visit(&mut self, v: Vertex) -> Result<(), Memory>
         requires { HasVertex self.old.over.roads v }
         ensures visits { OnOk result (VisitsBack (A.meaning self.old.over.algebra) v self.old
             self.new) }
@@ -138,20 +136,15 @@ impl<'g, A: PathAlgebra, G: Entering> Backward<'g, A, G> {
             self.old.marks + length self.old.next) }
     {
         let far = self.labels.of(v);
-        self.by_head.list_into(v, row)?;
-        for road in row.as_slice() {
+        let by_head = self.by_head;
+        for road in by_head.roads_into(v) {
             self.try_road(*road, far)?;
         }
         Ok(())
     }
 
     /// Visits each vertex of a list, each a step of what may be told to give up.
-    fn visit_all(
-        &mut self,
-        list: &[Vertex],
-        row: &mut Vec<OutRoad>,
-        halt: &mut Halt<'_>,
-    ) -> Result<(), Unfinished>
+    fn visit_all(&mut self, list: &[Vertex], halt: &mut Halt<'_>) -> Result<(), Unfinished>
         requires { All (HasVertex self.old.over.roads) list.now }
         ensures visits { OnOk result (VisitsAllBack (A.meaning self.old.over.algebra) list.now
             self.old self.new) }
@@ -162,7 +155,7 @@ impl<'g, A: PathAlgebra, G: Entering> Backward<'g, A, G> {
         ensures kind { CanHalt halt.new → CanHalt halt.old }
     {
         for v in list {
-            self.visit(*v, row)?;
+            self.visit(*v)?;
             if halt.is_due() {
                 return Err(Unfinished::Halted);
             }
@@ -179,12 +172,7 @@ impl<'g, A: PathAlgebra, G: Entering> Backward<'g, A, G> {
 
     /// Visits the vertices that were found last; those that it finds are one arc further from the
     /// target.
-    fn visit_level(
-        &mut self,
-        alloc: Global,
-        row: &mut Vec<OutRoad>,
-        halt: &mut Halt<'_>,
-    ) -> Result<(), Unfinished>
+    fn visit_level(&mut self, alloc: Global, halt: &mut Halt<'_>) -> Result<(), Unfinished>
         requires waiting { 1 ≤ length self.old.next }
         ensures visits { OnOk result (VisitsLevelBack (A.meaning self.old.over.algebra) self.old
             self.new) }
@@ -195,7 +183,7 @@ impl<'g, A: PathAlgebra, G: Entering> Backward<'g, A, G> {
         ensures kind { CanHalt halt.new → CanHalt halt.old }
     {
         let level = mem::replace(&mut self.next, Vec::new(alloc));
-        self.visit_all(&level, row, halt)
+        self.visit_all(&level, halt)
     }
 
     /// The marks, and the vertices that have one.
@@ -220,35 +208,34 @@ fn list_of(alloc: Global, v: Vertex) -> Result<Vec<Vertex>, Memory>
 /// Marks of the vertices from which walks of tight arcs lead to the target, level by level until
 /// the source is among them; and a list of the source and these vertices. No vertex has a mark
 /// before. It may be told to give up.
-pub(crate) fn marks_back<A: PathAlgebra, G: Entering>(
+pub(crate) fn marks_back<A: PathAlgebra>(
     alloc: Global,
     algebra: A,
-    by_head: &G,
+    by_head: &InGraph,
     labels: &Labels<A::Value>,
     ends: (Vertex, Vertex),
     marks: Vec<bool>,
     halt: &mut Halt<'_>,
 ) -> Result<(Vec<bool>, Vec<Vertex>), Unfinished>
-    requires source { HasVertex (G.roads by_head.now) ends.0 }
-    requires target { HasVertex (G.roads by_head.now) ends.1 }
-    requires labels { length labels.now ≡ (G.roads by_head.now).vertices }
-    requires marks { marks.items ≡ replicate (G.roads by_head.now).vertices false }
-    ensures covers { IfOk result (λ r. Covers (G.roads by_head.now) (is_tight (A.meaning algebra)
-        (G.roads by_head.now) labels.now) ends.0 ends.1 r.0.items) }
-    ensures lead { IfOk result (λ r. LeadTo (G.roads by_head.now) (is_tight (A.meaning algebra)
-        (G.roads by_head.now) labels.now) ends.1 r.0.items) }
-    ensures count { IfOk result (λ r. length r.0.items ≡ (G.roads by_head.now).vertices) }
-    ensures found { IfOk result (λ r. AreFound (G.roads by_head.now) r.0.items r.1.items) }
+    requires source { HasVertex by_head.now ends.0 }
+    requires target { HasVertex by_head.now ends.1 }
+    requires labels { length labels.now ≡ by_head.now.vertices }
+    requires marks { marks.items ≡ replicate by_head.now.vertices false }
+    ensures covers { IfOk result (λ r. Covers by_head.now (is_tight (A.meaning algebra)
+        by_head.now labels.now) ends.0 ends.1 r.0.items) }
+    ensures lead { IfOk result (λ r. LeadTo by_head.now (is_tight (A.meaning algebra)
+        by_head.now labels.now) ends.1 r.0.items) }
+    ensures count { IfOk result (λ r. length r.0.items ≡ by_head.now.vertices) }
+    ensures found { IfOk result (λ r. AreFound by_head.now r.0.items r.1.items) }
     ensures source { IfOk result (λ r. Contains r.1.items ends.0) }
     ensures halts { IfErr result (λ e. e ≡ Halted → CanHalt halt.old) }
     ensures kind { CanHalt halt.new → CanHalt halt.old }
 {
     by_head.holds();
     let (source, target) = ends;
-    let mut row = Vec::new(alloc);
     let mut search = Backward::open(alloc, algebra, by_head, labels, target, marks)?;
     while !search.is_done() && !search.has(source) {
-        search.visit_level(alloc, &mut row, halt)?;
+        search.visit_level(alloc, halt)?;
     }
     let (marks, mut found) = search.into_parts();
     push(&mut found, source)?;

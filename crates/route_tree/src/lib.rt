@@ -10,7 +10,6 @@
 
 mod backward;
 mod breadth_first;
-mod entering;
 mod found;
 mod hops_and_parents;
 mod laws;
@@ -23,7 +22,6 @@ mod slot;
 mod tight_tree;
 mod tightness;
 
-pub use entering::Entering;
 pub use found::{Found, Nearby};
 pub use hops_and_parents::Tree;
 pub use laws::{hops_tell_reached, labels_and_trees_agree, routes_follow_parents, trees_exist};

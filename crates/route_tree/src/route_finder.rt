@@ -9,7 +9,6 @@ ghost use Rattle.route_tree.specs.declared.found.Nearby.TheVariants.{Undecided};
 ghost use Rattle.halting.specs.declared.unfinished.Unfinished.TheVariants.{Halted};
 
 use crate::backward::marks_back;
-use crate::entering::Entering;
 use crate::found::{Found, Nearby};
 use crate::lists::Lists;
 use crate::region::Region;
@@ -18,7 +17,7 @@ use crate::tight_tree::tree_into;
 use halting::{Halt, Unfinished};
 use path_algebra::{Labels, PathAlgebra, laws_hold};
 use path_plain::best_values_exist;
-use road_graph::{Memory, OutGraph, Vertex};
+use road_graph::{InGraph, Memory, OutGraph, Vertex};
 use std::alloc::Global;
 use std::marker::Model;
 
@@ -68,17 +67,17 @@ impl RouteFinder {
     }
 
     /// What is found of a pair, its source first, unless the search for the route is to give up.
-    fn find<A: PathAlgebra, G: Entering>(
+    fn find<A: PathAlgebra>(
         &mut self,
         algebra: A,
         graph: &OutGraph,
-        by_head: &G,
+        by_head: &InGraph,
         labels: &Labels<A::Value>,
         ends: (Vertex, Vertex),
         halt: &mut Halt<'_>,
     ) -> Result<Option<Found>, Unfinished>
         requires count { graph.now.vertices ≡ self.old }
-        requires by_head { G.roads by_head.now ≡ graph.now }
+        requires by_head { by_head.now ≡ graph.now }
         requires source { HasVertex graph.now ends.0 }
         requires target { HasVertex graph.now ends.1 }
         requires labels { AreBestUpTo (A.meaning algebra) graph.now (ends.0 ∷ []) ends.1 labels.now }
@@ -119,17 +118,17 @@ impl RouteFinder {
     ///
     /// The route is that of the whole tree: a walk of tight arcs to the target passes only vertices
     /// whose labels are best.
-    pub fn route<A: PathAlgebra, G: Entering>(
+    pub fn route<A: PathAlgebra>(
         &mut self,
         algebra: A,
         graph: &OutGraph,
-        by_head: &G,
+        by_head: &InGraph,
         labels: &Labels<A::Value>,
         ends: (Vertex, Vertex),
         halt: &mut Halt<'_>,
     ) -> Result<Nearby, Memory>
         requires count { graph.now.vertices ≡ self.old }
-        requires by_head { G.roads by_head.now ≡ graph.now }
+        requires by_head { by_head.now ≡ graph.now }
         requires source { HasVertex graph.now ends.0 }
         requires target { HasVertex graph.now ends.1 }
         requires labels { AreBestUpTo (A.meaning algebra) graph.now (ends.0 ∷ []) ends.1 labels.now }

@@ -7,7 +7,7 @@ use Rattle.route_tree.proofs.backward.marks_back.Goals.{then-loop-search-test+el
 
 pub loop-search-init : goal.loop-search-init
 loop-search-init g c =
-    let roads = g.G.Entering.roads c.args.by_head.now in
+    let roads = c.args.by_head.now in
     let test = is_tight (g.A.PathAlgebra.meaning c.args.algebra) roads c.args.labels.now in
     let search = c.in_ok-search.search in
     let start = back_start roads c.holds.ensures test c.args.ends.1 roads.vertices search.marks refl c.requires.target c.in_ok-search.ensures.marks in
@@ -33,7 +33,7 @@ loop-search-preserved g c =
 
 pub returns-clause-covers : goal.returns-clause-covers
 returns-clause-covers g c =
-    let roads = g.G.Entering.roads c.args.by_head.now in
+    let roads = c.args.by_head.now in
     let test = is_tight (g.A.PathAlgebra.meaning c.args.algebra) roads c.args.labels.now in
     let search = c.loop-search.search in
     let k = c.loop-search.invariant.visiting.0 in
@@ -49,14 +49,14 @@ returns-clause-covers g c =
 
 pub returns-clause-lead : goal.returns-clause-lead
 returns-clause-lead g c =
-    let roads = g.G.Entering.roads c.args.by_head.now in
+    let roads = c.args.by_head.now in
     let test = is_tight (g.A.PathAlgebra.meaning c.args.algebra) roads c.args.labels.now in
     let search = c.loop-search.search in
     rw c.into_parts-marks.ensures.marks (back_leads roads test c.args.ends.1 c.loop-search.invariant.visiting.0 search.marks search.next [] c.loop-search.invariant.visiting.1)
 
 pub returns-clause-found : goal.returns-clause-found
 returns-clause-found g c =
-    let roads = g.G.Entering.roads c.args.by_head.now in
+    let roads = c.args.by_head.now in
     let known = rw c.loop-search.invariant.over at c.into_parts-marks.ensures.found in
     rw (c.in_ok-push.ensures.longer) (found_more roads _ _ c.args.ends.0 c.requires.source known)
 

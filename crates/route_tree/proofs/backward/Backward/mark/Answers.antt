@@ -5,7 +5,7 @@ use Rattle.route_tree.proofs.backward.Backward.mark.Goals as goal
 
 pub invariant_of-self-in_err-push-2 : goal.invariant_of-self-in_err-push-2
 invariant_of-self-in_err-push-2 g c =
-    let roads = g.G.Entering.roads c.self.inside.by_head.now in
+    let roads = c.self.inside.by_head.now in
     let in_graph : HasVertex roads c.args.v = subst (λ (g : GraphData). HasVertex g c.args.v) (sym (λ i. (c.self.view_is i).over.roads)) c.requires.in_graph in
     let known = c.self.invariant in
     record {
@@ -18,7 +18,7 @@ invariant_of-self-in_err-push-2 g c =
 
 pub invariant_of-self-2 : goal.invariant_of-self-2
 invariant_of-self-2 g c =
-    let roads = g.G.Entering.roads c.self.inside.by_head.now in
+    let roads = c.self.inside.by_head.now in
     let in_graph : HasVertex roads c.args.v = subst (λ (g : GraphData). HasVertex g c.args.v) (sym (λ i. (c.self.view_is i).over.roads)) c.requires.in_graph in
     let known = c.self.invariant in
     record {

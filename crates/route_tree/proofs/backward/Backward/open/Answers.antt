@@ -4,7 +4,7 @@ use Rattle.route_tree.proofs.backward.Backward.open.Goals as goal
 
 pub invariant_of-result : goal.invariant_of-result
 invariant_of-result g c =
-    let roads = g.G.Entering.roads c.args.by_head.now in
+    let roads = c.args.by_head.now in
     record {
       roads = c.holds.ensures;
       labels_count = c.requires.labels;

@@ -15,10 +15,10 @@ loop-road-init g c =
 
 pub try_road-requires-after_bounds : goal.try_road-requires-after_bounds
 try_road-requires-after_bounds g c κs within =
-    let roads = g.G.Entering.roads c.self.inside.by_head.now in
-    let lists = c.in_ok-list_into.ensures in
-    let at = turned_at roads lists.0 c.as_slice-road-items.result.now c.args.v lists.1
-    (c.as_slice-road-items.ensures.value ∙ lists.2) c.loop-road.road-index c.road-item.result c.loop-road-test.true c.road-item.is in
+    let roads = c.self.inside.by_head.now in
+    let lists = c.roads_into-road-items.ensures in
+    let at = turned_at roads lists.0 c.roads_into-road-items.result.now c.args.v lists.1
+    lists.2 c.loop-road.road-index c.road-item.result c.loop-road-test.true c.road-item.is in
     let in_graph = subst (λ (r : OutRoad). HasVertex roads r.head) (sym at.2) ((c.self.invariant.roads.ends (get_or lists.0 c.loop-road.road-index 0) at.0).0) in
     let here : roads ≡ c.args.self.now.over.roads = λ i. (c.self.view_is i).over.roads in
     let there : c.loop-road.self.over.roads ≡ c.args.self.now.over.roads = λ i. (c.loop-road.invariant.over i).roads in
@@ -34,7 +34,7 @@ loop-road-preserved g c =
     let here : c.of-far.result ≡ label_of s.over.labels c.args.v = c.of-far.ensures ∙ (λ i. label_of (c.self.view_is i).over.labels c.args.v) in
     record {
       goes = λ target k pending numbers lists are known.
-          let row = c.as_slice-road-items.result.now in
+          let row = c.roads_into-road-items.result.now in
           let index = c.loop-road.road-index in
           let a = get_or numbers index 0 in
           let at = turned_at s.over.roads numbers row c.args.v lists are index r c.loop-road-test.true c.road-item.is in
@@ -52,9 +52,8 @@ pub returns-clause-visits : goal.returns-clause-visits
 returns-clause-visits g c =
     let s = c.args.self.now in
     let roads = subst (λ (g : GraphData). IsGraph g) (λ i. (c.self.view_is i).over.roads) c.self.invariant.roads in
-    let row = c.as_slice-road-items.result.now in
-    let lists = subst (λ (g : GraphData). ListsRoadsInto g c.args.v row) (λ i. (c.self.view_is i).over.roads)
-    (subst (λ xs. ListsRoadsInto (g.G.Entering.roads c.self.inside.by_head.now) c.args.v xs) (sym c.as_slice-road-items.ensures.value) c.in_ok-list_into.ensures) in
+    let row = c.roads_into-road-items.result.now in
+    let lists = subst (λ (g : GraphData). ListsRoadsInto g c.args.v row) (λ i. (c.self.view_is i).over.roads) c.roads_into-road-items.ensures in
     let n = as_long s.over.roads lists.0 row c.args.v lists.1 lists.2 in
     λ target k pending known. row_done s.over.roads roads (passes_back (g.A.PathAlgebra.meaning s.over.algebra) s) target k c.loop-road.self.marks pending c.loop-road.self.next
     lists.0 c.loop-road.road-index (omega (arith, n)) (c.loop-road.invariant.goes target k pending lists.0 lists.1 lists.2 known)

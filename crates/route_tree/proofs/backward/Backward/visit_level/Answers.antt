@@ -7,7 +7,7 @@ use Rattle.route_tree.proofs.backward.Backward.visit_level.Goals as goal
 
 pub returns-clause-visits : goal.returns-clause-visits
 returns-clause-visits g c =
-    let roads = g.G.Entering.roads c.self.inside.by_head.now in
+    let roads = c.self.inside.by_head.now in
     let test = is_tight (g.A.PathAlgebra.meaning c.self.inside.algebra) roads c.self.inside.labels.now in
     let marks = c.self.inside.marks.items in
     let level : c.deref.result.now ≡ c.self.inside.next.items = rw (c.replace-level.ensures.value) at c.deref.ensures.value in

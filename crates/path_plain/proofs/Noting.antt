@@ -1,6 +1,6 @@
 -- The note of the labelled vertices holds from step to step, and by it a search is put back.
-use Rattle.path_plain.proofs.Words.{◌≡◌, ℕ, ◌+◌, ◌-◌, ◌<◌, ◌≤◌, inl, inr, Bool, true, false, List, [], ◌∷◌, length, get_or, set, drop, replicate, refl, ap, sym, ◌∙◌, subst, arith, not, Option, Some, None, get_or-set_same, get_or-set_other, cases_eq, Contains-append_left, Contains-push, Contains-push_cases, not_in_empty, head_or_tail, here, later, label_of}
-use Rattle.std.proofs.lemmas.List.{get_or-replicate, length-replicate, ext_get_or, drop_more}
+use Rattle.path_plain.proofs.Words.{◌≡◌, ℕ, ◌+◌, ◌-◌, ◌<◌, ◌≤◌, inl, inr, Bool, true, false, List, [], ◌∷◌, length, get_or, set, drop, replicate, ap, sym, ◌∙◌, subst, arith, not, Option, Some, None, get_or-set_same, get_or-set_other, cases_eq, Contains-append_left, Contains-push, Contains-push_cases, not_in_empty, head_or_tail, here, later, label_of}
+use Rattle.std.proofs.lemmas.List.{get_or-replicate, length-replicate, ext_get_or, drop_all, drop_more}
 use Rattle.std.specs.Prelude.{Contains, ⊤, is_some}
 use Rattle.path_plain.specs.Noting.{IsUntouched, AreNoted, IsNoted, noted_if, noted_list}
 
@@ -102,8 +102,9 @@ module _ {V : Type 0} (n : ℕ) (labels : List (Option V)) (settled : List Bool)
     ];
   }
 
-  -- the same, for the vertex at a place of a whole list
-  module _ (list : List ℕ) (i v : ℕ) (lt : i < length list) (is : v ≡ get_or list i v) (known : AreNoted n (drop i list) labels settled) where
+-- the same, for the vertex at a place of a whole list
+module _ {V : Type 0} {n : ℕ} {labels : List (Option V)} {settled : List Bool} (list : List ℕ) (i : ℕ) (known : AreNoted n (drop i list) labels settled) where
+  module _ {v : ℕ} (lt : i < length list) (is : v ≡ get_or list i v) where
     is_next : drop i list ≡ v ∷ drop (i + 1) list
     is_next = drop_more list i v lt ∙ ap (λ (u : ℕ). u ∷ drop (i + 1) list) (sym is)
 
@@ -111,24 +112,25 @@ module _ {V : Type 0} (n : ℕ) (labels : List (Option V)) (settled : List Bool)
     next_inside = known.inside v (rw is_next (here v (drop (i + 1) list)))
 
     pub next_put_back : length labels ≡ n → length settled ≡ n → AreNoted n (drop (i + 1) list) (set labels (v - 1) None) (set settled (v - 1) false)
-    next_put_back count marks = noted_less v (drop (i + 1) list) count marks (rw is_next at known)
+    next_put_back count marks = noted_less n labels settled v (drop (i + 1) list) count marks (rw is_next at known)
 
-  -- with an empty list nothing is touched
-  untouched_at : AreNoted n [] labels settled → (i : ℕ) → i < n → IsUntouched labels settled (i + 1)
-  untouched_at known i lt = elim (known.others (i + 1) (omega arith) (omega (arith, lt))) [ inl on ↦ absurd (not_in_empty (i + 1) on) | inr untouched ↦ untouched ]
+  -- past the list nothing is touched
+  module _ (past : length list ≤ i) where
+    untouched_at : (j : ℕ) → j < n → IsUntouched labels settled (j + 1)
+    untouched_at j lt = elim (known.others (j + 1) (omega arith) (omega (arith, lt))) [ inl on ↦ absurd (not_in_empty (j + 1) (rw (drop_all i list past) at on)) | inr untouched ↦ untouched ]
 
-  pub no_labels : length labels ≡ n → AreNoted n [] labels settled → labels ≡ replicate n None
-  no_labels count known =
-      ext_get_or None labels (replicate n None) (count ∙ sym (length-replicate n None)) (λ i lt.
-      let here_i : i < n = omega (arith, lt, count) in
-      let e : (i + 1) - 1 ≡ i = omega arith in
-      let none : get_or labels i None ≡ None = rw e at ((untouched_at known i here_i).label) in
-      none ∙ sym (get_or-replicate {A = Option V} n i None None here_i))
+    pub no_labels : length labels ≡ n → labels ≡ replicate n None
+    no_labels count =
+        ext_get_or None labels (replicate n None) (count ∙ sym (length-replicate n None)) (λ j lt.
+        let here_j : j < n = omega (arith, lt, count) in
+        let e : (j + 1) - 1 ≡ j = omega arith in
+        let none : get_or labels j None ≡ None = rw e at ((untouched_at j here_j).label) in
+        none ∙ sym (get_or-replicate {A = Option V} n j None None here_j))
 
-  pub no_marks : length settled ≡ n → AreNoted n [] labels settled → settled ≡ replicate n false
-  no_marks count known =
-      ext_get_or false settled (replicate n false) (count ∙ sym (length-replicate n false)) (λ i lt.
-      let here_i : i < n = omega (arith, lt, count) in
-      let e : (i + 1) - 1 ≡ i = omega arith in
-      let none : get_or settled i false ≡ false = rw e at ((untouched_at known i here_i).mark) in
-      none ∙ sym (get_or-replicate n i false false here_i))
+    pub no_marks : length settled ≡ n → settled ≡ replicate n false
+    no_marks count =
+        ext_get_or false settled (replicate n false) (count ∙ sym (length-replicate n false)) (λ j lt.
+        let here_j : j < n = omega (arith, lt, count) in
+        let e : (j + 1) - 1 ≡ j = omega arith in
+        let none : get_or settled j false ≡ false = rw e at ((untouched_at j here_j).mark) in
+        none ∙ sym (get_or-replicate n j false false here_j))

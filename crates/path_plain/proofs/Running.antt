@@ -20,10 +20,16 @@ pub best_as_far : {V : Type 0} (A : Algebra V) → IsLawful A → (g : GraphData
 best_as_far A lawful g roads sources None inside labels best = best
 best_as_far A lawful g roads sources (Some t) inside labels best = best_up_to A lawful g roads sources t inside labels best
 
-module _ {C V : Type 0} (meaning : C → Algebra V) (order : V → V → Bool) (start : SearchState C V) (lawful : IsLawful (meaning start.algebra)) (same : (meaning start.algebra).no_worse ≡ order)
+module _ {C V : Type 0} (meaning : C → Algebra V) (order : V → V → Bool) (start : SearchState C V) (a : C) (is : a ≡ start.algebra) (laws : IsLawful (meaning a)) (ranks : (meaning a).no_worse ≡ order)
     (roads : IsGraph start.roads) where
   abbrev A : Algebra V
   A = meaning start.algebra
+
+  lawful : IsLawful A
+  lawful = subst (λ (b : C). IsLawful (meaning b)) is laws
+
+  same : A.no_worse ≡ order
+  same = subst (λ (b : C). (meaning b).no_worse ≡ order) is ranks
 
   module _ (old new : SearchState C V) (kept : IsOfSame start old) where
     mine : (more : Bool) → Advances order (meaning old.algebra) more old new → Advances order A more old new

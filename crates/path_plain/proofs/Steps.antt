@@ -1,6 +1,6 @@
 -- The steps of a search: each keeps its queue, leads from one round to the next, and comes nearer
 -- to the end.
-use Rattle.path_plain.proofs.Words.{◌≡◌, ℕ, ◌+◌, ◌*◌, ◌<◌, ◌≤◌, inl, inr, Bool, true, false, cond, List, [], ◌∷◌, length, get_or, replicate, ◌-◌, ◌∙◌, set, refl, sym, arith, Option, Some, None, length-set, get_or-replicate, length-replicate, sum_by-set, not_in_empty, Contains-permutation, IsPermutation-sym, IsTrue, All, is_some, IsPermutation, IsUpperBound, GraphData, IsGraph, HasVertex, Algebra, IsOrder, IsLawful, AreBest, label_of, ranked_cmp, IsNoted, noted_if, noted_list}
+use Rattle.path_plain.proofs.Words.{◌≡◌, ℕ, ◌+◌, ◌*◌, ◌<◌, ◌≤◌, inl, inr, Bool, true, false, cond, List, [], ◌∷◌, length, get_or, replicate, ◌-◌, ◌∙◌, set, refl, sym, arith, get_or_default, Option, Some, None, length-set, get_or-replicate, length-replicate, sum_by-set, not_in_empty, Contains-permutation, IsPermutation-sym, IsTrue, All, is_some, IsPermutation, IsUpperBound, GraphData, IsGraph, HasVertex, Algebra, IsOrder, IsLawful, AreBest, label_of, ranked_cmp, IsNoted, noted_if, noted_list}
 use Rattle.path_plain.proofs.Rounds.{Between, unsettled, round, ending}
 use Rattle.path_plain.specs.Searching.{SearchState, IsSearch, IsSameSearch, Relaxes, Advances}
 use Rattle.path_plain.proofs.Noting.{IsOn, noted_blank, noted_more, noted_label, noted_mark, on_labelled}
@@ -22,8 +22,8 @@ search_blank {K} {V} value place order g roads touched e = record {
   noted = noted_blank V g.vertices touched e;
 }
 
-module _ {K V : Type 0} (value : K → V) (place : K → ℕ) (order : V → V → Bool) (ordered : IsOrder order) (g : GraphData) (labels : List (Option V)) (settled : List Bool) (items : List K)
-    (touched : Option (List ℕ)) (known : IsSearch value place order g labels settled items touched) where
+module _ {K V : Type 0} {value : K → V} {place : K → ℕ} {order : V → V → Bool} {g : GraphData} {labels : List (Option V)} {settled : List Bool} {items : List K}
+    {touched : Option (List ℕ)} (known : IsSearch value place order g labels settled items touched) where
   -- a vertex is noted
   pub search_notes : (is_new : Bool) (v : ℕ) → 1 ≤ v → v ≤ g.vertices → IsSearch value place order g labels settled items (noted_if is_new touched v)
   search_notes is_new v low high = record {
@@ -35,9 +35,9 @@ module _ {K V : Type 0} (value : K → V) (place : K → ℕ) (order : V → V �
   }
 
   -- a better label of a noted vertex joins the queue
-  pub search_offers : (v : ℕ) (z : V) (new : K) (next : List K) → 1 ≤ v → v ≤ g.vertices → IsOn touched v → ((y : V) → label_of labels v ≡ Some y → IsTrue (order z y)) →
+  pub search_offers : IsOrder order → (v : ℕ) (z : V) (new : K) (next : List K) → 1 ≤ v → v ≤ g.vertices → IsOn touched v → ((y : V) → label_of labels v ≡ Some y → IsTrue (order z y)) →
       IsPermutation (new ∷ items) next → value new ≡ z → place new ≡ v - 1 → IsSearch value place order g (set labels (v - 1) (Some z)) settled next touched
-  search_offers v z new next low high on better moved is_z is_i = record {
+  search_offers ordered v z new next low high on better moved is_z is_i = record {
     roads = known.roads;
     labels_count = simp length-set known.labels_count;
     settled_count = known.settled_count;
@@ -45,14 +45,21 @@ module _ {K V : Type 0} (value : K → V) (place : K → ℕ) (order : V → V �
     noted = noted_label g.vertices labels settled touched v (Some z) low on known.noted;
   }
 
-  module _ (top : K) (rest : List K) (moved : IsPermutation items (top ∷ rest)) where
+  module _ {top : K} {rest : List K} (moved : IsPermutation items (top ∷ rest)) where
     pub top_place : place top < g.vertices
     top_place =
         let at = (known.queue.entries top (Contains-permutation (top ∷ rest) items top (IsPermutation-sym items (top ∷ rest) moved) (0, omega arith, refl))).0 in
         omega (arith, at, known.labels_count)
 
-    pub search_drops : get_or settled (place top) false ≡ true → IsSearch value place order g labels settled rest touched
-    search_drops t = record {
+    in_settled : place top < length settled
+    in_settled = omega (arith, top_place, known.settled_count)
+
+    -- whether it is settled, read as the code reads it
+    pub top_settled : (b : Bool) → b ≡ get_or settled (place top) b → get_or settled (place top) false ≡ b
+    top_settled b e = get_or_default settled (place top) false b in_settled ∙ sym e
+
+    pub search_drops : IsOrder order → get_or settled (place top) false ≡ true → IsSearch value place order g labels settled rest touched
+    search_drops ordered t = record {
       roads = known.roads;
       labels_count = known.labels_count;
       settled_count = known.settled_count;
@@ -70,26 +77,26 @@ module _ {K V : Type 0} (value : K → V) (place : K → ℕ) (order : V → V �
         let on = on_labelled g.vertices labels settled touched known.noted (place top + 1) entry.1.0 low high (rw e entry.1.1) in
         rw e at (noted_mark g.vertices labels settled touched (place top + 1) low on known.noted)
 
-    pub search_settles : IsSearch value place order g labels (set settled (place top) true) rest touched
-    search_settles = record {
+    pub search_settles : IsOrder order → IsSearch value place order g labels (set settled (place top) true) rest touched
+    search_settles ordered = record {
       roads = known.roads;
       labels_count = known.labels_count;
       settled_count = simp length-set known.settled_count;
-      queue = queue_settle value place order ordered labels settled items known.queue top rest moved (omega (arith, top_place, known.settled_count));
+      queue = queue_settle value place order ordered labels settled items known.queue top rest moved in_settled;
       noted = top_noted;
     }
 
     -- the top entry of an open vertex: this one is settled
-    pub settles_one : {C : Type 0} (algebra : C) (A : Algebra V) (now : SearchState C V) → get_or settled (place top) false ≡ false → IsUpperBound (ranked_cmp value place order) top items →
+    pub settles_one : IsOrder order → {C : Type 0} (algebra : C) (A : Algebra V) (now : SearchState C V) → get_or settled (place top) false ≡ false → IsUpperBound (ranked_cmp value place order) top items →
         IsSameSearch (record { algebra = algebra; roads = g; labels = labels; settled = set settled (place top) true; waiting = length rest; notes = is_some touched }) now →
         Relaxes A g (place top + 1) (value top) labels now.labels → now.waiting ≤ length rest + length g.arcs → length rest + 1 ≡ length items →
         Advances order A true (record { algebra = algebra; roads = g; labels = labels; settled = settled; waiting = length items; notes = is_some touched }) now
-    settles_one algebra A now o upper same pass few less = inl (record {
+    settles_one ordered algebra A now o upper same pass few less = inl (record {
       index = place top;
       value = value top;
       best = queue_best value place order ordered labels settled items known.queue top rest moved upper o;
       first = queue_first value place order ordered labels settled items known.queue top rest moved upper;
-      has_mark = omega (arith, top_place, known.settled_count);
+      has_mark = in_settled;
       marks = same.settled;
       relaxes = pass;
       few = omega (arith, few, less);

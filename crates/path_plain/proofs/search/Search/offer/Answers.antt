@@ -1,4 +1,4 @@
-use Rattle.path_plain.proofs.Words.{◌≡◌, ℕ, ◌≤◌, ◌-◌, ◌∙◌, arith, ap, refl, sym, label_of, noted_if}
+use Rattle.path_plain.proofs.Words.{◌≡◌, ℕ, ◌≤◌, ◌-◌, ◌∙◌, arith, ap, refl, sym, label_of}
 use Rattle.path_plain.proofs.Noting.{on_noted}
 use Rattle.path_plain.proofs.Steps.{search_notes, search_offers}
 use Rattle.path_plain.proofs.Waiting.{worse_than_offered, none_is_worse}
@@ -7,11 +7,9 @@ use Rattle.path_plain.proofs.search.Search.offer.Goals.{in-Some, in-None}
 
 pub invariant_of-self-in_err-push : goal.invariant_of-self-in_err-push
 invariant_of-self-in_err-push g c =
-    let laws = g.met.A.PathAlgebra g.world.𝓛 g.world.𝓜 g.world.𝓡 ((λ s x. x), (λ x. x), (λ x. x), λ x. x) in
     let n : c.self.inside.graph.value.vertices ≡ c.args.self.now.roads.vertices = λ i. (c.self.view_is i).roads.vertices in
     rw (c.in_err-push.ensures.kept, c.in_ok-note_if.ensures.noted)
-    (search_notes (λ o. o.value) (λ o. o.rank) g.A.PathAlgebra.order laws.ordered c.self.inside.graph.value c.self.inside.labels c.self.inside.settled.items c.self.inside.queue c.self.inside.touched
-    c.self.invariant c.is_none-is_new.result c.args.v c.requires.0 (omega (arith, c.requires.1, n)))
+    (search_notes c.self.invariant c.is_none-is_new.result c.args.v c.requires.0 (omega (arith, c.requires.1, n)))
 
 pub invariant_of-self-then-is_better : goal.invariant_of-self-then-is_better
 invariant_of-self-then-is_better g c =
@@ -26,9 +24,7 @@ invariant_of-self-then-is_better g c =
     let n : G.vertices ≡ c.args.self.now.roads.vertices = λ i. (c.self.view_is i).roads.vertices in
     let high : v ≤ G.vertices = omega (arith, c.requires.1, n) in
     rw (c.set.ensures, c.in_ok-note_if.ensures.noted)
-    (search_offers (λ o. o.value) (λ o. o.rank) order laws.ordered G labels settled c.self.inside.queue (noted_if is_new touched v)
-    (search_notes (λ o. o.value) (λ o. o.rank) order laws.ordered G labels settled c.self.inside.queue touched c.self.invariant is_new v c.requires.0 high)
-    v c.args.z _ _ c.requires.0 high
+    (search_offers (search_notes c.self.invariant is_new v c.requires.0 high) laws.ordered v c.args.z _ _ c.requires.0 high
     (on_noted G.vertices labels settled touched c.self.invariant.noted v c.of-then-is_better.result is_new c.requires.0 high (sym c.of-then-is_better.ensures) c.is_none-is_new.ensures)
     (elim c.match-of.branch [
       | in-Some w ↦ worse_than_offered order laws.ordered (label_of labels v) w.in-Some.y c.args.z w.no_worse.result c.match-of.is_better

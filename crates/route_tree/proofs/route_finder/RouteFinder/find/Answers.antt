@@ -4,43 +4,24 @@ use Rattle.route_tree.proofs.Blank.{same_region, marks_blank, hops_blank, parent
 use Rattle.route_tree.proofs.UpTo.{pair_found_up_to}
 use Rattle.route_tree.proofs.route_finder.RouteFinder.find.Goals as goal
 
-pub put_back-requires-clause-marks : goal.put_back-requires-clause-marks
-put_back-requires-clause-marks g c =
+pub put_back-requires : goal.put_back-requires
+put_back-requires g c =
     let G = c.args.graph.now in
     let marks = c.in_ok-marks.marks.items in
     let found : AreFound G marks c.in_ok-marks.found.items = rw c.requires.by_head at c.in_ok-marks.ensures.found in
     let count : length marks ≡ G.vertices = rw c.requires.by_head at c.in_ok-marks.ensures.count in
     let test = is_tight (g.A.PathAlgebra.meaning c.args.algebra) G c.args.labels.now in
     let same : c.into_marks.result.items ≡ marks = same_region (sym c.into_marks.ensures ∙ c.marked-region.ensures) in
-    rw (c.as_slice.ensures.value, same) (marks_blank G c.holds.ensures test c.args.ends.0 marks c.in_ok-marks.found.items found count c.in_ok-marks.ensures.source)
-
-pub put_back-requires-clause-hops : goal.put_back-requires-clause-hops
-put_back-requires-clause-hops g c =
-    let G = c.args.graph.now in
-    let marks = c.in_ok-marks.marks.items in
-    let found : AreFound G marks c.in_ok-marks.found.items = rw c.requires.by_head at c.in_ok-marks.ensures.found in
-    let count : length marks ≡ G.vertices = rw c.requires.by_head at c.in_ok-marks.ensures.count in
-    let test = is_tight (g.A.PathAlgebra.meaning c.args.algebra) G c.args.labels.now in
-    rw c.as_slice.ensures.value (hops_blank G c.holds.ensures test c.args.ends.0 marks c.in_ok-marks.found.items found count c.in_ok-marks.ensures.source
-    c.in_ok-tree.tree.hops c.in_ok-tree.tree.parents (rw (c.marked-region.ensures) at c.in_ok-tree.ensures.hops) (rw (c.marked-region.ensures) at c.in_ok-tree.ensures.parents))
-
-pub put_back-requires-clause-parents : goal.put_back-requires-clause-parents
-put_back-requires-clause-parents g c =
-    let G = c.args.graph.now in
-    let marks = c.in_ok-marks.marks.items in
-    let found : AreFound G marks c.in_ok-marks.found.items = rw c.requires.by_head at c.in_ok-marks.ensures.found in
-    let count : length marks ≡ G.vertices = rw c.requires.by_head at c.in_ok-marks.ensures.count in
-    let test = is_tight (g.A.PathAlgebra.meaning c.args.algebra) G c.args.labels.now in
-    rw c.as_slice.ensures.value (parents_blank G c.holds.ensures test c.args.ends.0 marks c.in_ok-marks.found.items found count c.in_ok-marks.ensures.source
-    c.in_ok-tree.tree.hops c.in_ok-tree.tree.parents (rw (c.marked-region.ensures) at c.in_ok-tree.ensures.hops) (rw (c.marked-region.ensures) at c.in_ok-tree.ensures.parents))
-
-pub put_back-requires-clause-count : goal.put_back-requires-clause-count
-put_back-requires-clause-count g c =
-    let G = c.args.graph.now in
-    let marks = c.in_ok-marks.marks.items in
-    let count : length marks ≡ G.vertices = rw c.requires.by_head at c.in_ok-marks.ensures.count in
-    let same : c.into_marks.result.items ≡ marks = same_region (sym c.into_marks.ensures ∙ c.marked-region.ensures) in
-    c.in_ok-tree.ensures.hops.count ∙ sym count ∙ ap length (sym same)
+    let hops = rw (c.marked-region.ensures) at c.in_ok-tree.ensures.hops in
+    let parents = rw (c.marked-region.ensures) at c.in_ok-tree.ensures.parents in
+    record {
+      count = c.in_ok-tree.ensures.hops.count ∙ sym count ∙ ap length (sym same);
+      marks = rw (c.as_slice.ensures.value, same) (marks_blank G c.holds.ensures test c.args.ends.0 marks c.in_ok-marks.found.items found count c.in_ok-marks.ensures.source);
+      hops = rw c.as_slice.ensures.value (hops_blank G c.holds.ensures test c.args.ends.0 marks c.in_ok-marks.found.items found count c.in_ok-marks.ensures.source
+          c.in_ok-tree.tree.hops c.in_ok-tree.tree.parents hops parents);
+      parents = rw c.as_slice.ensures.value (parents_blank G c.holds.ensures test c.args.ends.0 marks c.in_ok-marks.found.items found count c.in_ok-marks.ensures.source
+          c.in_ok-tree.tree.hops c.in_ok-tree.tree.parents hops parents);
+    }
 
 pub invariant_of-self : goal.invariant_of-self
 invariant_of-self g c =

@@ -1,12 +1,16 @@
 -- What holds of an asker as it begins and finds labels.
-use Rattle.path_factors.proofs.Words.{replicate, ◌≡◌, ℕ, zero, suc, ◌<◌, ◌⊎◌, inl, inr, Bool, true, false, List, [], ◌∷◌, ◌++◌, length, refl, sym, ◌∙◌, subst, arith, Option, None, All, Contains, cases_lt, cases_Bool, length-replicate, get_or_past, GraphData, IsGraph, HasVertex, here, Algebra, IsLawful, Composition, IsComposition, IsBestLabel, FactorData, IsFactor, place_of, at, IsForward, AreHeads, AreAtHeads}
-use Rattle.std.proofs.lemmas.List.Elements.{All-append, Contains-append_left, Contains-append_right}
+use Rattle.path_factors.proofs.Words.{replicate, ◌≡◌, ℕ, zero, suc, ◌<◌, ◌⊎◌, inl, inr, Bool, true, false, List, [], ◌∷◌, ◌++◌, length, refl, sym, ◌∙◌, subst, arith, Option, None, All, Contains, cases_lt, cases_Bool, length-replicate, get_or_past, GraphData, IsGraph, HasVertex, here, Algebra, IsLawful, Composition, IsComposition, IsBestLabel, FactorData, IsFactor, FactorState, place_of, at, IsForward, AreHeads, AreAtHeads}
+use Rattle.std.proofs.lemmas.List.Elements.{All-nil, All-cons, All-append, Contains-append_left, Contains-append_right}
 use Rattle.path_factors.specs.Asking.{is_on, IsBackRun, Agree, IsAsking, IsAboveSource, AreOnlyUp, AreAllUnknownUp, AreFound, IsExtended}
 use Rattle.path_factors.proofs.Places.{at_none, origins_none}
 use Rattle.path_factors.proofs.Sweeps.{forward_starts, forward_ends}
 use Rattle.path_factors.proofs.Backward.{run_exists, label_at_place_is_best}
 use Rattle.path_factors.proofs.Climbing.{forward_skips}
 use Rattle.path_factors.proofs.Finding.{unknown_inside, target_found}
+
+-- what holds of an asker for these factors
+abbrev pub Holds : {T V W : Type 0} → (T → Algebra V) → (T → Composition V W) → FactorState T W → List ℕ → List (Option V) → List Bool → List ℕ → Type 0
+Holds meaning walks f = IsAsking (meaning f.algebra) (walks f.algebra) f.roads f.factor f.heads
 
 pub off_none : (n i : ℕ) → is_on (replicate n false) i ≡ false
 off_none zero i = refl
@@ -15,41 +19,14 @@ off_none (suc n) (suc i) = off_none n i
 
 module _ {V W : Type 0} (A : Algebra V) (lawful : IsLawful A) (C : Composition V W) (composes : IsComposition A C)
     (g : GraphData) (roads : IsGraph g) (F : FactorData W) (factor : IsFactor A C g F) (heads : List (List ℕ)) (are : AreHeads g.vertices heads) where
-  -- before the first source
-  pub asking_none : IsAsking A C g F heads [] (replicate g.vertices None) (replicate g.vertices false) []
-  asking_none =
-      let labels : List (Option V) = replicate g.vertices None in
-      let count : length labels ≡ g.vertices = length-replicate g.vertices None in
-      let origins = origins_none A g F factor.ordering labels count (λ i. at_none g.vertices i) in
-      let start = forward_starts A lawful C composes g roads F factor [] labels (λ i x lt. absurd (omega (arith, lt))) origins in
-      let whole = forward_skips A lawful C composes g roads F factor heads are [] 0 g.vertices labels start (λ x high less. at_none g.vertices x) in
-      let made = run_exists A C g F factor.links labels count in
-      record {
-        inside = λ i x lt. absurd (omega (arith, lt));
-        labels_count = count;
-        known_count = length-replicate g.vertices false;
-        asked_inside = λ i x lt. absurd (omega (arith, lt));
-        listed = λ j on. let bad : true ≡ false = sym on ∙ off_none g.vertices j in absurd (cc);
-        upward = λ x y on above. let bad : true ≡ false = sym on ∙ off_none g.vertices x in absurd (cc);
-        labelled = λ j. inl (at_none g.vertices j);
-        before = labels;
-        forward = forward_ends A lawful C composes g roads F factor [] labels whole;
-        all = made.0;
-        run = made.1;
-        agree = record {
-          done = λ i low on. let bad : true ≡ false = sym on ∙ off_none g.vertices i in absurd (cc);
-          left = λ i low off. refl;
-        };
-      }
-
-  -- after forward substitution from a source
-  pub asking_begun : (s : ℕ) → HasVertex g s → (labels : List (Option V)) (known : List Bool) → length labels ≡ g.vertices → length known ≡ g.vertices →
-      ((j : ℕ) → is_on known j ≡ false) → AreOnlyUp heads g.vertices (place_of F s) labels → IsForward A C g F (s ∷ []) labels →
-      IsAsking A C g F heads (s ∷ []) labels known []
-  asking_begun s in_s labels known n m off up forward =
+  -- while no place is known
+  asking_fresh : (sources : List ℕ) → All (HasVertex g) sources → (labels : List (Option V)) (known : List Bool) → length labels ≡ g.vertices → length known ≡ g.vertices →
+      ((j : ℕ) → is_on known j ≡ false) → ((j : ℕ) → (at labels j ≡ None) ⊎ IsAboveSource g.vertices F heads sources j) → IsForward A C g F sources labels →
+      IsAsking A C g F heads sources labels known []
+  asking_fresh sources inside labels known n m off up forward =
       let made = run_exists A C g F factor.links labels n in
       record {
-        inside = one_inside;
+        inside = inside;
         labels_count = n;
         known_count = m;
         asked_inside = λ i x lt. absurd (omega (arith, lt));
@@ -57,7 +34,7 @@ module _ {V W : Type 0} (A : Algebra V) (lawful : IsLawful A) (C : Composition V
         upward = λ x y on above. let bad : true ≡ false = sym on ∙ off x in absurd (cc);
         labelled = λ j. elim (up j) [
           | inl none ↦ inl none
-          | inr on ↦ inr (inr (s, here s [], on))
+          | inr on ↦ inr (inr on)
         ];
         before = labels;
         forward = forward;
@@ -68,10 +45,28 @@ module _ {V W : Type 0} (A : Algebra V) (lawful : IsLawful A) (C : Composition V
           left = λ i low fresh. refl;
         };
       }
-    where
-      one_inside : All (HasVertex g) (s ∷ [])
-      one_inside zero x lt = in_s
-      one_inside (suc i) x lt = absurd (omega (arith, lt))
+
+  -- before the first source
+  pub asking_none : IsAsking A C g F heads [] (replicate g.vertices None) (replicate g.vertices false) []
+  asking_none =
+      let labels : List (Option V) = replicate g.vertices None in
+      let count : length labels ≡ g.vertices = length-replicate g.vertices None in
+      let origins = origins_none A g F factor.ordering labels count (λ i. at_none g.vertices i) in
+      let start = forward_starts A lawful C composes g roads F factor [] labels (λ i x lt. absurd (omega (arith, lt))) origins in
+      let whole = forward_skips A lawful C composes g roads F factor heads are [] 0 g.vertices labels start (λ x high less. at_none g.vertices x) in
+      asking_fresh [] (λ i x lt. absurd (omega (arith, lt))) labels (replicate g.vertices false) count (length-replicate g.vertices false) (off_none g.vertices)
+      (λ j. inl (at_none g.vertices j)) (forward_ends A lawful C composes g roads F factor [] labels whole)
+
+  -- after forward substitution from a source
+  pub asking_begun : (s : ℕ) → HasVertex g s → (labels : List (Option V)) (known : List Bool) → length labels ≡ g.vertices → length known ≡ g.vertices →
+      ((j : ℕ) → is_on known j ≡ false) → AreOnlyUp heads g.vertices (place_of F s) labels → IsForward A C g F (s ∷ []) labels →
+      IsAsking A C g F heads (s ∷ []) labels known []
+  asking_begun s in_s labels known n m off up forward =
+      asking_fresh (s ∷ []) (All-cons (HasVertex g) s [] in_s (All-nil (HasVertex g))) labels known n m off
+      (λ j. elim (up j) [
+        | inl none ↦ inl none
+        | inr on ↦ inr (s, here s [], on)
+      ]) forward
 
   module _ (sources : List ℕ) (labels : List (Option V)) (known : List Bool) (asked : List ℕ) (is : IsAsking A C g F heads sources labels known asked) where
     -- more places are listed

@@ -21,9 +21,9 @@ module _ {V W : Type 0} (A : Algebra V) (lawful : IsLawful A) (C : Composition V
     (g : GraphData) (roads : IsGraph g) (F : FactorData W) (factor : IsFactor A C g F) (heads : List (List ℕ)) (are : AreHeads g.vertices heads) where
   -- while no place is known
   asking_fresh : (sources : List ℕ) → All (HasVertex g) sources → (labels : List (Option V)) (known : List Bool) → length labels ≡ g.vertices → length known ≡ g.vertices →
-      ((j : ℕ) → is_on known j ≡ false) → ((j : ℕ) → (at labels j ≡ None) ⊎ IsAboveSource g.vertices F heads sources j) → IsForward A C g F sources labels →
-      IsAsking A C g F heads sources labels known []
-  asking_fresh sources inside labels known n m off up forward =
+      ((j : ℕ) → is_on known j ≡ false) → ((j : ℕ) → (at labels j ≡ None) ⊎ ((is_on known j ≡ true) ⊎ IsAboveSource g.vertices F heads sources j)) →
+      IsForward A C g F sources labels → IsAsking A C g F heads sources labels known []
+  asking_fresh sources inside labels known n m off labelled forward =
       let made = run_exists A C g F factor.links labels n in
       record {
         inside = inside;
@@ -32,10 +32,7 @@ module _ {V W : Type 0} (A : Algebra V) (lawful : IsLawful A) (C : Composition V
         asked_inside = λ i x lt. absurd (omega (arith, lt));
         listed = λ j on. let bad : true ≡ false = sym on ∙ off j in absurd (cc);
         upward = λ x y on above. let bad : true ≡ false = sym on ∙ off x in absurd (cc);
-        labelled = λ j. elim (up j) [
-          | inl none ↦ inl none
-          | inr on ↦ inr (inr on)
-        ];
+        labelled = labelled;
         before = labels;
         forward = forward;
         all = made.0;
@@ -65,7 +62,7 @@ module _ {V W : Type 0} (A : Algebra V) (lawful : IsLawful A) (C : Composition V
       asking_fresh (s ∷ []) (All-cons (HasVertex g) s [] in_s (All-nil (HasVertex g))) labels known n m off
       (λ j. elim (up j) [
         | inl none ↦ inl none
-        | inr on ↦ inr (s, here s [], on)
+        | inr on ↦ inr (inr (s, here s [], on))
       ]) forward
 
   module _ (sources : List ℕ) (labels : List (Option V)) (known : List Bool) (asked : List ℕ) (is : IsAsking A C g F heads sources labels known asked) where

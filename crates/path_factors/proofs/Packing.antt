@@ -186,44 +186,33 @@ module _ {W : Type 0} {starts places : List ℕ} {leaving entering : List W} (pa
       let low : i < length (rows_between starts (links_of places leaving)) = subst (λ (l : LinkRows W). i < length l.leaving) (sym view) inside in
       omega (arith, low, rows_count starts (links_of places leaving), packed.packed.some)
 
+  -- an edge has a link each way
+  pub falls_too : (j : ℕ) → j < length (row_of rows.leaving i) → j < length (row_of rows.entering i)
+  falls_too j low =
+      let up = row_count starts (links_of places leaving) (packed_links starts places leaving packed.fields.leaving_count packed.packed) i row_inside in
+      let down = row_count starts (links_of places entering) (packed_links starts places entering packed.fields.entering_count packed.packed) i row_inside in
+      omega (arith, low, up, down, ap (λ (l : LinkRows W). length (row_of l.leaving i)) view, ap (λ (l : LinkRows W). length (row_of l.entering i)) view)
+
   -- with the links of either list of walks
   module _ (s : ℕ) (begins : s ≡ get_or starts i s) where
     pub start_is : s ≡ get_or starts i 0
     start_is = begins ∙ get_or_default starts i s 0 (omega (arith, row_inside))
 
-    module _ (walks : List W) (n : length walks ≡ length places) (j : ℕ) (low : j < length (row_of (rows_between starts (links_of places walks)) i)) where
-      link_inside : s + j < length places
+    -- where they are seen as a side
+    module _ (walks : List W) (n : length walks ≡ length places) {side : List (List (Link W))} (seen : rows_between starts (links_of places walks) ≡ side)
+        (j : ℕ) (low : j < length (row_of side i)) where
+      pub index_inside : j < length (row_of (rows_between starts (links_of places walks)) i)
+      index_inside = subst (λ (l : List (List (Link W))). j < length (row_of l i)) (sym seen) low
+
+      pub link_inside : s + j < length places
       link_inside =
           let size = row_count starts (links_of places walks) (packed_links starts places walks n packed.packed) i row_inside in
-          omega (arith, low, start_is, size, packed.packed.rising i row_inside, packed.packed.inside (i + 1) row_inside)
+          omega (arith, index_inside, start_is, size, packed.packed.rising i row_inside, packed.packed.inside (i + 1) row_inside)
 
       pub link_in_row : (p : ℕ) (a : W) (d : Link W) → p ≡ get_or places (s + j) p → a ≡ get_or walks (s + j) a →
-          get_or (row_of (rows_between starts (links_of places walks)) i) j d ≡ record { place = p; walk = a }
+          get_or (row_of side i) j d ≡ record { place = p; walk = a }
       link_in_row p a d is at =
-          row_link starts (links_of places walks) (packed_links starts places walks n packed.packed) i row_inside j low d
+          ap (λ (l : List (List (Link W))). get_or (row_of l i) j d) (sym seen)
+          ∙ row_link starts (links_of places walks) (packed_links starts places walks n packed.packed) i row_inside j index_inside d
           ∙ ap (λ (k : ℕ). get_or (links_of places walks) (k + j) d) (sym start_is)
           ∙ link_at places walks (s + j) p a d n link_inside is at
-
-    module _ (j : ℕ) (low : j < length (row_of rows.leaving i)) where
-      was : j < length (row_of (rows_between starts (links_of places leaving)) i)
-      was = subst (λ (l : LinkRows W). j < length (row_of l.leaving i)) (sym view) low
-
-      pub riser_inside : s + j < length places
-      riser_inside = link_inside leaving packed.fields.leaving_count j was
-
-      pub riser_at : (p : ℕ) (a : W) (d : Link W) → p ≡ get_or places (s + j) p → a ≡ get_or leaving (s + j) a →
-          get_or (row_of rows.leaving i) j d ≡ record { place = p; walk = a }
-      riser_at p a d is at =
-          ap (λ (l : LinkRows W). get_or (row_of l.leaving i) j d) (sym view) ∙ link_in_row leaving packed.fields.leaving_count j was p a d is at
-
-    module _ (j : ℕ) (low : j < length (row_of rows.entering i)) where
-      also : j < length (row_of (rows_between starts (links_of places entering)) i)
-      also = subst (λ (l : LinkRows W). j < length (row_of l.entering i)) (sym view) low
-
-      pub faller_inside : s + j < length places
-      faller_inside = link_inside entering packed.fields.entering_count j also
-
-      pub faller_at : (p : ℕ) (a : W) (d : Link W) → p ≡ get_or places (s + j) p → a ≡ get_or entering (s + j) a →
-          get_or (row_of rows.entering i) j d ≡ record { place = p; walk = a }
-      faller_at p a d is at =
-          ap (λ (l : LinkRows W). get_or (row_of l.entering i) j d) (sym view) ∙ link_in_row entering packed.fields.entering_count j also p a d is at

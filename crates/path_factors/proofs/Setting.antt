@@ -6,7 +6,7 @@ use Rattle.std.proofs.Math.Seq.{take-set-lt}
 use Rattle.path_factors.proofs.Improving.{improved_better}
 use Rattle.path_factors.proofs.Connecting.{sound_of, worth_of_none}
 use Rattle.path_factors.proofs.HeadRows.{head_at, heads_count, head_of_link}
-use Rattle.path_factors.proofs.Packing.{link_at, rows_count, row_past, row_all, row_between, row_count, row_link, packed_links, row_inside, start_is, riser_inside, riser_at}
+use Rattle.path_factors.proofs.Packing.{link_at, rows_count, row_past, row_all, row_between, row_count, row_link, packed_links, row_inside, falls_too, start_is, index_inside, link_inside, link_in_row}
 
 module _ {W : Type 0} where
   -- a walk is replaced
@@ -147,74 +147,76 @@ begun_blank {W = W} A C composes g order places are rows heads same risers falle
     (λ x y a h. subst (λ (w : W). IsLinkUnder A C g F x x y w) (sym (risers x (record { place = y; walk = a }) h)) (none x (get_or order x 0) (get_or order y 0)))
     (λ x y a h. subst (λ (w : W). IsLinkUnder A C g F y x y w) (sym (fallers y (record { place = x; walk = a }) h)) (none y (get_or order x 0) (get_or order y 0)))
 
--- the walk of a link in packed rows is made no worse, if s is where its row begins
-pub walk_improved : {V W : Type 0} (starts places : List ℕ) (walks : List W) (n : length walks ≡ length places) → ArePacked starts places →
-    (i : ℕ) → i + 1 < length starts → (s : ℕ) → s ≡ get_or starts i 0 → (j : ℕ) → j < length (row_of (rows_between starts (links_of places walks)) i) →
-    s + j < length places → (C : Composition V W) → IsOrder C.no_worse → (k : Link W) → k.place ≡ get_or places (s + j) k.place →
-    (a : W) → a ≡ get_or walks (s + j) a → (c : W) → c ≡ better_walk C a k.walk →
-    AreImproved C (rows_between starts (links_of places walks)) i k (rows_between starts (links_of places (set walks (s + j) c)))
-walk_improved {W = W} starts places walks n packed i lt s start j low inside C ordered k to a is_a c is_c =
-    let links = links_of places walks in
-    let old : Link W = record { place = k.place; walk = a } in
-    let new : Link W = record { place = k.place; walk = better_walk C a k.walk } in
-    let read : old ≡ get_or links (s + j) old = sym (link_at places walks (s + j) k.place a old n inside to is_a) in
-    subst (λ (q : List (Link W)). AreImproved C (rows_between starts links) i k (rows_between starts q))
-    (ap (λ (q : ℕ). set links (q + j) new) (sym start) ∙ sym (links-set places walks (s + j) k.place (better_walk C a k.walk) n inside to)
-    ∙ ap (λ (w : W). links_of places (set walks (s + j) w)) (sym is_c))
-    (set_improved starts links (packed_links starts places walks n packed) i lt j low new C ordered k old
-    (read ∙ ap (λ (q : ℕ). get_or links (q + j) old) start) refl refl)
+module _ {W : Type 0} {starts places : List ℕ} {leaving entering : List W} (packed : ArePackedBothWays starts places leaving entering)
+    {rows : LinkRows W} (view : packed_rows starts places leaving entering ≡ rows) (i : ℕ) (inside : i < length rows.leaving)
+    (s : ℕ) (begins : s ≡ get_or starts i s) where
+  -- a link of either side, if s is where its row begins
+  module _ (walks : List W) (n : length walks ≡ length places) {side : List (List (Link W))} (seen : rows_between starts (links_of places walks) ≡ side)
+      (j : ℕ) (index : j < length (row_of side i)) where
+    abbrev links : List (Link W)
+    links = links_of places walks
 
--- so are both links of an edge
-pub edge_improved : {V W : Type 0} {starts places : List ℕ} {leaving entering : List W} (packed : ArePackedBothWays starts places leaving entering)
-    {rows : LinkRows W} (view : packed_rows starts places leaving entering ≡ rows) (i : ℕ) → i < length rows.leaving →
-    (s : ℕ) → s ≡ get_or starts i s → (j : ℕ) → j < length (row_of rows.leaving i) →
-    (C : Composition V W) → IsOrder C.no_worse → (e : Edge W) → get_or (row_of (heads_in rows.leaving) i) j 0 ≡ e.place →
-    (a b : W) → a ≡ get_or leaving (s + j) a → b ≡ get_or entering (s + j) b → (c d : W) → c ≡ better_walk C a e.leaving → d ≡ better_walk C b e.entering →
-    AreEdgesImproved C rows i e (packed_rows starts places (set leaving (s + j) c) (set entering (s + j) d))
-edge_improved {V} {W} {starts} {places} {leaving} {entering} packed {rows} view i inside s begins j index C ordered e head a b is_a is_b c d is_c is_d =
-    let l = packed.fields.leaving_count in
-    let f = packed.fields.entering_count in
-    let lt = row_inside packed view i inside in
-    let start = start_is packed view i inside s begins in
-    let low : s + j < length places = riser_inside packed view i inside s begins j index in
-    let P = get_or places (s + j) 0 in
-    let old : Link W = record { place = P; walk = a } in
-    let riser : get_or (row_of rows.leaving i) j old ≡ old =
-    riser_at packed view i inside s begins j index P a old (get_or_default places (s + j) 0 P low) is_a in
-    let to : P ≡ e.place = sym (head_at rows.leaving i j old index riser) ∙ head in
-    let is_e : e.place ≡ get_or places (s + j) e.place = sym to ∙ get_or_default places (s + j) 0 e.place low in
-    let rises : j < length (row_of (rows_between starts (links_of places leaving)) i) = subst (λ (r : LinkRows W). j < length (row_of r.leaving i)) (sym view) index in
-    let falls : j < length (row_of (rows_between starts (links_of places entering)) i) =
-    (let up = row_count starts (links_of places leaving) (packed_links starts places leaving l packed.packed) i lt in
-    let down = row_count starts (links_of places entering) (packed_links starts places entering f packed.packed) i lt in omega (arith, rises, up, down)) in
-    record {
-      leaving = subst (λ (r : LinkRows W). AreImproved C r.leaving i (rising e) (rows_between starts (links_of places (set leaving (s + j) c)))) view
-          (walk_improved starts places leaving l packed.packed i lt s start j rises low C ordered (rising e) is_e a is_a c is_c);
-      entering = subst (λ (r : LinkRows W). AreImproved C r.entering i (falling e) (rows_between starts (links_of places (set entering (s + j) d)))) view
-          (walk_improved starts places entering f packed.packed i lt s start j falls low C ordered (falling e) is_e b is_b d is_d);
-    }
+    low : j < length (row_of (rows_between starts links) i)
+    low = index_inside packed view i inside s begins walks n seen j index
 
--- the walk of a link in packed rows is replaced, if s is where its row begins
-pub walk_replaced : {W : Type 0} (starts places : List ℕ) (walks : List W) (n : length walks ≡ length places) → ArePacked starts places →
-    (i : ℕ) (lt : i + 1 < length starts) (s : ℕ) → s ≡ get_or starts i 0 → (j : ℕ) (low : j < length (row_of (rows_between starts (links_of places walks)) i)) →
-    s + j < length places → (a : W) →
-    IsReplaced a i j (rows_between starts (links_of places walks)) (rows_between starts (links_of places (set walks (s + j) a)))
-walk_replaced {W = W} starts places walks n packed i lt s start j low inside a =
-    let links = links_of places walks in
-    let p = get_or places (s + j) 0 in
-    let l : Link W = record { place = p; walk = a } in
-    let pk = packed_links starts places walks n packed in
-    let is : rows_between starts (links_of places (set walks (s + j) a)) ≡ rows_between starts (set links (get_or starts i 0 + j) l) =
-    ap (rows_between starts) (links-set places walks (s + j) p a n inside (get_or_default places (s + j) 0 p inside) ∙ ap (λ (q : ℕ). set links (q + j) l) start) in
-    let row : row_of (rows_between starts (links_of places (set walks (s + j) a))) i ≡ set (row_of (rows_between starts links) i) j l =
-    ap (λ (r : List (List (Link W))). row_of r i) is ∙ set_row starts links pk i lt j low l in
-    let m = length-set walks (s + j) a in
-    record {
-      heads = heads_packed starts places (set walks (s + j) a) (omega (arith, m, n)) ∙ sym (heads_packed starts places walks n);
-      others = λ q other. ap (λ (r : List (List (Link W))). row_of r q) is ∙ set_others starts links pk i lt j low l q other;
-      here = λ d. ap (λ (r : List (Link W)). (get_or r j d).walk) row ∙ ap (λ (k : Link W). k.walk) (get_or-set_same (row_of (rows_between starts links) i) j l d low);
-      rest = λ q d other. ap (λ (r : List (Link W)). get_or r q d) row ∙ get_or-set_other (row_of (rows_between starts links) i) j q l d other;
-    }
+    at : s + j < length places
+    at = link_inside packed view i inside s begins walks n seen j index
+
+    links_after : (p : ℕ) (a : W) → p ≡ get_or places (s + j) p → links_of places (set walks (s + j) a) ≡ set links (get_or starts i 0 + j) (record { place = p; walk = a })
+    links_after p a is =
+        links-set places walks (s + j) p a n at is ∙ ap (λ (q : ℕ). set links (q + j) (record { place = p; walk = a })) (start_is packed view i inside s begins)
+
+    -- its walk is made no worse
+    walk_improved : {V : Type 0} (C : Composition V W) → IsOrder C.no_worse → (k : Link W) → k.place ≡ get_or places (s + j) k.place →
+        (a : W) → a ≡ get_or walks (s + j) a → (c : W) → c ≡ better_walk C a k.walk →
+        AreImproved C side i k (rows_between starts (links_of places (set walks (s + j) c)))
+    walk_improved C ordered k to a is_a c is_c =
+        let old : Link W = record { place = k.place; walk = a } in
+        let new : Link W = record { place = k.place; walk = better_walk C a k.walk } in
+        let read : old ≡ get_or links (s + j) old = sym (link_at places walks (s + j) k.place a old n at to is_a) in
+        subst (λ (r : List (List (Link W))). AreImproved C r i k (rows_between starts (links_of places (set walks (s + j) c)))) seen
+        (subst (λ (q : List (Link W)). AreImproved C (rows_between starts links) i k (rows_between starts q))
+        (sym (links_after k.place (better_walk C a k.walk) to) ∙ ap (λ (w : W). links_of places (set walks (s + j) w)) (sym is_c))
+        (set_improved starts links (packed_links starts places walks n packed.packed) i (row_inside packed view i inside) j low new C ordered k old
+        (read ∙ ap (λ (q : ℕ). get_or links (q + j) old) (start_is packed view i inside s begins)) refl refl))
+
+    -- its walk is replaced
+    pub walk_replaced : (a : W) → IsReplaced a i j side (rows_between starts (links_of places (set walks (s + j) a)))
+    walk_replaced a =
+        let p = get_or places (s + j) 0 in
+        let l : Link W = record { place = p; walk = a } in
+        let lt = row_inside packed view i inside in
+        let pk = packed_links starts places walks n packed.packed in
+        let is = ap (rows_between starts) (links_after p a (get_or_default places (s + j) 0 p at)) in
+        let row = ap (λ (r : List (List (Link W))). row_of r i) is ∙ set_row starts links pk i lt j low l in
+        let m = length-set walks (s + j) a in
+        subst (λ (r : List (List (Link W))). IsReplaced a i j r (rows_between starts (links_of places (set walks (s + j) a)))) seen (record {
+          heads = heads_packed starts places (set walks (s + j) a) (omega (arith, m, n)) ∙ sym (heads_packed starts places walks n);
+          others = λ q other. ap (λ (r : List (List (Link W))). row_of r q) is ∙ set_others starts links pk i lt j low l q other;
+          here = λ d. ap (λ (r : List (Link W)). (get_or r j d).walk) row ∙ ap (λ (k : Link W). k.walk) (get_or-set_same (row_of (rows_between starts links) i) j l d low);
+          rest = λ q d other. ap (λ (r : List (Link W)). get_or r q d) row ∙ get_or-set_other (row_of (rows_between starts links) i) j q l d other;
+        })
+
+  -- both links of an edge are made no worse
+  pub edge_improved : {V : Type 0} (C : Composition V W) → IsOrder C.no_worse → (j : ℕ) → j < length (row_of rows.leaving i) →
+      (e : Edge W) → get_or (row_of (heads_in rows.leaving) i) j 0 ≡ e.place → (a b : W) → a ≡ get_or leaving (s + j) a → b ≡ get_or entering (s + j) b →
+      (c d : W) → c ≡ better_walk C a e.leaving → d ≡ better_walk C b e.entering →
+      AreEdgesImproved C rows i e (packed_rows starts places (set leaving (s + j) c) (set entering (s + j) d))
+  edge_improved C ordered j index e head a b is_a is_b c d is_c is_d =
+      let l = packed.fields.leaving_count in
+      let up : rows_between starts (links_of places leaving) ≡ rows.leaving = λ k. (view k).leaving in
+      let down : rows_between starts (links_of places entering) ≡ rows.entering = λ k. (view k).entering in
+      let low : s + j < length places = link_inside packed view i inside s begins leaving l up j index in
+      let P = get_or places (s + j) 0 in
+      let old : Link W = record { place = P; walk = a } in
+      let riser : get_or (row_of rows.leaving i) j old ≡ old =
+      link_in_row packed view i inside s begins leaving l up j index P a old (get_or_default places (s + j) 0 P low) is_a in
+      let to : P ≡ e.place = sym (head_at rows.leaving i j old index riser) ∙ head in
+      let is_e : e.place ≡ get_or places (s + j) e.place = sym to ∙ get_or_default places (s + j) 0 e.place low in
+      record {
+        leaving = walk_improved leaving l up j index C ordered (rising e) is_e a is_a c is_c;
+        entering = walk_improved entering packed.fields.entering_count down j (falls_too packed view i inside j index) C ordered (falling e) is_e b is_b d is_d;
+      }
 
 module _ {W : Type 0} (none : W) (i : ℕ) (F : List (List (Link W))) where
   pub blanked_none : IsBlankedTo none i 0 F F

@@ -1,6 +1,6 @@
 -- A link is put between two places: it is worth a walk, no other got worse, and lesser rows are the
 -- same.
-use Rattle.path_factors.proofs.Words.{◌≡◌, ℕ, ◌-◌, ◌<◌, ◌≤◌, ◌⊎◌, inl, inr, Bool, List, [], ◌∷◌, ◌++◌, get_or, All-cons, All-nil, All-weaker, refl, ap, sym, ◌∙◌, subst, arith, Some, None, IsTrue, Contains, cases_eq, GraphData, IsGraph, HasArc, arc_of, Algebra, IsOrder, Composition, IsComposition, same_no_worse, Link, FactorData, LeadsNoWorse, IsWorthOfWalk, IsClosedOn, KeepsRest, row_of, vertex_at, AreHeads, AreImproved, Falls, IsBegun, IsHead, IsLinkUnder, IsUnder, IsWorthUnder, Improves, Leads, LinkRows, AreEdgesImproved, Rises, heads_in, Edge, rising, falling}
+use Rattle.path_factors.proofs.Words.{FactorState, IsSameState, ◌≡◌, ℕ, ◌-◌, ◌<◌, ◌≤◌, ◌⊎◌, inl, inr, Bool, List, [], ◌∷◌, ◌++◌, get_or, All-cons, All-nil, All-weaker, refl, ap, sym, ◌∙◌, subst, arith, Some, None, IsTrue, Contains, cases_eq, GraphData, IsGraph, HasArc, arc_of, Algebra, IsOrder, Composition, IsComposition, same_no_worse, Link, FactorData, LeadsNoWorse, IsWorthOfWalk, IsClosedOn, KeepsRest, row_of, vertex_at, AreHeads, AreImproved, Falls, IsBegun, IsHead, IsLinkUnder, IsUnder, IsWorthUnder, Improves, Leads, LinkRows, AreEdgesImproved, Rises, heads_in, Edge, rising, falling}
 use Rattle.std.proofs.lemmas.List.Elements.{All-append}
 use Rattle.path_factors.proofs.Offers.{applied_is}
 use Rattle.path_factors.proofs.Substitution.{IsWalk-append, Extends-append}
@@ -66,6 +66,9 @@ sound_of A C g F rising falling x y a leads = elim leads [
 -- what is kept twice is kept
 pub rest_more : {W : Type 0} (Is : ℕ → Type 0) (F G H : FactorData W) → KeepsRest Is F G → KeepsRest Is G H → KeepsRest Is F H
 rest_more Is F G H first second = λ i other. let a = first i other in let b = second i other in (b.0 ∙ a.0, b.1 ∙ a.1)
+
+pub same_more : {T W : Type 0} (S U R : FactorState T W) → IsSameState S U → IsSameState U R → IsSameState S R
+same_more S U R first second = record { algebra = second.algebra ∙ first.algebra; roads = second.roads ∙ first.roads; heads = second.heads ∙ first.heads }
 
 -- what only such rows may change, others may not
 pub rest_weaker : {W : Type 0} (Is More : ℕ → Type 0) (F G : FactorData W) → ((i : ℕ) → Is i → More i) → KeepsRest Is F G → KeepsRest More F G

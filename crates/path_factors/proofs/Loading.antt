@@ -1,5 +1,5 @@
 -- A link for each arc.
-use Rattle.path_factors.proofs.Words.{◌≡◌, ℕ, ◌+◌, ◌-◌, ◌<◌, ◌≤◌, ◌⊎◌, inl, inr, Bool, true, is_on, List, length, get_or, ap, sym, ◌∙◌, subst, arith, Contains, cases_lt, get_or-map, length-map, get_or_default, GraphData, IsGraph, HasArc, HasVertex, arc_of, road_of, ListsRoadsFrom, OutRoad, Algebra, IsOrder, Composition, IsComposition, FactorData, IsUnder, IsWorthUnder, LeadsNoWorse, CoversArcsOn, IsLesserOn, KeepsRest, place_of, Improves}
+use Rattle.path_factors.proofs.Words.{◌≡◌, ℕ, ◌+◌, ◌-◌, ◌<◌, ◌≤◌, ◌⊎◌, inl, inr, Bool, true, is_on, List, length, get_or, ap, sym, ◌∙◌, subst, arith, Contains, cases_lt, get_or-map, length-map, get_or_default, GraphData, IsGraph, HasArc, HasVertex, arc_of, road_of, ListsRoadsFrom, OutRoad, Algebra, IsOrder, Composition, IsComposition, FactorData, IsUnder, IsWorthUnder, LeadsOn, CoversArcsFrom, CoversArcsOn, KeepsRest, Improves}
 use Rattle.path_factors.proofs.Connecting.{still_leads, improves_more, rest_more, worth_of_arc}
 
 -- the arc of a road
@@ -53,100 +53,63 @@ road_worth A C composes g is_graph heads places v roads lists i r lt is x at =
 pub record Loaded {V W : Type 0} (C : Composition V W) (marks : List Bool) (tail : ℕ) (roads : List OutRoad) (F G : FactorData W) (j : ℕ) : Type 0 where
   pub improves : Improves C 0 F G
   pub rest : KeepsRest (λ z. is_on marks z ≡ true) F G
-  pub linked : (r : OutRoad) (i : ℕ) → i < j → get_or roads i r ≡ r → (tail ≡ r.head → ⊥) → IsLesserOn marks (place_of F tail) (place_of F r.head) →
-      LeadsNoWorse C G (place_of F tail) (place_of F r.head) (C.of_arc r.weight)
+  pub linked : (r : OutRoad) (i : ℕ) → i < j → get_or roads i r ≡ r → (tail ≡ r.head → ⊥) →
+      LeadsOn C marks F.places G tail r.head (C.of_arc r.weight)
 
 -- the arcs from the vertices up to k have links, if the lesser place is marked
 pub record LoadedTo {V W : Type 0} (C : Composition V W) (marks : List Bool) (g : GraphData) (F G : FactorData W) (k : ℕ) : Type 0 where
   pub improves : Improves C 0 F G
   pub rest : KeepsRest (λ z. is_on marks z ≡ true) F G
   pub covers : (a : ℕ) → HasArc g a → (arc_of g a).tail ≤ k → ((arc_of g a).tail ≡ (arc_of g a).head → ⊥) →
-      IsLesserOn marks (place_of F (arc_of g a).tail) (place_of F (arc_of g a).head) →
-      LeadsNoWorse C G (place_of F (arc_of g a).tail) (place_of F (arc_of g a).head) (C.of_arc (arc_of g a).weight)
-
--- the place of a vertex stays the same
-pub same_place : {V W : Type 0} (C : Composition V W) (low : ℕ) (F G : FactorData W) → Improves C low F G → (v : ℕ) → place_of G v ≡ place_of F v
-same_place C low F G improves v = ap (λ (p : List ℕ). get_or p (v - 1) 0) improves.places
+      LeadsOn C marks F.places G (arc_of g a).tail (arc_of g a).head (C.of_arc (arc_of g a).weight)
 
 module _ {V W : Type 0} (C : Composition V W) (ordered : IsOrder C.no_worse) (marks : List Bool) where
+  -- a link that leads on still does once links are better
+  still_on : (places : List ℕ) (F G : FactorData W) → Improves C 0 F G → (u v : ℕ) (a : W) → LeadsOn C marks places F u v a → LeadsOn C marks places G u v a
+  still_on places F G improves u v a leads = λ on. still_leads C ordered 0 F G improves (get_or places (u - 1) 0) (get_or places (v - 1) 0) a (leads on)
+
   pub loaded_more : (tail : ℕ) (roads : List OutRoad) (F G H : FactorData W) (j : ℕ) (road : OutRoad) → Loaded C marks tail roads F G j →
       j < length roads → road ≡ get_or roads j road → Improves C 0 G H → KeepsRest (λ z. is_on marks z ≡ true) G H →
-      ((tail ≡ road.head → ⊥) → IsLesserOn marks (place_of G tail) (place_of G road.head) →
-      LeadsNoWorse C H (place_of G tail) (place_of G road.head) (C.of_arc road.weight)) →
-      Loaded C marks tail roads F H (j + 1)
+      ((tail ≡ road.head → ⊥) → LeadsOn C marks G.places H tail road.head (C.of_arc road.weight)) → Loaded C marks tail roads F H (j + 1)
   loaded_more tail roads F G H j road done lt is improves rest leads = record {
     improves = improves_more C ordered 0 F G H done.improves improves;
     rest = rest_more (λ z. is_on marks z ≡ true) F G H done.rest rest;
-    linked = λ r i low e other on. elim (cases_lt i j) [
-      | inl before ↦
-          still_leads C ordered 0 G H improves (place_of F tail) (place_of F r.head) (C.of_arc r.weight) (done.linked r i before e other on)
+    linked = λ r i low e other. elim (cases_lt i j) [
+      | inl before ↦ still_on F.places G H improves tail r.head (C.of_arc r.weight) (done.linked r i before e other)
       | inr not_before ↦
           let at_j : i ≡ j = omega (arith, not_before, low) in
           let one : road ≡ r =
           is ∙ get_or_default roads j road r lt ∙ ap (λ (m : ℕ). get_or roads m r) (sym at_j) ∙ e in
-          let from = same_place C 0 F G done.improves tail in
-          let to = same_place C 0 F G done.improves r.head in
-          let here = subst (λ (q : OutRoad). (tail ≡ q.head → ⊥) → IsLesserOn marks (place_of G tail) (place_of G q.head) →
-          LeadsNoWorse C H (place_of G tail) (place_of G q.head) (C.of_arc q.weight)) one leads in
-          subst (λ (p : ℕ). LeadsNoWorse C H p (place_of F r.head) (C.of_arc r.weight)) from
-          (subst (λ (p : ℕ). LeadsNoWorse C H (place_of G tail) p (C.of_arc r.weight)) to
-          (here other (subst (λ (p : ℕ). IsLesserOn marks p (place_of G r.head)) (sym from) (subst (λ (p : ℕ). IsLesserOn marks (place_of F tail) p) (sym to) on))))
+          subst (λ (p : List ℕ). LeadsOn C marks p H tail r.head (C.of_arc r.weight)) done.improves.places
+          (subst (λ (q : OutRoad). (tail ≡ q.head → ⊥) → LeadsOn C marks G.places H tail q.head (C.of_arc q.weight)) one leads other)
     ];
   }
 
   pub loaded_all : (g : GraphData) (tail : ℕ) (roads : List OutRoad) → ListsRoadsFrom g tail roads → (F G : FactorData W) (j : ℕ) →
-      Loaded C marks tail roads F G j → length roads ≤ j → (a : ℕ) → HasArc g a → (arc_of g a).tail ≡ tail →
-      ((arc_of g a).tail ≡ (arc_of g a).head → ⊥) → IsLesserOn marks (place_of F (arc_of g a).tail) (place_of F (arc_of g a).head) →
-      LeadsNoWorse C G (place_of F (arc_of g a).tail) (place_of F (arc_of g a).head) (C.of_arc (arc_of g a).weight)
-  loaded_all g tail roads lists F G j done all a has from other on =
+      Loaded C marks tail roads F G j → length roads ≤ j → CoversArcsFrom C marks g F.places G tail
+  loaded_all g tail roads lists F G j done all = λ a has from other.
       let at = arc_listed g tail roads lists a has from in
-      subst (λ (t : ℕ). LeadsNoWorse C G (place_of F t) (place_of F (arc_of g a).head) (C.of_arc (arc_of g a).weight)) (sym from)
-      (done.linked (road_of (arc_of g a)) at.0 (omega (arith, at.1, all)) at.2 (λ e. other (from ∙ e))
-      (subst (λ (t : ℕ). IsLesserOn marks (place_of F t) (place_of F (arc_of g a).head)) from on))
+      subst (λ (t : ℕ). LeadsOn C marks F.places G t (arc_of g a).head (C.of_arc (arc_of g a).weight)) (sym from)
+      (done.linked (road_of (arc_of g a)) at.0 (omega (arith, at.1, all)) at.2 (λ e. other (from ∙ e)))
 
   pub loaded_to_more : (g : GraphData) (F G H : FactorData W) (k : ℕ) → LoadedTo C marks g F G k → Improves C 0 G H →
-      KeepsRest (λ z. is_on marks z ≡ true) G H →
-      ((a : ℕ) → HasArc g a → (arc_of g a).tail ≡ k + 1 → ((arc_of g a).tail ≡ (arc_of g a).head → ⊥) →
-      IsLesserOn marks (place_of G (arc_of g a).tail) (place_of G (arc_of g a).head) →
-      LeadsNoWorse C H (place_of G (arc_of g a).tail) (place_of G (arc_of g a).head) (C.of_arc (arc_of g a).weight)) →
-      LoadedTo C marks g F H (k + 1)
+      KeepsRest (λ z. is_on marks z ≡ true) G H → CoversArcsFrom C marks g G.places H (k + 1) → LoadedTo C marks g F H (k + 1)
   loaded_to_more g F G H k done improves rest more = record {
     improves = improves_more C ordered 0 F G H done.improves improves;
     rest = rest_more (λ z. is_on marks z ≡ true) F G H done.rest rest;
-    covers = λ a has low other on.
-        let tail = (arc_of g a).tail in
-        let head = (arc_of g a).head in
-        let from = same_place C 0 F G done.improves tail in
-        let to = same_place C 0 F G done.improves head in
-        elim (cases_lt k tail) [
-          | inr before ↦ still_leads C ordered 0 G H improves (place_of F tail) (place_of F head) (C.of_arc (arc_of g a).weight) (done.covers a has before other on)
-          | inl above ↦
-              let is : tail ≡ k + 1 = omega (arith, above, low) in
-              let on_G = subst (λ (p : ℕ). IsLesserOn marks p (place_of G head)) (sym from) (subst (λ (p : ℕ). IsLesserOn marks (place_of F tail) p) (sym to) on) in
-              subst (λ (p : ℕ). LeadsNoWorse C H p (place_of F head) (C.of_arc (arc_of g a).weight)) from
-              (subst (λ (p : ℕ). LeadsNoWorse C H (place_of G tail) p (C.of_arc (arc_of g a).weight)) to (more a has is other on_G))
-        ];
+    covers = λ a has low other. let r = arc_of g a in elim (cases_lt k r.tail) [
+      | inr before ↦ still_on F.places G H improves r.tail r.head (C.of_arc r.weight) (done.covers a has before other)
+      | inl above ↦ subst (λ (p : List ℕ). LeadsOn C marks p H r.tail r.head (C.of_arc r.weight)) done.improves.places (more a has (omega (arith, above, low)) other)
+    ];
   }
 
   pub loaded_to_all : (g : GraphData) → IsGraph g → (F G : FactorData W) (k : ℕ) → LoadedTo C marks g F G k → g.vertices ≤ k → CoversArcsOn C marks g G
-  loaded_to_all g roads F G k done all = λ a has other on.
-      let tail = (arc_of g a).tail in
-      let head = (arc_of g a).head in
-      let from = same_place C 0 F G done.improves tail in
-      let to = same_place C 0 F G done.improves head in
-      let on_F = subst (λ (p : ℕ). IsLesserOn marks p (place_of F head)) from (subst (λ (p : ℕ). IsLesserOn marks (place_of G tail) p) to on) in
-      subst (λ (p : ℕ). LeadsNoWorse C G p (place_of G head) (C.of_arc (arc_of g a).weight)) (sym from)
-      (subst (λ (p : ℕ). LeadsNoWorse C G (place_of F tail) p (C.of_arc (arc_of g a).weight)) (sym to)
-      (done.covers a has (omega (arith, (roads.ends a has).0.1, all)) other on_F))
+  loaded_to_all g roads F G k done all = λ a has other.
+      subst (λ (p : List ℕ). LeadsOn C marks p G (arc_of g a).tail (arc_of g a).head (C.of_arc (arc_of g a).weight)) (sym done.improves.places)
+      (done.covers a has (omega (arith, (roads.ends a has).0.1, all)) other)
 
   -- what was covered stays covered
   pub still_covers : (g : GraphData) (F G : FactorData W) → Improves C 0 F G → CoversArcsOn C marks g F → CoversArcsOn C marks g G
-  still_covers g F G improves covers = λ a has other on.
-      let tail = (arc_of g a).tail in
-      let head = (arc_of g a).head in
-      let from = same_place C 0 F G improves tail in
-      let to = same_place C 0 F G improves head in
-      let on_F = subst (λ (p : ℕ). IsLesserOn marks p (place_of F head)) from (subst (λ (p : ℕ). IsLesserOn marks (place_of G tail) p) to on) in
-      subst (λ (p : ℕ). LeadsNoWorse C G p (place_of G head) (C.of_arc (arc_of g a).weight)) (sym from)
-      (subst (λ (p : ℕ). LeadsNoWorse C G (place_of F tail) p (C.of_arc (arc_of g a).weight)) (sym to)
-      (still_leads C ordered 0 F G improves (place_of F tail) (place_of F head) (C.of_arc (arc_of g a).weight) (covers a has other on_F)))
+  still_covers g F G improves covers = λ a has other. let r = arc_of g a in
+      subst (λ (p : List ℕ). LeadsOn C marks p G r.tail r.head (C.of_arc r.weight)) (sym improves.places)
+      (still_on F.places F G improves r.tail r.head (C.of_arc r.weight) (covers a has other))

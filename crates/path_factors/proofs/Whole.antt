@@ -4,7 +4,7 @@ use Rattle.std.proofs.lemmas.List.{get_or-replicate}
 use Rattle.path_factors.proofs.Connecting.{still_leads}
 use Rattle.path_factors.proofs.Eliminating.{edge_of_faller, edge_rises}
 use Rattle.path_factors.proofs.HeadRows.{head_of_link}
-use Rattle.path_factors.proofs.Loading.{same_place}
+use Rattle.path_factors.proofs.Joining.{at}
 
 -- the lesser of two places is marked or not
 pub lesser_decided : (marks : List Bool) (x y : ℕ) → IsLesserOn marks x y ⊎ (IsLesserOn marks x y → ⊥)
@@ -26,18 +26,12 @@ module _ {V W : Type 0} (A : Algebra V) (C : Composition V W) (ordered : IsOrder
     (whole : IsWholeBut A C g marks F) (improves : Improves C 0 F H) where
   pub covers_whole : CoversArcsOn C marks g H → CoversArcs C g H
   covers_whole covers = λ a has other.
-      let tail = (arc_of g a).tail in
-      let head = (arc_of g a).head in
-      let w = C.of_arc (arc_of g a).weight in
-      let from = same_place C 0 F H improves tail in
-      let to = same_place C 0 F H improves head in
-      elim (lesser_decided marks (place_of H tail) (place_of H head)) [
+      let r = arc_of g a in
+      let w = C.of_arc r.weight in
+      elim (lesser_decided marks (place_of H r.tail) (place_of H r.head)) [
         | inl on ↦ covers a has other on
-        | inr off ↦
-            let off_F = subst (λ (p : ℕ). IsLesserOn marks p (place_of F head) → ⊥) from (subst (λ (p : ℕ). IsLesserOn marks (place_of H tail) p → ⊥) to off) in
-            subst (λ (p : ℕ). LeadsNoWorse C H p (place_of H head) w) (sym from)
-            (subst (λ (p : ℕ). LeadsNoWorse C H (place_of F tail) p w) (sym to)
-            (still_leads C ordered 0 F H improves (place_of F tail) (place_of F head) w (whole.covers a has other off_F)))
+        | inr off ↦ subst (λ (p : List ℕ). (IsLesserOn marks (at p r.tail) (at p r.head) → ⊥) → LeadsNoWorse C H (at p r.tail) (at p r.head) w) (sym improves.places)
+            (λ off_F. still_leads C ordered 0 F H improves (place_of F r.tail) (place_of F r.head) w (whole.covers a has other off_F)) off
       ]
 
   pub closed_whole : AreAligned H.leaving H.entering → heads_in H.leaving ≡ heads_in F.leaving → KeepsRest (λ z. is_on marks z ≡ true) F H →

@@ -8,7 +8,7 @@ pub use Rattle.path_factors.proofs.HeadRows.{first_is_least, head_at, heads_pack
 pub use Rattle.path_factors.specs.Asking.{Agree, AreAllUnknownUp, AreFound, AreOnlyUp, AreUnknownUp, IsAboveSource, IsAsking, IsBackRun, IsKnownUpward, is_on, sources_of}
 pub use Rattle.path_factors.specs.Chains.{AreBelow, AreChains, ChainData, HasFrom, HasValue, IsMore, item_of}
 pub use Rattle.path_factors.specs.Edges.{AreAligned, AreBlank, AreBlanked, AreEdgesImproved, AreJoined, IsBlankedTo, IsEdgeAt, IsReplaced, LinkRows, better_walk, falling, rising}
-pub use Rattle.path_factors.specs.Eliminating.{AreClosedTo, AreImproved, CoversArcsOn, Improves, IsBegun, IsClosedOn, IsImproved, IsLesser, IsLesserOn, IsLinkUnder, IsOpen, IsUnder, IsWhole, IsWholeBut, IsWorthUnder, KeepsRest}
+pub use Rattle.path_factors.specs.Eliminating.{AreClosedTo, AreImproved, CoversArcsFrom, CoversArcsOn, Improves, IsBegun, IsClosedOn, IsImproved, IsLesser, IsLesserOn, IsLinkUnder, IsOpen, IsUnder, IsWhole, IsWholeBut, IsWorthUnder, KeepsRest, LeadsOn}
 pub use Rattle.path_factors.specs.Factors.{AreLinks, ArePlaces, AreStable, CoversArcs, FactorData, Falls, IsClosedAt, IsFactor, IsWorthOfWalk, Leads, LeadsNoWorse, Rises, place_of, row_of, vertex_at}
 pub use Rattle.path_factors.specs.Heads.{AreAhead, AreArcsJoined, AreHeads, IsHead, IsJoined, IsOutline, heads_in}
 pub use Rattle.path_factors.specs.Packing.{ArePacked, ArePackedBothWays, links_of, packed_rows, rows_between}

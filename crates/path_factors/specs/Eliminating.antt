@@ -78,12 +78,24 @@ IsLesser x y i = ((i ≡ x) × (i < y)) ⊎ ((i ≡ y) × (i < x))
 abbrev pub IsLesserOn : List Bool → ℕ → ℕ → Type 0
 IsLesserOn marks x y = IsJoined (λ l m. is_on marks l ≡ true) x y
 
--- a link stands for each arc whose lesser place is marked, one no worse
+-- if the lesser of the places of two vertices is marked, a link leads from one to the other, no worse
+-- than the walk
+abbrev pub LeadsOn : {V W : Type 0} → Composition V W → List Bool → List ℕ → FactorData W → ℕ → ℕ → W → Type 0
+LeadsOn C marks places F u v a =
+    IsLesserOn marks (slice_index places (u - 1)) (slice_index places (v - 1)) →
+    LeadsNoWorse C F (slice_index places (u - 1)) (slice_index places (v - 1)) a
+
+-- such a link stands for each arc
 abbrev pub CoversArcsOn : {V W : Type 0} → Composition V W → List Bool → GraphData → FactorData W → Type 0
 CoversArcsOn C marks g F =
     (a : ℕ) → HasArc g a → ((arc_of g a).tail ≡ (arc_of g a).head → ⊥) →
-    IsLesserOn marks (place_of F (arc_of g a).tail) (place_of F (arc_of g a).head) →
-    LeadsNoWorse C F (place_of F (arc_of g a).tail) (place_of F (arc_of g a).head) (C.of_arc (arc_of g a).weight)
+    LeadsOn C marks F.places F (arc_of g a).tail (arc_of g a).head (C.of_arc (arc_of g a).weight)
+
+-- and for each arc that leaves a vertex
+abbrev pub CoversArcsFrom : {V W : Type 0} → Composition V W → List Bool → GraphData → List ℕ → FactorData W → ℕ → Type 0
+CoversArcsFrom C marks g places F v =
+    (a : ℕ) → HasArc g a → (arc_of g a).tail ≡ v → ((arc_of g a).tail ≡ (arc_of g a).head → ⊥) →
+    LeadsOn C marks places F (arc_of g a).tail (arc_of g a).head (C.of_arc (arc_of g a).weight)
 
 -- the links are closed at place v, as far as two places are concerned of which the lesser is marked
 abbrev pub IsClosedOn : {V W : Type 0} → Composition V W → List Bool → FactorData W → ℕ → Type 0

@@ -1,9 +1,9 @@
 //! A walk at a link for each arc of the graph, before any place is eliminated.
 ghost use Rattle.std.specs.Prelude.{◌≡◌, ℕ, ◌<◌, ◌⊎◌, IfErr, IsSome, OnOk, length, true};
-ghost use Rattle.road_graph.specs.GraphData.{HasArc, HasVertex, arc_of};
+ghost use Rattle.road_graph.specs.GraphData.{HasVertex};
 ghost use Rattle.path_factors.specs.Asking.{is_on};
-ghost use Rattle.path_factors.specs.Factors.{LeadsNoWorse, place_of};
-ghost use Rattle.path_factors.specs.Eliminating.{CoversArcsOn, Improves, IsLesserOn, IsWorthUnder, KeepsRest};
+ghost use Rattle.path_factors.specs.Factors.{place_of};
+ghost use Rattle.path_factors.specs.Eliminating.{CoversArcsFrom, CoversArcsOn, Improves, IsWorthUnder, KeepsRest, LeadsOn};
 ghost use Rattle.path_factors.specs.Heads.{IsHead, IsJoined, heads_in};
 ghost use Rattle.path_factors.specs.State.{IsSameState};
 ghost use Rattle.halting.specs.declared.unfinished.Unfinished.TheVariants.{Halted};
@@ -39,10 +39,9 @@ impl<'g, A: ComposingAlgebra> Weighing<'g, A> {
         ensures improves { Improves (A.walks self.old.algebra) 0 self.old.factor
             self.new.factor }
         ensures rest { KeepsRest (λ z. is_on marks.now z ≡ true) self.old.factor self.new.factor }
-        ensures leads { (tail ≡ road.head → ⊥) →
-            IsLesserOn marks.now (place_of self.old.factor tail) (place_of self.old.factor road.head) →
-            LeadsNoWorse (A.walks self.old.algebra) self.new.factor (place_of self.old.factor tail)
-            (place_of self.old.factor road.head) ((A.walks self.old.algebra).of_arc road.weight) }
+        ensures leads { (tail ≡ road.head → ⊥) → LeadsOn (A.walks self.old.algebra) marks.now
+            self.old.factor.places self.new.factor tail road.head
+            ((A.walks self.old.algebra).of_arc road.weight) }
     {
         self.holds();
         let (x, y) = (self.place(tail), self.place(road.head));
@@ -60,12 +59,8 @@ impl<'g, A: ComposingAlgebra> Weighing<'g, A> {
         ensures improves { Improves (A.walks self.old.algebra) 0 self.old.factor
             self.new.factor }
         ensures rest { KeepsRest (λ z. is_on marks.now z ≡ true) self.old.factor self.new.factor }
-        ensures covers { (a : ℕ) → HasArc self.old.roads a → (arc_of self.old.roads a).tail ≡ tail →
-            ((arc_of self.old.roads a).tail ≡ (arc_of self.old.roads a).head → ⊥) →
-            IsLesserOn marks.now (place_of self.old.factor (arc_of self.old.roads a).tail)
-            (place_of self.old.factor (arc_of self.old.roads a).head) →
-            LeadsNoWorse (A.walks self.old.algebra) self.new.factor (place_of self.old.factor (arc_of self.old.roads a).tail)
-            (place_of self.old.factor (arc_of self.old.roads a).head) ((A.walks self.old.algebra).of_arc (arc_of self.old.roads a).weight) }
+        ensures covers { CoversArcsFrom (A.walks self.old.algebra) marks.now self.old.roads
+            self.old.factor.places self.new.factor tail }
     {
         self.holds();
         let graph = self.graph;

@@ -1,4 +1,4 @@
-use Rattle.path_factors.proofs.Words.{◌≡◌, ℕ, ◌+◌, ◌<◌, ◌∙◌, List, [], ◌∷◌, ◌++◌, length, get_or, set, ap, sym, subst, arith, common_steps, get_or_default, length-append, Item, ChainData, HasValue, IsMore}
+use Rattle.path_factors.proofs.Words.{◌≡◌, ℕ, ◌+◌, ◌<◌, ◌∙◌, [], ◌∷◌, ◌++◌, length, get_or, set, ap, sym, subst, arith, common_steps, get_or_default, length-append, ChainData, HasValue, IsMore}
 use Rattle.path_factors.proofs.Listing.{pushed_has, pushed_more}
 use Rattle.path_factors.proofs.chains.Chains.push.Goals as goal
 use Rattle.path_factors.proofs.chains.Chains.push.Goals.{In-Ok}

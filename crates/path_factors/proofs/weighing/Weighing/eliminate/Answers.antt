@@ -1,4 +1,5 @@
-use Rattle.path_factors.proofs.Words.{◌≡◌, true, is_on, ℕ, ◌+◌, ◌<◌, ◌∙◌, arith, subst, Edge, Improves, IsEdgeAt, AreJoined}
+use Rattle.path_factors.proofs.Words.{◌≡◌, true, is_on, ℕ, ◌+◌, ◌<◌, arith, subst, Edge, Improves, IsEdgeAt, AreJoined}
+use Rattle.path_factors.proofs.Connecting.{same_more}
 use Rattle.path_factors.proofs.Eliminating.{eliminated_more, eliminated_all}
 use Rattle.path_factors.proofs.weighing.Weighing.eliminate.Goals as goal
 
@@ -15,11 +16,7 @@ loop-i-preserved g c =
     let joined = subst (λ a. (j : ℕ) (e f : Edge g.row.A-Walk.Denot) → i < j → IsEdgeAt G v i e → IsEdgeAt G v j f →
     is_on c.args.marks.now e.place ≡ true → AreJoined (g.A.ComposingAlgebra.walks a) H e f) alg c.pass_marked.ensures.joined in
     record {
-      same = record {
-        algebra = c.pass_marked.ensures.same.algebra ∙ alg;
-        roads = c.pass_marked.ensures.same.roads ∙ c.loop-i.invariant.same.roads;
-        heads = c.pass_marked.ensures.same.heads ∙ c.loop-i.invariant.same.heads;
-      };
+      same = same_more c.args.self.now c.loop-i.self c.pass_marked.new.self c.loop-i.invariant.same c.pass_marked.ensures.same;
       eliminated = eliminated_more (g.A.ComposingAlgebra.walks c.args.self.now.algebra) c.holds.ensures.composes.ordered v c.args.marks.now F G H i done improves c.pass_marked.ensures.rest joined;
     }
 

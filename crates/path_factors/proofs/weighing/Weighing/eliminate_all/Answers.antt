@@ -1,4 +1,5 @@
-use Rattle.path_factors.proofs.Words.{◌≡◌, ◌+◌, ◌∙◌, arith, subst, IsClosedOn, Improves}
+use Rattle.path_factors.proofs.Words.{◌≡◌, ◌+◌, arith, subst, IsClosedOn, Improves}
+use Rattle.path_factors.proofs.Connecting.{same_more}
 use Rattle.path_factors.proofs.Eliminating.{eliminated_to_more}
 use Rattle.path_factors.proofs.weighing.Weighing.eliminate_all.Goals as goal
 
@@ -12,11 +13,7 @@ loop-v-preserved g c =
     let improves = subst (λ a. Improves (g.A.ComposingAlgebra.walks a) (k + 1) G H) alg c.in_ok-eliminate.ensures.improves in
     let closed = subst (λ a. IsClosedOn (g.A.ComposingAlgebra.walks a) c.args.marks.now H k) alg c.in_ok-eliminate.ensures.closed in
     record {
-      same = record {
-        algebra = c.in_ok-eliminate.ensures.same.algebra ∙ alg;
-        roads = c.in_ok-eliminate.ensures.same.roads ∙ c.loop-v.invariant.same.roads;
-        heads = c.in_ok-eliminate.ensures.same.heads ∙ c.loop-v.invariant.same.heads;
-      };
+      same = same_more c.args.self.now c.loop-v.self c.eliminate.new.self c.loop-v.invariant.same c.in_ok-eliminate.ensures.same;
       eliminated = eliminated_to_more C c.holds.ensures.composes.ordered c.args.marks.now c.args.self.now.factor G H k c.loop-v.invariant.eliminated improves c.in_ok-eliminate.ensures.rest closed;
     }
 

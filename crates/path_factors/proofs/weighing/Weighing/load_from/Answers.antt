@@ -1,4 +1,5 @@
-use Rattle.path_factors.proofs.Words.{◌≡◌, ◌∙◌, ◌-◌, ◌⊎◌, List, ℕ, get_or, sym, subst, ListsRoadsFrom, HasVertex, IsLesserOn, LeadsNoWorse, IsWorthUnder, place_of, Improves, IsHead, IsJoined, heads_in, FactorState}
+use Rattle.path_factors.proofs.Words.{◌≡◌, ◌-◌, ◌⊎◌, List, ℕ, get_or, sym, subst, ListsRoadsFrom, HasVertex, LeadsOn, IsWorthUnder, place_of, Improves, IsHead, IsJoined, heads_in, FactorState}
+use Rattle.path_factors.proofs.Connecting.{same_more}
 use Rattle.path_factors.proofs.Loading.{loaded_more, loaded_all, road_inside, road_worth}
 use Rattle.path_factors.proofs.Joining.{at, road_joined}
 use Rattle.path_factors.proofs.weighing.Weighing.load_from.Goals as goal
@@ -14,23 +15,19 @@ loop-road-preserved g c =
     let alg = c.loop-road.invariant.same.algebra in
     let marks = c.args.marks.now in
     let improves = subst (λ a. Improves (g.A.ComposingAlgebra.walks a) 0 G H) alg c.add.ensures.improves in
-    let leads = subst (λ a. (tail ≡ road.head → ⊥) → IsLesserOn marks (place_of G tail) (place_of G road.head) → LeadsNoWorse (g.A.ComposingAlgebra.walks a) H (place_of G tail) (place_of G road.head) ((g.A.ComposingAlgebra.walks a).of_arc road.weight)) alg c.add.ensures.leads in
+    let leads = subst (λ a. (tail ≡ road.head → ⊥) → LeadsOn (g.A.ComposingAlgebra.walks a) marks G.places H tail road.head ((g.A.ComposingAlgebra.walks a).of_arc road.weight)) alg c.add.ensures.leads in
     record {
-      same = record {
-        algebra = c.add.ensures.same.algebra ∙ alg;
-        roads = c.add.ensures.same.roads ∙ c.loop-road.invariant.same.roads;
-        heads = c.add.ensures.same.heads ∙ c.loop-road.invariant.same.heads;
-      };
+      same = same_more c.args.self.now c.loop-road.self c.add.new.self c.loop-road.invariant.same c.add.ensures.same;
       loaded = loaded_more C c.holds.ensures.composes.ordered marks tail c.roads_from-road-items.result.now F G H c.loop-road.road-index road c.loop-road.invariant.loaded
           c.loop-road-test.true c.road-item.is improves c.add.ensures.rest leads;
     }
 
 pub returns-clause-covers : goal.returns-clause-covers
-returns-clause-covers g c = λ a has from other on.
+returns-clause-covers g c =
     let items = c.roads_from-road-items.result.now in
     let lists = subst (λ (s : FactorState g.row.A.Denot g.row.A-Walk.Denot). ListsRoadsFrom s.roads c.args.tail items) c.self.view_is c.roads_from-road-items.ensures in
     loaded_all (g.A.ComposingAlgebra.walks c.args.self.now.algebra) c.holds.ensures.composes.ordered c.args.marks.now c.args.self.now.roads c.args.tail items lists
-    c.args.self.now.factor c.loop-road.self.factor c.loop-road.road-index c.loop-road.invariant.loaded c.loop-road-test.false a has from other on
+    c.args.self.now.factor c.loop-road.self.factor c.loop-road.road-index c.loop-road.invariant.loaded c.loop-road-test.false
 
 pub add-requires-clause-head : goal.add-requires-clause-head
 add-requires-clause-head g c κs within =

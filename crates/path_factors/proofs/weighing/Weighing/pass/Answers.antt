@@ -1,5 +1,5 @@
 use Rattle.path_factors.proofs.Words.{◌≡◌, ℕ, ◌+◌, ◌<◌, ◌∙◌, List, length, get_or, ap, arith, sym, subst, Improves, rising, AreJoined, row_of, AreAhead, heads_in, head_at}
-use Rattle.path_factors.proofs.Connecting.{rest_weaker}
+use Rattle.path_factors.proofs.Connecting.{same_more, rest_weaker}
 use Rattle.path_factors.proofs.Eliminating.{passed_none, passed_more, edge_kept}
 use Rattle.path_factors.proofs.weighing.Weighing.pass.Goals as goal
 
@@ -32,11 +32,7 @@ loop-j-preserved g c =
     let head = get_or (row_of (heads_in F.leaving) v) c.args.i 0 in
     let rest = rest_weaker (λ (z : ℕ). z ≡ first.place) (λ (z : ℕ). z ≡ head) G H (λ z is. is ∙ sym here) c.join.ensures.rest in
     record {
-      same = record {
-        algebra = c.join.ensures.same.algebra ∙ alg;
-        roads = c.join.ensures.same.roads ∙ c.loop-j.invariant.same.roads;
-        heads = c.join.ensures.same.heads ∙ heads;
-      };
+      same = same_more c.args.self.now c.loop-j.self c.join.new.self c.loop-j.invariant.same c.join.ensures.same;
       after = omega (arith, c.loop-j.invariant.after);
       passed = passed_more C c.holds.ensures.composes.ordered v (λ z. z ≡ head) c.args.i F G H j first second done c.edge-first.ensures c.edge-second.ensures improves rest joined;
       ahead = subst (λ (h : List (List ℕ)). AreAhead h v c.args.i (j + 1) (c.between-q.result + 1)) heads c.between-q.ensures.ahead;

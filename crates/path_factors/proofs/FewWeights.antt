@@ -1,5 +1,5 @@
 -- What few other weights change: the links of places above the changed arcs.
-use Rattle.path_factors.proofs.Words.{◌≡◌, ℕ, zero, suc, ◌+◌, ◌-◌, ◌<◌, ◌≤◌, ◌⊎◌, inl, inr, Bool, true, false, List, [], ◌∷◌, length, set, get_or, refl, ap, sym, ◌∙◌, subst, arith, All, Contains, cases_Bool, cases_eq, cases_lt, get_or-set_same, get_or-set_other, is_on, GraphData, HasArc, arc_of, Algebra, Composition, IsComposition, Link, FactorData, Rises, Falls, LeadsNoWorse, FactorState, AreArcsJoined, AreHeads, AreBlanked, ArePlaces, IsBegun, IsHead, IsJoined, IsAncestor, IsUp, IsTreeParent, IsKnownUpward, IsLesserOn, IsLinkUnder, IsOutline, IsUnder, IsWhole, IsWholeBut, IsWorthUnder, heads_in, place_of, vertex_at, LinkRows, IsOpen}
+use Rattle.path_factors.proofs.Words.{◌≡◌, ℕ, zero, suc, ◌+◌, ◌-◌, ◌<◌, ◌≤◌, ◌⊎◌, inl, inr, Bool, true, false, List, [], ◌∷◌, length, set, get_or, refl, ap, sym, ◌∙◌, subst, arith, All, Contains, cases_Bool, cases_eq, cases_lt, get_or-set_same, get_or-set_other, is_on, GraphData, HasArc, arc_of, Algebra, Composition, IsComposition, Link, FactorData, Rises, Falls, LeadsNoWorse, FactorState, AreArcsJoined, AreHeads, AreBlanked, ArePlaces, IsBegun, IsHead, IsJoined, IsAncestor, IsUp, IsTreeParent, IsKnownUpward, IsLesserOn, IsLinkUnder, IsOutline, IsUnder, IsWhole, IsWholeBut, IsWorthUnder, heads_in, place_of, row_of, vertex_at, LinkRows, IsOpen}
 use Rattle.std.proofs.lemmas.List.Elements.{All-cons, All-head, All-nil, All-tail}
 use Rattle.road_graph.specs.declared.RoadArc.{RoadArc}
 use Rattle.path_algebra.specs.Walks.{IsWalk, Extends}
@@ -68,14 +68,15 @@ module _ (n : ℕ) (heads : List (List ℕ)) (are : AreHeads n heads) (before : 
   ]
 
 -- the changes up to an index are marked
-pub changes_more : (places : List ℕ) (before marks : List Bool) (changes : List RoadArc) (j : ℕ) (c : RoadArc) (place : ℕ) →
-    ((d : RoadArc) (i z : ℕ) → i < j → get_or changes i d ≡ d → (z ≡ get_or places (d.tail - 1) 0) ⊎ (z ≡ get_or places (d.head - 1) 0) →
-    z ≤ get_or places (d.tail - 1) 0 → z ≤ get_or places (d.head - 1) 0 → is_on before z ≡ true) →
+abbrev pub AreMarkedTo : List ℕ → List Bool → List RoadArc → ℕ → Type 0
+AreMarkedTo places marks changes j =
+    (d : RoadArc) (i z : ℕ) → i < j → get_or changes i d ≡ d → (z ≡ get_or places (d.tail - 1) 0) ⊎ (z ≡ get_or places (d.head - 1) 0) →
+    z ≤ get_or places (d.tail - 1) 0 → z ≤ get_or places (d.head - 1) 0 → is_on marks z ≡ true
+
+pub changes_more : (places : List ℕ) (before marks : List Bool) (changes : List RoadArc) (j : ℕ) (c : RoadArc) (place : ℕ) → AreMarkedTo places before changes j →
     ((d : RoadArc) → get_or changes j d ≡ d → c ≡ d) → place ≤ get_or places (c.tail - 1) 0 → place ≤ get_or places (c.head - 1) 0 →
     (place ≡ get_or places (c.tail - 1) 0) ⊎ (place ≡ get_or places (c.head - 1) 0) → is_on marks place ≡ true →
-    ((i : ℕ) → is_on before i ≡ true → is_on marks i ≡ true) →
-    (d : RoadArc) (i z : ℕ) → i < j + 1 → get_or changes i d ≡ d → (z ≡ get_or places (d.tail - 1) 0) ⊎ (z ≡ get_or places (d.head - 1) 0) →
-    z ≤ get_or places (d.tail - 1) 0 → z ≤ get_or places (d.head - 1) 0 → is_on marks z ≡ true
+    ((i : ℕ) → is_on before i ≡ true → is_on marks i ≡ true) → AreMarkedTo places marks changes (j + 1)
 changes_more places before marks changes j c place done same low also at on kept = λ d i z lt is ends under other. elim (cases_lt i j) [
   | inl less ↦ kept z (done d i z less is ends under other)
   | inr not_less ↦
@@ -151,6 +152,11 @@ changed_fits changes g f differs outline = record {
   vertices = differs.vertices;
   arcs = still_joined changes g f.roads differs f.factor.places f.heads outline.joined;
 }
+
+-- what holds of rows without walks at the links of marked places
+pub record Changed {V W : Type 0} (A : Algebra V) (C : Composition V W) (g : GraphData) (marks : List Bool) (F : FactorData W) : Type 0 where
+  pub links : IsOpen A C g F
+  pub whole : IsWholeBut A C g marks F
 
 module _ {V W : Type 0} (A : Algebra V) (C : Composition V W) (composes : IsComposition A C) (changes : List RoadArc) (g h : GraphData)
     (differs : DiffersAt changes g h) (F : FactorData W) (outline : IsOutline h F.places (heads_in F.leaving)) (whole : IsWhole A C h F)
@@ -240,28 +246,27 @@ module _ {V W : Type 0} (A : Algebra V) (C : Composition V W) (composes : IsComp
   still_heads : AreHeads g.vertices (heads_in rows.leaving)
   still_heads = subst (λ (m : ℕ). AreHeads m (heads_in rows.leaving)) (sym differs.vertices) (subst (λ (r : List (List ℕ)). AreHeads h.vertices r) (sym leaving.heads) outline.are)
 
-  pub begun_after : IsBegun A C g after
-  begun_after =
-      let none = worth_of_none A C g (heads_in rows.leaving) F.places composes in
-      let moved : (x u v : ℕ) (a : W) → IsWorthUnder A C g (heads_in F.leaving) F.places x u v a → IsWorthUnder A C g (heads_in rows.leaving) F.places x u v a =
-      λ x u v a worth. subst (λ (r : List (List ℕ)). IsWorthUnder A C g r F.places x u v a) (sym leaving.heads) worth in
-      begun_of A C g after (subst (λ (m : ℕ). ArePlaces m F.order F.places) (sym differs.vertices) whole.begun.ordering) still_heads heads_after
-      (λ x y a rises. elim (cases_Bool (is_on marks x)) [
-        | inl on ↦ subst (λ (w : W). IsLinkUnder A C g after x x y w) (sym (leaving.blank x (record { place = y; walk = a }) on rises)) (none x (vertex_at F x) (vertex_at F y))
-        | inr off ↦
-            let before : Rises F x y a = subst (λ (r : List (Link W)). Contains r (record { place = y; walk = a })) (leaving.rest x off) rises in
-            let up = whole.begun.links.rising x y a before in
-            moved x (vertex_at F x) (vertex_at F y) a (worth_still x (vertex_at F x) (vertex_at F y) a (omega (arith, up.0, up.1)) off (whole.begun.rising x y a before))
-      ])
-      (λ x y a falls. elim (cases_Bool (is_on marks y)) [
-        | inl on ↦ subst (λ (w : W). IsLinkUnder A C g after y x y w) (sym (entering.blank y (record { place = x; walk = a }) on falls)) (none y (vertex_at F x) (vertex_at F y))
-        | inr off ↦
-            let before : Falls F x y a = subst (λ (r : List (Link W)). Contains r (record { place = x; walk = a })) (entering.rest y off) falls in
-            let up = whole.begun.links.falling x y a before in
-            moved y (vertex_at F x) (vertex_at F y) a (worth_still y (vertex_at F x) (vertex_at F y) a (omega (arith, up.0, up.1)) off (whole.begun.falling x y a before))
-      ])
+  -- so it is in rows without walks at the links of marked places
+  link_worth : (before now : List (List (Link W))) → AreBlanked C.no_walk marks before now → (z u v : ℕ) (k : Link W) →
+      (Contains (row_of before z) k → (z < h.vertices) × IsWorthUnder A C h (heads_in F.leaving) F.places z u v k.walk) →
+      Contains (row_of now z) k → IsWorthUnder A C g (heads_in rows.leaving) F.places z u v k.walk
+  link_worth before now blanked z u v k was has = elim (cases_Bool (is_on marks z)) [
+    | inl on ↦ subst (λ (w : W). IsWorthUnder A C g (heads_in rows.leaving) F.places z u v w) (sym (blanked.blank z k on has))
+        (worth_of_none A C g (heads_in rows.leaving) F.places composes z u v)
+    | inr off ↦
+        let worth = was (subst (λ (r : List (Link W)). Contains r k) (blanked.rest z off) has) in
+        subst (λ (r : List (List ℕ)). IsWorthUnder A C g r F.places z u v k.walk) (sym leaving.heads) (worth_still z u v k.walk worth.0 off worth.1)
+  ]
 
-  pub outline_after : IsOutline g F.places (heads_in rows.leaving)
+  begun_after : IsBegun A C g after
+  begun_after =
+      begun_of A C g after (subst (λ (m : ℕ). ArePlaces m F.order F.places) (sym differs.vertices) whole.begun.ordering) still_heads heads_after
+      (λ x y a. link_worth F.leaving rows.leaving leaving x (vertex_at F x) (vertex_at F y) (record { place = y; walk = a })
+          (λ rises. let up = whole.begun.links.rising x y a rises in (omega (arith, up.0, up.1), whole.begun.rising x y a rises)))
+      (λ x y a. link_worth F.entering rows.entering entering y (vertex_at F x) (vertex_at F y) (record { place = x; walk = a })
+          (λ falls. let up = whole.begun.links.falling x y a falls in (omega (arith, up.0, up.1), whole.begun.falling x y a falls)))
+
+  outline_after : IsOutline g F.places (heads_in rows.leaving)
   outline_after = record {
     are = still_heads;
     joined = subst (λ (r : List (List ℕ)). AreArcsJoined (IsHead r) g F.places) (sym leaving.heads)
@@ -291,7 +296,7 @@ module _ {V W : Type 0} (A : Algebra V) (C : Composition V W) (composes : IsComp
         | inr not ↦ not
       ]
 
-  pub whole_after : IsWholeBut A C g marks after
+  whole_after : IsWholeBut A C g marks after
   whole_after = record {
     marked = count ∙ sym differs.vertices;
     upward = subst (λ (r : List (List ℕ)). IsKnownUpward r marks) (sym leaving.heads) upward;
@@ -321,31 +326,5 @@ module _ {V W : Type 0} (A : Algebra V) (C : Composition V W) (composes : IsComp
         leads_still x y (C.compose a b) never (whole.closed v (omega (arith, r.0, r.1)) x y a b down up other);
   }
 
--- all of it, for rows without walks at the links of marked places
-pub record Changed {V W : Type 0} (A : Algebra V) (C : Composition V W) (g : GraphData) (marks : List Bool) (F : FactorData W) : Type 0 where
-  pub links : IsOpen A C g F
-  pub whole : IsWholeBut A C g marks F
-
-pub changed : {V W T : Type 0} (A : Algebra V) (C : Composition V W) → IsComposition A C → (changes : List RoadArc) (g : GraphData) (f : FactorState T W) →
-    DiffersAt changes g f.roads → IsOutline f.roads f.factor.places f.heads → IsWhole A C f.roads f.factor → f.heads ≡ heads_in f.factor.leaving →
-    heads_in f.factor.entering ≡ heads_in f.factor.leaving → (marks given : List Bool) → given ≡ marks → length marks ≡ f.roads.vertices →
-    IsKnownUpward f.heads marks → AreMarkedAt f.factor.places marks changes → (rows : LinkRows W) (none : W) → none ≡ C.no_walk →
-    AreBlanked none given f.factor.leaving rows.leaving → AreBlanked none given f.factor.entering rows.entering → (order places : List ℕ) →
-    order ≡ f.factor.order → places ≡ f.factor.places →
-    Changed A C g marks (record { order = order; places = places; leaving = rows.leaving; entering = rows.entering })
-changed {W = W} A C composes changes g f differs outline whole heads aligned marks given same count upward at rows none is leaving entering order places first second =
-    let F = f.factor in
-    let here = subst (λ (r : List (List ℕ)). IsOutline f.roads F.places r) heads outline in
-    let up = subst (λ (r : List (List ℕ)). IsKnownUpward r marks) heads upward in
-    let blank : (before rows : List (List (Link W))) → AreBlanked none given before rows → AreBlanked C.no_walk marks before rows =
-    λ before rows b. subst (λ (w : W). AreBlanked w marks before rows) is (subst (λ (m : List Bool). AreBlanked none m before rows) same b) in
-    let l = blank F.leaving rows.leaving leaving in
-    let e = blank F.entering rows.entering entering in
-    subst (λ (o : List ℕ). Changed A C g marks (record { order = o; places = places; leaving = rows.leaving; entering = rows.entering })) (sym first)
-    (subst (λ (p : List ℕ). Changed A C g marks (record { order = F.order; places = p; leaving = rows.leaving; entering = rows.entering })) (sym second) (record {
-      links = (
-        begun_after A C composes changes g f.roads differs F here whole marks count up at rows l e aligned,
-        outline_after A C composes changes g f.roads differs F here whole marks count up at rows l e aligned,
-      );
-      whole = whole_after A C composes changes g f.roads differs F here whole marks count up at rows l e aligned;
-    }))
+  pub changed : Changed A C g marks after
+  changed = record { links = (begun_after, outline_after); whole = whole_after }

@@ -1,5 +1,6 @@
 -- Back substitution at the ancestors of a place, from those that are known down.
-use Rattle.path_factors.proofs.Words.{◌≡◌, ℕ, zero, suc, ◌+◌, ◌<◌, ◌≤◌, ◌⊎◌, inl, inr, List, [], ◌∷◌, ◌++◌, length, set, get_or, Bool, true, false, Option, None, refl, ap, sym, ◌∙◌, subst, arith, get_or-set_same, get_or-set_other, length-set, All, Contains, cases_eq, cases_lt, get_or_default, get_or_past, get_or_append_left, get_or_push, length-append, GraphData, Algebra, Composition, Link, FactorData, IsFactor, AreLinks, row_of, at, best_along, AreHeads, IsHead, AreAtHeads, IsTreeParent, is_on, IsBackRun, Agree, IsKnownUpward, AreUnknownUp, AreAllUnknownUp, AreFound}
+use Rattle.path_factors.proofs.Words.{IsStrictlyIncreasing, ◌≡◌, ℕ, zero, suc, ◌+◌, ◌<◌, ◌≤◌, ◌⊎◌, inl, inr, List, [], ◌∷◌, ◌++◌, length, set, get_or, Bool, true, false, Option, None, refl, ap, sym, ◌∙◌, subst, arith, get_or-set_same, get_or-set_other, length-set, All, Contains, cases_eq, cases_lt, get_or_default, get_or_past, get_or_append_left, get_or_push, length-append, GraphData, Algebra, Composition, Link, FactorData, IsFactor, AreLinks, row_of, at, best_along, AreHeads, IsHead, AreAtHeads, IsTreeParent, is_on, IsBackRun, Agree, IsKnownUpward, AreUnknownUp, AreAllUnknownUp, AreFound}
+use Rattle.path_factors.proofs.HeadRows.{rises_between}
 use Rattle.path_factors.proofs.Backward.{best_along_same}
 use Rattle.path_factors.proofs.Trees.{parent_inside}
 
@@ -132,33 +133,12 @@ module _ {V W : Type 0} (A : Algebra V) (C : Composition V W) (g : GraphData) (F
       omega (arith, unknown.1.inside q lt, read q lt)
 
   -- each is below the next
-  rising_one : (q : ℕ) → q + 1 < length list → get_or list q 0 < get_or list (q + 1) 0
-  rising_one q lt =
+  rising : IsStrictlyIncreasing list
+  rising q lt =
       let here : q < length list = omega (arith, lt) in
       let is = read q here in
       let up = parent_inside g.vertices heads are (get_or list q v) (get_or list (q + 1) v) (omega (arith, list_inside q here, is)) (unknown.1.parents q here) in
       omega (arith, up.0, is, read (q + 1) lt)
-
-  rising_by : (d q : ℕ) → q + suc d < length list → get_or list q 0 < get_or list (q + suc d) 0
-  rising_by zero q lt =
-      let is : q + 1 ≡ q + suc zero = omega arith in
-      subst (λ (r : ℕ). get_or list q 0 < get_or list r 0) is (rising_one q (omega (arith, lt)))
-  rising_by (suc d) q lt =
-      let is : (q + 1) + suc d ≡ q + suc (suc d) = omega arith in
-      let first = rising_one q (omega (arith, lt)) in
-      let more = rising_by d (q + 1) (omega (arith, lt)) in
-      let end = subst (λ (r : ℕ). get_or list (q + 1) 0 < get_or list r 0) is more in
-      omega (arith, first, end)
-
-  rising_list : (p q : ℕ) → p < q → q < length list → get_or list p 0 < get_or list q 0
-  rising_list p q less lt =
-      let d : (e : ℕ) × (p + suc e ≡ q) = gap p q less in
-      subst (λ (r : ℕ). get_or list p 0 < get_or list r 0) d.1 (rising_by d.0 p (omega (arith, d.1, lt)))
-    where
-      gap : (p q : ℕ) → p < q → (e : ℕ) × (p + suc e ≡ q)
-      gap p zero less = absurd (omega (arith, less))
-      gap zero (suc q) less = (q, omega arith)
-      gap (suc p) (suc q) less = let d = gap p q (omega (arith, less)) in let is = d.1 in (d.0, omega (arith, is))
 
   module _ (before all : List (Option V)) (run : IsBackRun A C g.vertices F before all) where
     pub found_none : (labels : List (Option V)) → length labels ≡ g.vertices → length old ≡ g.vertices → IsKnownUpward heads old →
@@ -244,7 +224,7 @@ module _ {V W : Type 0} (A : Algebra V) (C : Composition V W) (g : GraphData) (F
             ];
             kept = λ j on. keeps j (done.kept j on);
             fresh = λ p less within.
-                others (get_or list p 0) (λ e. omega (arith, rising_list p q less lt, e)) ∙ done.fresh p (omega (arith, less)) within;
+                others (get_or list p 0) (λ e. omega (arith, rises_between list rising p q less lt, e)) ∙ done.fresh p (omega (arith, less)) within;
             done = λ p le within. elim (cases_eq p q) [
               | inl is ↦ ap (λ (r : ℕ). is_on (set known i true) (get_or list r 0)) is ∙ here
               | inr other ↦ keeps (get_or list p 0) (done.done p (omega (arith, le, other)) within)

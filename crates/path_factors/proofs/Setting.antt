@@ -2,6 +2,7 @@
 use Rattle.path_factors.proofs.Words.{◌≡◌, ℕ, zero, suc, ◌+◌, ◌-◌, ◌<◌, ◌≤◌, ◌⊎◌, inl, inr, Bool, true, false, Contains, cases_eq, get_or_past, get_or-set_same, get_or-set_other, length-set, heads_packed, is_on, row_heads_count, AreBlanked, IsBlankedTo, IsReplaced, List, [], ◌∷◌, length, take, drop, get_or, set, refl, ap, sym, ◌∙◌, subst, arith, All, cases_lt, Algebra, IsOrder, Composition, IsComposition, GraphData, Link, Edge, ArePlaces, FactorData, Falls, IsLinkUnder, IsWorthUnder, Rises, row_of, IsImproved, AreImproved, IsBegun, LinkRows, AreBlank, AreEdgesImproved, better_walk, rising, falling, links_of, rows_between, ArePacked, ArePackedBothWays, packed_rows, AreHeads, IsHead, heads_in}
 use Rattle.std.proofs.lemmas.List.{get_or_default, drop-set-lt, drop-set-add, take-set-le}
 use Rattle.std.proofs.lemmas.List.Elements.{All-nil, All-cons, All-head, All-tail, All-contains}
+use Rattle.std.proofs.lemmas.List.Sorted.{IsNonDecreasingBy-from_all_adjacent}
 use Rattle.std.proofs.Math.Seq.{take-set-lt}
 use Rattle.path_factors.proofs.Improving.{improved_better}
 use Rattle.path_factors.proofs.Connecting.{sound_of, worth_of_none}
@@ -19,25 +20,12 @@ module _ {W : Type 0} where
       ap (λ (l : List (Link W)). record { place = q; walk = b } ∷ l) (links-set places walks k p a (omega (arith, n)) (omega (arith, lt)) is)
 
   -- starts rise over any distance
-  rises_over : (starts : List ℕ) (links : List (Link W)) → ArePacked starts links → (i d : ℕ) → i + d < length starts →
-      get_or starts i 0 ≤ get_or starts (i + d) 0
-  rises_over starts links packed i zero lt =
-      let e = ap (λ (j : ℕ). get_or starts j 0) (let z : i + 0 ≡ i = omega arith in z) in
-      omega (arith, e)
-  rises_over starts links packed i (suc d) lt =
-      let more : i + suc d ≡ (i + d) + 1 = omega arith in
-      let before = rises_over starts links packed i d (omega (arith, lt)) in
-      let next = packed.rising (i + d) (omega (arith, lt)) in
-      let e = ap (λ (j : ℕ). get_or starts j 0) more in
-      omega (arith, before, next, e)
-
-  pub rises_to : (starts : List ℕ) (links : List (Link W)) → ArePacked starts links → (i j : ℕ) → i ≤ j → j < length starts →
+  rises_to : (starts : List ℕ) (links : List (Link W)) → ArePacked starts links → (i j : ℕ) → i ≤ j → j < length starts →
       get_or starts i 0 ≤ get_or starts j 0
   rises_to starts links packed i j le lt =
-      let is : i + (j - i) ≡ j = omega (arith, le) in
-      let h = rises_over starts links packed i (j - i) (omega (arith, is, lt)) in
-      let e = ap (λ (k : ℕ). get_or starts k 0) is in
-      omega (arith, h, e)
+      IsNonDecreasingBy-from_all_adjacent (λ (n : ℕ). n) starts (λ k d low.
+          let one = get_or_default starts k 0 d (omega (arith, low)) in
+          omega (arith, packed.rising k low, one, get_or_default starts (k + 1) 0 d low)) i j 0 le lt
 
   module _ (starts : List ℕ) (links : List (Link W)) (packed : ArePacked starts links) (i : ℕ) (lt : i + 1 < length starts)
       (j : ℕ) (low : j < length (row_of (rows_between starts links) i)) (l : Link W) where

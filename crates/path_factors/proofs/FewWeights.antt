@@ -1,5 +1,5 @@
 -- What few other weights change: the links of places above the changed arcs.
-use Rattle.path_factors.proofs.Words.{◌≡◌, ℕ, zero, suc, ◌+◌, ◌-◌, ◌<◌, ◌≤◌, ◌⊎◌, inl, inr, Bool, true, false, List, [], ◌∷◌, length, set, get_or, refl, ap, sym, ◌∙◌, subst, arith, All, Contains, cases_Bool, cases_eq, cases_lt, get_or-set_same, get_or-set_other, is_on, GraphData, HasArc, arc_of, Algebra, Composition, IsComposition, Link, FactorData, Rises, Falls, LeadsNoWorse, FactorState, AreArcsJoined, AreHeads, AreBlanked, ArePlaces, IsBegun, IsHead, IsJoined, IsAncestor, IsUp, IsTreeParent, IsKnownUpward, IsLesserOn, IsLinkUnder, IsOutline, IsUnder, IsWhole, IsWholeBut, IsWorthUnder, heads_in, place_of, row_of, vertex_at, LinkRows, IsOpen}
+use Rattle.path_factors.proofs.Words.{◌≡◌, ℕ, zero, suc, ◌+◌, ◌-◌, ◌<◌, ◌≤◌, ◌⊎◌, inl, inr, Bool, true, false, List, [], ◌∷◌, length, set, get_or, refl, ap, sym, ◌∙◌, subst, arith, All, Contains, cases_Bool, cases_eq, cases_lt, get_or-set_same, get_or-set_other, is_on, GraphData, HasArc, arc_of, Algebra, Composition, IsComposition, Link, FactorData, Rises, Falls, LeadsNoWorse, FactorState, AreArcsJoined, AreHeads, AreBlanked, ArePlaces, IsBegun, IsHead, IsJoined, IsAncestor, IsUp, IsTreeParent, IsKnownUpward, IsLesserOn, IsOutline, IsUnder, IsWhole, IsWholeBut, IsWorthUnder, heads_in, place_of, row_of, vertex_at, LinkRows, IsOpen}
 use Rattle.std.proofs.lemmas.List.Elements.{All-cons, All-head, All-nil, All-tail}
 use Rattle.road_graph.specs.declared.RoadArc.{RoadArc}
 use Rattle.path_algebra.specs.Walks.{IsWalk, Extends}
@@ -262,9 +262,9 @@ module _ {V W : Type 0} (A : Algebra V) (C : Composition V W) (composes : IsComp
   begun_after =
       begun_of A C g after (subst (λ (m : ℕ). ArePlaces m F.order F.places) (sym differs.vertices) whole.begun.ordering) still_heads heads_after
       (λ x y a. link_worth F.leaving rows.leaving leaving x (vertex_at F x) (vertex_at F y) (record { place = y; walk = a })
-          (λ rises. let up = whole.begun.links.rising x y a rises in (omega (arith, up.0, up.1), whole.begun.rising x y a rises)))
+      (λ rises. let up = whole.begun.links.rising x y a rises in (omega (arith, up.0, up.1), whole.begun.rising x y a rises)))
       (λ x y a. link_worth F.entering rows.entering entering y (vertex_at F x) (vertex_at F y) (record { place = x; walk = a })
-          (λ falls. let up = whole.begun.links.falling x y a falls in (omega (arith, up.0, up.1), whole.begun.falling x y a falls)))
+      (λ falls. let up = whole.begun.links.falling x y a falls in (omega (arith, up.0, up.1), whole.begun.falling x y a falls)))
 
   outline_after : IsOutline g F.places (heads_in rows.leaving)
   outline_after = record {

@@ -1,5 +1,5 @@
 -- Back substitution at the ancestors of a place, from those that are known down.
-use Rattle.path_factors.proofs.Words.{IsStrictlyIncreasing, ◌≡◌, ℕ, zero, suc, ◌+◌, ◌<◌, ◌≤◌, ◌⊎◌, inl, inr, List, [], ◌∷◌, ◌++◌, length, set, get_or, Bool, true, false, Option, None, refl, ap, sym, ◌∙◌, subst, arith, get_or-set_same, get_or-set_other, length-set, All, Contains, cases_eq, cases_lt, get_or_default, get_or_past, get_or_append_left, get_or_push, length-append, GraphData, Algebra, Composition, Link, FactorData, IsFactor, AreLinks, row_of, at, best_along, AreHeads, IsHead, AreAtHeads, IsTreeParent, is_on, IsBackRun, Agree, IsKnownUpward, AreUnknownUp, AreAllUnknownUp, AreFound}
+use Rattle.path_factors.proofs.Words.{IsStrictlyIncreasing, ◌≡◌, ℕ, ◌+◌, ◌<◌, ◌≤◌, ◌⊎◌, inl, inr, List, [], ◌∷◌, ◌++◌, length, set, get_or, Bool, true, false, Option, None, refl, ap, sym, ◌∙◌, subst, arith, get_or-set_same, get_or-set_other, length-set, All, Contains, cases_eq, cases_lt, get_or_default, get_or_past, get_or_append_left, get_or_push, length-append, GraphData, Algebra, Composition, Link, FactorData, IsFactor, AreLinks, row_of, at, best_along, AreHeads, IsHead, AreAtHeads, IsTreeParent, is_on, IsBackRun, Agree, IsKnownUpward, AreUnknownUp, AreAllUnknownUp, AreFound}
 use Rattle.path_factors.proofs.HeadRows.{rises_between}
 use Rattle.path_factors.proofs.Backward.{best_along_same}
 use Rattle.path_factors.proofs.Trees.{parent_inside}

@@ -1,4 +1,5 @@
 -- Heads in rows of links, and in rows that are packed.
+use Rattle.std.proofs.lemmas.List.Sorted.{IsNonDecreasingBy-from_all_adjacent}
 use Rattle.std.proofs.Common.{◌≡◌, ℕ, zero, suc, ◌+◌, ◌-◌, ◌<◌, ◌≤◌, inl, inr, false, Result, Ok, Err, List, [], ◌∷◌, length, take, drop, get_or, map, refl, ap, sym, ◌∙◌, subst, arith}
 use Rattle.std.specs.Prelude.{◌↔◌, Contains, IsTrue, is_ok, slice_range}
 use Rattle.std.specs.List.Sorted.{IsBinarySearchResult, IsStrictlyIncreasing}
@@ -25,23 +26,22 @@ first_is_least xs up y (suc k, lt, is) =
     let less = rises_between xs up 0 (suc k) (omega arith) lt in
     omega (arith, get_or_default xs (suc k) 0 y lt ∙ is, less)
 
-not_falling : (xs : List ℕ) → IsStrictlyIncreasing xs → (i j : ℕ) → i ≤ j → j < length xs → get_or xs i 0 ≤ get_or xs j 0
-not_falling xs up i j le lt = elim (cases_lt i j) [
-  | inl less ↦ let r = rises_between xs up i j less lt in omega (arith, r)
-  | inr not_less ↦
-      let is : i ≡ j = omega (arith, le, not_less) in
-      let same = ap (λ (k : ℕ). get_or xs k 0) is in
-      omega (arith, same)
-]
+-- numbers of which none is less than the one before
+pub not_falling : (xs : List ℕ) → ((k : ℕ) → k + 1 < length xs → get_or xs k 0 ≤ get_or xs (k + 1) 0) → (i j : ℕ) → i ≤ j → j < length xs →
+    get_or xs i 0 ≤ get_or xs j 0
+not_falling xs rises i j le lt =
+    IsNonDecreasingBy-from_all_adjacent (λ (n : ℕ). n) xs (λ k d low.
+    let one = get_or_default xs k 0 d (omega (arith, low)) in
+    omega (arith, rises k low, one, get_or_default xs (k + 1) 0 d low)) i j 0 le lt
 
 -- a binary search finds a number exactly if it is there
 pub listed_by_search : (xs : List ℕ) (x : ℕ) (r : Result ℕ ℕ) → IsStrictlyIncreasing xs → IsBinarySearchResult (λ y. nat_cmp y x) xs r →
     IsTrue (is_ok r) ↔ Contains xs x
 listed_by_search xs x (Ok i) up is =
-    let at = searched xs x (Ok i) is (not_falling xs up) in
+    let at = searched xs x (Ok i) is (not_falling xs (λ k low. omega (arith, up k low))) in
     (λ yes. (i, at.0, get_or_default xs i x 0 at.0 ∙ at.1), λ c. refl)
 listed_by_search xs x (Err i) up is =
-    let at = searched xs x (Err i) is (not_falling xs up) in (
+    let at = searched xs x (Err i) is (not_falling xs (λ k low. omega (arith, up k low))) in (
       λ (never : IsTrue false). absurd (cc),
       λ c.
           let read = get_or_default xs c.0 0 x c.1 ∙ c.2 in

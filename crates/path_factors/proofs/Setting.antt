@@ -2,11 +2,10 @@
 use Rattle.path_factors.proofs.Words.{◌≡◌, ℕ, zero, suc, ◌+◌, ◌-◌, ◌<◌, ◌≤◌, ◌⊎◌, inl, inr, Bool, true, false, Contains, cases_eq, get_or_past, get_or-set_same, get_or-set_other, length-set, heads_packed, is_on, row_heads_count, AreBlanked, IsBlankedTo, IsReplaced, List, [], ◌∷◌, length, take, drop, get_or, set, refl, ap, sym, ◌∙◌, subst, arith, All, cases_lt, Algebra, IsOrder, Composition, IsComposition, GraphData, Link, Edge, ArePlaces, FactorData, Falls, IsLinkUnder, IsWorthUnder, Rises, row_of, IsImproved, AreImproved, IsBegun, LinkRows, AreBlank, AreEdgesImproved, better_walk, rising, falling, links_of, rows_between, ArePacked, ArePackedBothWays, packed_rows, AreHeads, IsHead, heads_in}
 use Rattle.std.proofs.lemmas.List.{get_or_default, drop-set-lt, drop-set-add, take-set-le}
 use Rattle.std.proofs.lemmas.List.Elements.{All-nil, All-cons, All-head, All-tail, All-contains}
-use Rattle.std.proofs.lemmas.List.Sorted.{IsNonDecreasingBy-from_all_adjacent}
 use Rattle.std.proofs.Math.Seq.{take-set-lt}
 use Rattle.path_factors.proofs.Improving.{improved_better}
 use Rattle.path_factors.proofs.Connecting.{sound_of, worth_of_none}
-use Rattle.path_factors.proofs.HeadRows.{head_at, heads_count, head_of_link}
+use Rattle.path_factors.proofs.HeadRows.{not_falling, head_at, heads_count, head_of_link}
 use Rattle.path_factors.proofs.Packing.{link_at, rows_count, row_past, row_all, row_between, row_count, row_link, packed_links, row_inside, falls_too, start_is, index_inside, link_inside, link_in_row}
 
 module _ {W : Type 0} where
@@ -18,14 +17,6 @@ module _ {W : Type 0} where
   links-set (q ∷ places) (b ∷ walks) zero p a n lt is = λ i. record { place = (sym is) i; walk = a } ∷ links_of places walks
   links-set (q ∷ places) (b ∷ walks) (suc k) p a n lt is =
       ap (λ (l : List (Link W)). record { place = q; walk = b } ∷ l) (links-set places walks k p a (omega (arith, n)) (omega (arith, lt)) is)
-
-  -- starts rise over any distance
-  rises_to : (starts : List ℕ) (links : List (Link W)) → ArePacked starts links → (i j : ℕ) → i ≤ j → j < length starts →
-      get_or starts i 0 ≤ get_or starts j 0
-  rises_to starts links packed i j le lt =
-      IsNonDecreasingBy-from_all_adjacent (λ (n : ℕ). n) starts (λ k d low.
-          let one = get_or_default starts k 0 d (omega (arith, low)) in
-          omega (arith, packed.rising k low, one, get_or_default starts (k + 1) 0 d low)) i j 0 le lt
 
   module _ (starts : List ℕ) (links : List (Link W)) (packed : ArePacked starts links) (i : ℕ) (lt : i + 1 < length starts)
       (j : ℕ) (low : j < length (row_of (rows_between starts links) i)) (l : Link W) where
@@ -59,14 +50,14 @@ module _ {W : Type 0} where
           row_between starts after q inside
           ∙ (elim (cases_lt q i) [
             | inl before ↦
-                let le = rises_to starts links packed (q + 1) i (omega (arith, before)) (omega (arith, lt)) in
+                let le = not_falling starts packed.rising (q + 1) i (omega (arith, before)) (omega (arith, lt)) in
                 let up = packed.rising q inside in
                 let split : f + ((s + j) - f) ≡ s + j = omega (arith, le, up) in
                 ap (λ (k : ℕ). take (t - f) (drop f (set links k l))) (sym split)
                 ∙ ap (λ (r : List (Link W)). take (t - f) r) (drop-set-add f links ((s + j) - f) l)
                 ∙ take-set-le (t - f) (drop f links) ((s + j) - f) l (omega (arith, le, up))
             | inr not_before ↦
-                let le = rises_to starts links packed (i + 1) q (omega (arith, not_before, other)) (omega (arith, inside)) in
+                let le = not_falling starts packed.rising (i + 1) q (omega (arith, not_before, other)) (omega (arith, inside)) in
                 ap (λ (r : List (Link W)). take (t - f) r) (drop-set-lt f links (s + j) l (omega (arith, le, within)))
           ])
           ∙ sym (row_between starts links q inside)

@@ -5,11 +5,6 @@ use Rattle.path_factors.proofs.Backward.{best_along_same}
 use Rattle.path_factors.proofs.Trees.{parent_inside}
 
 -- place i is found, and the others are as they were
-pub record FoundAt {V : Type 0} (n : ℕ) (before all : List (Option V)) (i : ℕ) (labels : List (Option V)) (known : List Bool) : Type 0 where
-  pub labels_count : length labels ≡ n
-  pub known_count : length known ≡ n
-  pub agree : Agree n before all labels known
-
 module _ {V W : Type 0} (A : Algebra V) (C : Composition V W) (g : GraphData) (F : FactorData W) (links : AreLinks A C g F)
     (before all : List (Option V)) (run : IsBackRun A C g.vertices F before all) (labels : List (Option V)) (known : List Bool)
     (agree : Agree g.vertices before all labels known) (i : ℕ) (low : i < g.vertices)
@@ -35,22 +30,18 @@ module _ {V W : Type 0} (A : Algebra V) (C : Composition V W) (g : GraphData) (F
   mark_here : is_on (set known i true) i ≡ true
   mark_here = get_or-set_same known i true false (omega (arith, low, m))
 
-  pub found_at : FoundAt g.vertices before all i (set labels i best) (set known i true)
+  pub found_at : Agree g.vertices before all (set labels i best) (set known i true)
   found_at = record {
-    labels_count = length-set labels i best ∙ n;
-    known_count = length-set known i true ∙ m;
-    agree = record {
-      done = λ j in_j k. elim (cases_eq j i) [
-        | inl e ↦ subst (λ (p : ℕ). at (set labels i best) p ≡ at all p) (sym e) label_here
-        | inr other ↦
-            get_or-set_other labels i j best None other ∙ agree.done j in_j (sym (get_or-set_other known i j true false other) ∙ k)
-      ];
-      left = λ j in_j k. elim (cases_eq j i) [
-        | inl e ↦ let bad : true ≡ false = sym mark_here ∙ ap (is_on (set known i true)) (sym e) ∙ k in absurd (cc)
-        | inr other ↦
-            get_or-set_other labels i j best None other ∙ agree.left j in_j (sym (get_or-set_other known i j true false other) ∙ k)
-      ];
-    };
+    done = λ j in_j k. elim (cases_eq j i) [
+      | inl e ↦ subst (λ (p : ℕ). at (set labels i best) p ≡ at all p) (sym e) label_here
+      | inr other ↦
+          get_or-set_other labels i j best None other ∙ agree.done j in_j (sym (get_or-set_other known i j true false other) ∙ k)
+    ];
+    left = λ j in_j k. elim (cases_eq j i) [
+      | inl e ↦ let bad : true ≡ false = sym mark_here ∙ ap (is_on (set known i true)) (sym e) ∙ k in absurd (cc)
+      | inr other ↦
+          get_or-set_other labels i j best None other ∙ agree.left j in_j (sym (get_or-set_other known i j true false other) ∙ k)
+    ];
   }
 
 module _ (heads : List (List ℕ)) (n : ℕ) (known : List Bool) (t : ℕ) where
@@ -208,28 +199,26 @@ module _ {V W : Type 0} (A : Algebra V) (C : Composition V W) (g : GraphData) (F
 
       pub found_more : AreFoundFrom heads g.vertices before all old list q
           (set labels i (best_along A C labels (at labels i) (row_of F.entering i))) (set known i true)
-      found_more =
-          let found = found_at A C g F factor.links before all run labels known done.agree i low done.labels_count done.known_count fresh ready in
-          record {
-            labels_count = found.labels_count;
-            known_count = found.known_count;
-            agree = found.agree;
-            upward = λ x y on above. elim (cases_eq x i) [
-              | inl is ↦ keeps y (known_above y (subst (λ (u : ℕ). IsHead heads u y) is above))
-              | inr other ↦ keeps y (done.upward x y (sym (others x other) ∙ on) above)
-            ];
-            listed = λ j on. elim (cases_eq j i) [
-              | inl is ↦ inr (q, lt, get_or_default list q j 0 lt ∙ sym is)
-              | inr other ↦ done.listed j (sym (others j other) ∙ on)
-            ];
-            kept = λ j on. keeps j (done.kept j on);
-            fresh = λ p less within.
-                others (get_or list p 0) (λ e. omega (arith, rises_between list rising p q less lt, e)) ∙ done.fresh p (omega (arith, less)) within;
-            done = λ p le within. elim (cases_eq p q) [
-              | inl is ↦ ap (λ (r : ℕ). is_on (set known i true) (get_or list r 0)) is ∙ here
-              | inr other ↦ keeps (get_or list p 0) (done.done p (omega (arith, le, other)) within)
-            ];
-          }
+      found_more = record {
+        labels_count = length-set labels i (best_along A C labels (at labels i) (row_of F.entering i)) ∙ done.labels_count;
+        known_count = length-set known i true ∙ done.known_count;
+        agree = found_at A C g F factor.links before all run labels known done.agree i low done.labels_count done.known_count fresh ready;
+        upward = λ x y on above. elim (cases_eq x i) [
+          | inl is ↦ keeps y (known_above y (subst (λ (u : ℕ). IsHead heads u y) is above))
+          | inr other ↦ keeps y (done.upward x y (sym (others x other) ∙ on) above)
+        ];
+        listed = λ j on. elim (cases_eq j i) [
+          | inl is ↦ inr (q, lt, get_or_default list q j 0 lt ∙ sym is)
+          | inr other ↦ done.listed j (sym (others j other) ∙ on)
+        ];
+        kept = λ j on. keeps j (done.kept j on);
+        fresh = λ p less within.
+            others (get_or list p 0) (λ e. omega (arith, rises_between list rising p q less lt, e)) ∙ done.fresh p (omega (arith, less)) within;
+        done = λ p le within. elim (cases_eq p q) [
+          | inl is ↦ ap (λ (r : ℕ). is_on (set known i true) (get_or list r 0)) is ∙ here
+          | inr other ↦ keeps (get_or list p 0) (done.done p (omega (arith, le, other)) within)
+        ];
+      }
 
     pub found_all : (labels : List (Option V)) (known : List Bool) → AreFoundFrom heads g.vertices before all old list 0 labels known →
         AreFound heads g.vertices before all old list labels known

@@ -9,3 +9,4 @@ mod Tabling
 mod RouteArcs
 mod SameFactors
 mod Telling
+mod AfterChanges

@@ -81,8 +81,8 @@ enum diffuse_status {
     DIFFUSE_STATUS_OPEN = 5,            /* the handle that was to be opened has a graph already */
     DIFFUSE_STATUS_WRONG = 6,           /* check: the lists are not the tree */
     DIFFUSE_STATUS_DENSE = 7,           /* factor: factors would need too many links: no small separators */
-    DIFFUSE_STATUS_HEAVY = 8,           /* factor, factor_by, reweigh and reweigh_arcs: the weights are so great that a sum with its arcs
-                                           may not fit into 63 bits */
+    DIFFUSE_STATUS_HEAVY = 8,           /* factor, factor_by and reweigh: the weights are so great that a sum with its arcs may not fit into
+                                           63 bits */
     DIFFUSE_STATUS_NO_FACTORS = 9,      /* factor and factor_by: the algebra has no factors */
     DIFFUSE_STATUS_NO_PROBLEM = 10,
     DIFFUSE_STATUS_SECOND_PROBLEM = 11,
@@ -95,8 +95,7 @@ enum diffuse_status {
     DIFFUSE_STATUS_TOO_MANY = 18,
     DIFFUSE_STATUS_TOO_FEW = 19,
     DIFFUSE_STATUS_NO_ALGEBRA = 43,     /* there is no such algebra, or its limit is above 2^63 */
-    DIFFUSE_STATUS_NO_LINK = 44,        /* reweigh: an arc between vertices between which the factors have no link; reweigh_arcs: a change
-                                           of no arc of the graph */
+    DIFFUSE_STATUS_NO_LINK = 44,        /* reweigh: an arc between vertices between which the factors have no link */
     DIFFUSE_STATUS_STOPPED = 45,        /* the handle's stop was set before the call was done */
     DIFFUSE_STATUS_OTHER_ARCS = 46,     /* number: the arcs are not those of the graph */
     DIFFUSE_STATUS_NO_NUMBERS = 47,     /* route_arcs: the arcs of the graph were not numbered */
@@ -201,8 +200,8 @@ enum diffuse_status diffuse_graph_number(struct diffuse_graph *graph, const stru
 /* What diffuse_graph_route writes, and the numbers of the hops arcs that the route takes: where parallel arcs join two
    vertices of the route, the one that gives the best value, and of equally good ones the one with the least number. The places
    after them are left as they are. If the room is shorter than hops + 1, or the places for arcs are fewer than hops, code and
-   hops are written all the same, and neither list is. The handle of a graph that was opened by diffuse_graph_reweigh or
-   diffuse_graph_reweigh_arcs has no numbers until it is numbered.
+   hops are written all the same, and neither list is. The handle of a graph that was opened by diffuse_graph_reweigh has no
+   numbers until it is numbered.
    CLOSED, NO_NUMBERS, NO_VERTEX, NO_ALGEBRA, MEMORY, STOPPED, NO_ROUTE, NO_ROOM or DONE. */
 DIFFUSE_CHECKED((1))
 enum diffuse_status diffuse_graph_route_arcs(struct diffuse_graph *graph, enum diffuse_algebra algebra, uint64_t limit,
@@ -271,23 +270,13 @@ DIFFUSE_CHECKED((1, 4))
 enum diffuse_status diffuse_graph_reweigh(struct diffuse_graph *graph, const struct diffuse_arc *arcs, size_t n_arcs,
     struct diffuse_graph *second);
 
-/* Opens a second, closed handle with the graph of the first one, in which each arc from the tail of a change to its head has the
-   change's weight, that of the last one if there are more. It is factored as the first one is, and keeps all links, also those that
-   factor leaves out: over them routes take longer. The first such call from a handle with factors makes all links anew; one from a
-   handle that it opened makes only those above the changed arcs anew, and shares the others' places. A change that names no arc of
-   the graph is NO_LINK. The changes may be changed or freed afterwards.
-   OPEN, CLOSED, MEMORY, STOPPED, HEAVY, NO_LINK or DONE. */
-DIFFUSE_CHECKED((1, 4))
-enum diffuse_status diffuse_graph_reweigh_arcs(struct diffuse_graph *graph, const struct diffuse_arc *changes, size_t n_changes,
-    struct diffuse_graph *second);
-
 /* Opens a closed stop, which is not set. OPEN, MEMORY or DONE. */
 DIFFUSE_CHECKED((1)) enum diffuse_status diffuse_stop_new(struct diffuse_stop *stop);
 
 /* Gives a handle a stop, in place of the one that it had: once the stop is set, calls of the handle that list STOPPED end with it,
    at the latest after a few thousand more steps of a search or of a pass over the factors, or after one pass over the arcs, and
    nothing is written. The stop stays with the handle, freed or not, until another takes its place; a closed one takes it away. A
-   second handle, by share, reweigh or reweigh_arcs, has none. Many handles may have one stop. CLOSED, MEMORY or DONE. */
+   second handle, by share or reweigh, has none. Many handles may have one stop. CLOSED, MEMORY or DONE. */
 DIFFUSE_CHECKED((1, 2)) enum diffuse_status diffuse_graph_stop_by(struct diffuse_graph *graph, struct diffuse_stop *stop);
 
 /* Sets or clears a stop. It may be set while another thread is in a call of a handle that has it, or by a signal handler: its flag
@@ -445,7 +434,7 @@ DIFFUSE_ONE const char *diffuse_status_text(int32_t status) {
     case DIFFUSE_STATUS_TOO_MANY: return "more lines than the problem line announces";
     case DIFFUSE_STATUS_TOO_FEW: return "fewer lines than the problem line announces";
     case DIFFUSE_STATUS_NO_ALGEBRA: return "no such algebra, or a limit above 9223372036854775808";
-    case DIFFUSE_STATUS_NO_LINK: return "a change of no arc, or an arc between vertices between which the factors have no link";
+    case DIFFUSE_STATUS_NO_LINK: return "an arc between vertices between which the factors have no link";
     case DIFFUSE_STATUS_STOPPED: return "stopped before there was an answer";
     case DIFFUSE_STATUS_OTHER_ARCS: return "arcs that are not those of the graph";
     case DIFFUSE_STATUS_NO_NUMBERS: return "a graph whose arcs were not numbered";

@@ -387,13 +387,6 @@ public:
         expect(diffuse_graph_reweigh(&at, arcs.data(), arcs.size(), &second.at));
         return second;
     }
-
-    // A second graph, with the weights of these changes for the arcs with their ends, factored as this one is. Its arcs are not numbered.
-    graph reweigh_arcs(view<const arc> changes) const {
-        graph second;
-        expect(diffuse_graph_reweigh_arcs(&at, changes.data(), changes.size(), &second.at));
-        return second;
-    }
 };
 
 }  // namespace diffuse

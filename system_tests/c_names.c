@@ -250,36 +250,6 @@ static void reweighs(void) {
     diffuse_graph_close(&second);
 }
 
-/* Few other weights, on a handle without factors and with them, and from each handle that is opened so. The last change of an arc
-   counts, and parallel arcs change together. */
-static void reweighs_arcs(void) {
-    static const struct diffuse_arc CHANGES[] = {{2, 4, 90}, {1, 2, 1}, {2, 4, 4}}, NONE[] = {{2, 4, 1}, {4, 2, 1}}, BEYOND[] = {{1, 6, 1}};
-    struct diffuse_graph third = DIFFUSE_CLOSED;
-    diffuse_graph_close(&graph);
-    IS(DIFFUSE_STATUS_CLOSED, diffuse_graph_reweigh_arcs(&graph, CHANGES, 3, &second));
-    open(FIVE, 5, 7);
-    for (int i = 0; i < 3; i++) {
-        IS(DIFFUSE_STATUS_NO_LINK, diffuse_graph_reweigh_arcs(&graph, NONE, 2, &second));
-        IS(DIFFUSE_STATUS_NO_LINK, diffuse_graph_reweigh_arcs(&graph, BEYOND, 1, &second));
-        IS(DIFFUSE_STATUS_DONE, diffuse_graph_reweigh_arcs(&graph, CHANGES, 3, &second));
-        IS(DIFFUSE_STATUS_OPEN, diffuse_graph_reweigh_arcs(&graph, CHANGES, 3, &second));
-        IS(DIFFUSE_STATUS_DONE, diffuse_graph_reweigh_arcs(&second, CHANGES + 2, 0, &third));
-        IS(1, is_far(&graph, 8) && is_far(&second, 5) && is_far(&third, 5) && diffuse_graph_arcs(&third) == 7);
-        diffuse_graph_close(&third);
-        IS(DIFFUSE_STATUS_DONE, diffuse_graph_reweigh_arcs(&second, &(struct diffuse_arc){2, 4, 1}, 1, &third));
-        IS(1, is_far(&second, 5) && is_far(&third, 2));
-        diffuse_graph_close(&third);
-        diffuse_graph_close(&second);
-        if (i < 2) IS(DIFFUSE_STATUS_DONE, diffuse_graph_factor(&graph, i ? DIFFUSE_ALGEBRA_SHORTEST : DIFFUSE_ALGEBRA_HOPS));
-    }
-    open_shape(0, 65536, 1);
-    IS(DIFFUSE_STATUS_DONE, diffuse_graph_factor(&graph, DIFFUSE_ALGEBRA_SHORTEST));
-    IS(DIFFUSE_STATUS_HEAVY, diffuse_graph_reweigh_arcs(&graph, shape(0, 65536, 4294967295u), 65535, &second));
-    IS(DIFFUSE_STATUS_DONE, diffuse_graph_reweigh_arcs(&graph, &(struct diffuse_arc){2, 3, 5}, 1, &second));
-    IS(1, is_far(&second, 7) && is_far(&graph, 3));
-    diffuse_graph_close(&second);
-}
-
 /* What a share of a factored handle and each call of factor take: a share makes neither rows nor factors, and a call only
    the factors that are not there. */
 static void factors_once(void) {
@@ -694,8 +664,6 @@ static void work_on_five(enum diffuse_status wanted) {
     diffuse_graph_close(&second);
     IS(wanted, reweigh(FIVE, 7));
     IS(wanted == DIFFUSE_STATUS_DONE, second.is_open);
-    diffuse_graph_close(&second);
-    IS(wanted, diffuse_graph_reweigh_arcs(&graph, FIVE, 7, &second));
 }
 
 /* A set stop ends each of these, which leaves the handle as it was: it has no numbers, and then those that it had; and answers. */
@@ -806,7 +774,6 @@ static void *all(void *nothing) {
     factors_by_an_order();
     factors_once();
     reweighs();
-    reweighs_arcs();
     stops();
     texts();
     IS(DIFFUSE_VERSION, diffuse_version());

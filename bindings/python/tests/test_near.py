@@ -104,20 +104,6 @@ class OtherWeights(unittest.TestCase):
             first.factor()
             self.assertEqual(first.with_weights(weights[1]).tree(1), fresh.tree(1))
 
-    def test_few_arcs(self):
-        """The last change of an arc counts, and later graphs keep the arcs after the changes."""
-        for factored in (False, True):
-            graph = Graph(5, ARCS)
-            if factored:
-                graph.factor()
-            second = graph.with_changes([(2, 4, 90), (1, 2, 1), (2, 4, 4)])
-            third = second.with_changes([(2, 4, 1)])
-            self.assertEqual([it.route(1, 4).value for it in (graph, second, third)], [8, 5, 2])
-            third.number()
-            self.assertEqual(third.route(1, 4).arcs, [1, 4])
-            self.assertRaises(diffuse.NoLink, graph.with_changes, [(4, 2, 1)])
-            self.assertRaises(diffuse.NoVertex, graph.with_changes, [(1, 6, 1)])
-
     def test_it_is_factored_as_the_first_is(self):
         """No graph is factored anew: that call is not made."""
         graph = Graph(5, ARCS)

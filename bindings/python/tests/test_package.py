@@ -20,7 +20,7 @@ WRITTEN = "to_csv to_frame to_geoframe to_geojson"
 TREE = f"arcs cost hops neighbour reached route source {WRITTEN} tree"
 PUBLIC = {
     "Algebra": "HOPS REACH RELIABLE SHORTEST WIDEST WITHIN", "BetweenPoints": f"cost line steps {WRITTEN} total totals", "Coordinates": "degrees",
-    "Graph": "arcs check close factor from_columns from_gr near number read route table tree vertices with_changes with_weights",
+    "Graph": "arcs check close factor from_columns from_gr near number read route table tree vertices with_weights",
     "Isochrone": f"arcs band {TREE[5:].replace('reached', 'reached roads')} within",
     "NamedRoute": f"arcs cells cost line places steps {WRITTEN} total totals", "NamedTable": "to_csv to_frame to_numpy", "NamedTree": TREE,
     "Near": "algebra entries entry limit origins reaches route tree",

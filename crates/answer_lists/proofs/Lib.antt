@@ -9,4 +9,3 @@ mod Tabling
 mod RouteArcs
 mod SameFactors
 mod Telling
-mod AfterChanges

@@ -10,7 +10,6 @@ ghost use Rattle.route_tree.specs.Found.{IsPairFound};
 ghost use Rattle.factor_routes.specs.Reweighing.{IsCause};
 ghost use Rattle.factor_routes.specs.declared.reweighed.Unweighed.TheVariants.{Stopped};
 ghost use Rattle.answer_lists.specs.Answers.{HasBoth};
-ghost use Rattle.answer_lists.specs.Reweighing.{IsAfter};
 ghost use Rattle.answer_lists.specs.Table.{AreRowCodes};
 ghost use Rattle.answer_lists.specs.Tree.{HasLowCodes};
 
@@ -19,7 +18,7 @@ use crate::table_rows::RowEnds;
 use factor_routes::{Pair, RoadFactors, RouteAsker, Unweighed};
 use halting::{Stop, is_stopped};
 use path_algebra::{Cost, Labels, PathAlgebra, laws_hold};
-use road_graph::{InGraph, Memory, OutGraph, RoadArc, Vertex};
+use road_graph::{InGraph, Memory, OutGraph, Vertex};
 use route_tree::{Found, Tree};
 use std::alloc::{AllocError, Global};
 use std::marker::Model;
@@ -71,30 +70,20 @@ impl FactoredGraph {
         })
     }
 
-    /// The first owner of the factors of another graph, over the same links; those above the changed
-    /// arcs alone are made anew if it is this graph after changes.
+    /// The first owner of the factors of another graph, over the same links.
     pub(crate) fn reweighed(
         &self,
         graph: &OutGraph,
         by_head: &InGraph,
-        changes: Option<&[RoadArc]>,
         stop: &Option<Stop>,
     ) -> Result<FactoredGraph, Unweighed>
-        requires same { by_head.now ≡ graph.now }
-        requires after { IfSome changes (λ cs. IsAfter cs.now graph.now self.now.roads) }
+        requires { by_head.now ≡ graph.now }
         ensures roads { IfOk result (λ f. f.roads ≡ graph.now) }
         ensures cost { IfOk result (λ f. f.algebra.cost ≡ self.now.algebra.cost) }
         ensures cause { IfErr result (λ why. IsCause why graph.now self.now) }
         ensures stopped { IfErr result (λ why. why ≡ Stopped → IsSome stop.now) }
     {
-        self.factors.holds();
-        let factors = match changes {
-            Some(changes) => {
-                self.factors
-                    .reweighed_at(self.alloc, graph, by_head, changes, stop)?
-            }
-            None => self.factors.reweighed(self.alloc, graph, by_head, stop)?,
-        };
+        let factors = self.factors.reweighed(self.alloc, graph, by_head, stop)?;
         match FactoredGraph::of(self.alloc, factors) {
             Ok(factored) => Ok(factored),
             Err(AllocError) => Err(Unweighed::Memory),

@@ -44,7 +44,7 @@ pub use judging::{FirstRefuted, check_tree};
 pub use lines::ListedTree;
 pub use near::answer_near;
 pub use near_lists::NearLists;
-pub use reweigh::{reweigh_arcs, reweigh_graph};
+pub use reweigh::reweigh_graph;
 pub use route::{RouteRoom, answer_route};
 pub use route_arcs::{RouteArcsRoom, answer_route_arcs};
 pub use shared_graph::SharedGraph;

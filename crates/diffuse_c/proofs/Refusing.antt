@@ -1,7 +1,6 @@
 -- Why no handle is opened over the factors of another one: the graph of the arcs is not factored
 -- over the links.
 use Rattle.diffuse_c.proofs.Words.{◌≡◌, ℕ, inl, inr, List, [], ◌∷◌, Option, Some, arith, subst, sym, ℤ, pos, IsOneOf, Shared, DiffuseArc, Fits, lent, IsReweighFault}
-use Rattle.path_factors.specs.Reweighing.{JoinsNoOthers}
 use Rattle.answer_lists.specs.Reweighing.{IsHeavy, IsRefusal}
 use Rattle.diffuse_c.specs.Holding.{OfShared}
 
@@ -23,7 +22,7 @@ listed n (inr (inr (inl x))) = inr (inr (inr (inr (inl x))))
 listed n (inr (inr (inr (inl x)))) = inr (inr (inr (inr (inr (inl x)))))
 listed n (inr (inr (inr (inr none)))) = absurd none
 
-pub not_factored : (g : Shared) (arcs : List DiffuseArc) (n : ℤ) → Fits g.roads.vertices arcs → IsRefusal (lent g.roads.vertices arcs) g (JoinsNoOthers (lent g.roads.vertices arcs) g.roads) n → IsReweighFault g arcs n
+pub not_factored : (g : Shared) (arcs : List DiffuseArc) (n : ℤ) → Fits g.roads.vertices arcs → IsRefusal (lent g.roads.vertices arcs) g n → IsReweighFault g arcs n
 not_factored g arcs n fits r =
     let no_limit : n ≡ pos 16 → ⊥ = is_no_other 3 8 44 45 16 n r.one_of (λ e. omega (arith, e)) (λ e. omega (arith, e)) (λ e. omega (arith, e)) (λ e. omega (arith, e)) in
     let no_vertex : n ≡ pos 17 → ⊥ = is_no_other 3 8 44 45 17 n r.one_of (λ e. omega (arith, e)) (λ e. omega (arith, e)) (λ e. omega (arith, e)) (λ e. omega (arith, e)) in

@@ -1,21 +1,16 @@
--- What handles are opened over the factors of another one, and why none is.
-use Rattle.std.specs.Prelude.{◌≡◌, ◌↔◌, [], ◌∷◌, List, map, ℤ, pos}
-use Rattle.road_graph.specs.Changing.{graph_after}
+-- Why no handle is opened with other arcs over the factors of another one.
+use Rattle.std.specs.Prelude.{◌≡◌, ◌↔◌, [], ◌∷◌, List, ℤ, pos}
 use Rattle.road_graph.specs.GraphData.{IsGraph}
 use Rattle.path_factors.specs.Reweighing.{JoinsNoOthers}
 use Rattle.answer_lists.specs.Answers.{IsOneOf}
 use Rattle.answer_lists.specs.Reweighing.{IsHeavy}
 use Rattle.answer_lists.specs.Sharing.{Shared, reweighed}
 use Rattle.diffuse_c.specs.declared.arcs.DiffuseArc.{DiffuseArc}
-use Rattle.diffuse_c.specs.Lent.{IsBadlyJoined, IsTooLarge, arc_from, lent}
+use Rattle.diffuse_c.specs.Lent.{IsBadlyJoined, IsTooLarge, lent}
 
 -- a graph of other arcs on the same vertices, factored as the first is
 abbrev pub reweighed_by : Shared → List DiffuseArc → Shared
 reweighed_by first arcs = reweighed first (lent first.roads.vertices arcs)
-
--- its own graph after changes, factored as it is
-abbrev pub changed_by : Shared → List DiffuseArc → Shared
-changed_by first changes = reweighed first (graph_after (map arc_from changes) first.roads)
 
 -- there are too many arcs, an arc has an end that is no vertex, memory ran out, sums do not fit, an
 -- arc has no link, or a stop was set; there is no link only if the arcs join vertices that no arc of

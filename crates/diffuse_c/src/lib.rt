@@ -35,7 +35,7 @@ pub use near::diffuse_graph_near;
 pub use numbers::{diffuse_graph_number, diffuse_graph_route_arcs};
 pub use questions::{diffuse_graph_check, diffuse_graph_route, diffuse_graph_tree};
 pub use reading::diffuse_graph_read;
-pub use reweigh::{diffuse_graph_reweigh, diffuse_graph_reweigh_arcs};
+pub use reweigh::diffuse_graph_reweigh;
 pub use stops::{
     DiffuseStop, diffuse_graph_stop_by, diffuse_stop_clear, diffuse_stop_free, diffuse_stop_new,
     diffuse_stop_set,

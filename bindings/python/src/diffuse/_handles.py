@@ -10,7 +10,7 @@ from functools import lru_cache
 from typing import Any, Callable, Iterable, NoReturn, Optional, TypeVar
 
 from ._library import DONE, STOPPED, Handle, Registry, StopHandle, library
-from .columns import address, arc_count, changed, reweighed
+from .columns import address, arc_count, reweighed
 from .errors import BadShape, Closed, InputError, refusal, shown
 
 Result = TypeVar("Result")
@@ -354,25 +354,10 @@ class Handles:
         if given is None:
             raise InputError("a graph that was read from a text does not keep its arcs; "
                              "one of from_columns does")
-        arcs = reweighed(given, weights)
-        return self._second(pool, arcs, lambda one, second: int(library().diffuse_graph_reweigh(
-            one, address(arcs), self.arcs, second)))
-
-    def changed(self, changes: Any) -> Handles:
-        """Handles of the graph after changes of weights, factored as this one is.
-
-        Raises a refusal of the library.
-        """
-        pool, given = self.pool, self._given
-        arcs = None if given is None else changed(given, changes)
-        return self._second(pool, arcs, lambda one, second: int(
-            library().diffuse_graph_reweigh_arcs(
-                one, address(changes), arc_count(changes), second)))
-
-    def _second(self, pool: Pool, arcs: Any, call: Callable[[Handle, Handle], int]) -> Handles:
-        """Handles of the graph of these arcs, of which a call opens the first."""
-        second = Handle()
-        status, handle = self.work(lambda one: call(one, second))
+        second, arcs = Handle(), reweighed(given, weights)
+        status, handle = self.work(
+            lambda one: int(library().diffuse_graph_reweigh(
+                one, address(arcs), self.arcs, second)))
         pool.free.append(handle)
         if status != DONE:
             raise refusal(status)

@@ -114,7 +114,6 @@ _CALLS: dict[str, tuple[Any, list[Any]]] = {
     "diffuse_graph_near": (
         c_int32, [*_QUESTION, *_LIST, *_LIST, *_LIST, *_LIST, *_LIST, POINTER(c_size_t)]),
     "diffuse_graph_reweigh": (c_int32, [_HANDLE, *_LIST, _HANDLE]),
-    "diffuse_graph_reweigh_arcs": (c_int32, [_HANDLE, *_LIST, _HANDLE]),
     "diffuse_graph_factor": (c_int32, [_HANDLE, c_uint32]),
     "diffuse_graph_factor_by": (c_int32, [_HANDLE, c_uint32, *_LIST]),
     "diffuse_stop_new": (c_int32, [_STOP]),

@@ -217,20 +217,6 @@ def reweighed(arcs: Any, weights: Any) -> Any:
     return own
 
 
-def changed(arcs: Any, changes: Any) -> Any:
-    """The memory of the same arcs after changes: the last one with the ends of an arc counts."""
-    if np is None:
-        own = array("I", arcs)
-        last = dict(zip(zip(changes[::3], changes[1::3]), changes[2::3]))
-        own[2::3] = array("I", map(last.get, zip(own[::3], own[1::3]), own[2::3]))
-        return own
-    own, last = arcs.copy(), {(tail, head): weight for tail, head, weight in changes.tolist()}
-    for place in np.flatnonzero(np.isin(own[:, 0], changes[:, 0])).tolist():
-        tail, head, weight = own[place].tolist()
-        own[place, 2] = last.get((tail, head), weight)
-    return own
-
-
 def first_of(column: Any, count: int) -> Any:
     """So many numbers from the first on, in memory of their own."""
     if len(column) == count:

@@ -229,7 +229,7 @@ class NoAlgebra(InputError):
 
 
 class NoLink(NotFactored):
-    """An arc joins vertices between which the factors have no link, or a change no arc's."""
+    """An arc joins vertices between which the factors have no link."""
 
     status = 44
 

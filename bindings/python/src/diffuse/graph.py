@@ -141,27 +141,6 @@ class Graph:
                 f"weights has {len(column)} numbers, and the graph {self._arcs} arcs")
         return self._again(self._handles.reweighed(column))
 
-    def with_changes(self: Own, changes: Any) -> Own:
-        """A second graph, in which each arc with the ends of a change has its weight.
-
-        It is factored as this one is, and keeps all links: routes over them take longer. From the
-        second such graph on those above the changed arcs alone are made anew.
-
-        Parameters
-        ----------
-        changes : iterable of (tail, head, weight), or array of any integer type, shape (changes, 3)
-            The last change of an arc counts.
-
-        Raises
-        ------
-        NoLink
-            A change has the ends of no arc.
-        TooHeavy
-            The weights are too great for the factors that this graph has.
-        NoVertex, NotANumber, OutOfRange, BadShape, OutOfMemory, Closed
-        """
-        return self._again(self._handles.changed(arcs_of(changes, self._vertices)))
-
     def _again(self: Own, handles: Handles) -> Own:
         """A graph like this one, with all that a class of one's own keeps beside the handles."""
         graph = self._of(handles)
@@ -378,8 +357,8 @@ class Graph:
         """Numbers the arcs by their places in the list from which the graph was made, so that
         `route(..).arcs` tells parallel ones apart.
 
-        The numbers take 4 bytes an arc and 4 a vertex. Copies of the graph have them, and one that
-        `with_weights` or `with_changes` makes does not. Calls of other threads go on meanwhile.
+        The numbers take 4 bytes an arc and 4 a vertex. Copies of the graph have them, and a graph
+        that `with_weights` makes does not. Calls of other threads go on meanwhile.
 
         Parameters
         ----------

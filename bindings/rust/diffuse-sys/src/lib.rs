@@ -126,7 +126,6 @@ unsafe extern "C" {
     pub fn diffuse_graph_factor(graph: *mut Handle, algebra: u32) -> i32;
     pub fn diffuse_graph_factor_by(graph: *mut Handle, algebra: u32, places: *const u32, n_places: usize) -> i32;
     pub fn diffuse_graph_reweigh(graph: *mut Handle, arcs: *const Arc, n_arcs: usize, second: *mut Handle) -> i32;
-    pub fn diffuse_graph_reweigh_arcs(graph: *mut Handle, changes: *const Arc, n_changes: usize, second: *mut Handle) -> i32;
     pub fn diffuse_stop_new(stop: *mut StopHandle) -> i32;
     pub fn diffuse_graph_stop_by(graph: *mut Handle, stop: *mut StopHandle) -> i32;
     pub fn diffuse_stop_set(stop: *mut StopHandle) -> i32;

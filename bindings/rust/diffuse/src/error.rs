@@ -20,7 +20,7 @@ pub enum Error {
     TooHeavy,
     /// The algebra has no factors.
     NoFactors,
-    /// An arc joins vertices between which the factors have no link, or a change no arc's.
+    /// An arc joins vertices between which the factors have no link.
     NoLink,
     /// The stop of the graph was set before the call was done.
     Stopped,
@@ -116,7 +116,7 @@ impl fmt::Display for Error {
             Error::TooDense => out.write_str("factors would need too many links: no small separators"),
             Error::TooHeavy => out.write_str("weights that are too great for factors"),
             Error::NoFactors => out.write_str("an algebra without factors"),
-            Error::NoLink => out.write_str("a change of no arc, or an arc between vertices between which the factors have no link"),
+            Error::NoLink => out.write_str("an arc between vertices between which the factors have no link"),
             Error::Stopped => out.write_str("stopped before there was an answer"),
             Error::OtherArcs => out.write_str("arcs that are not those of the graph"),
             Error::NoNumbers => out.write_str("a graph whose arcs were not numbered"),

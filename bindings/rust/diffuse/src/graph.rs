@@ -63,8 +63,7 @@ impl Graph {
     }
 
     /// From now on calls of this graph, but for [`share`](Graph::share), end with [`Error::Stopped`] once the stop is set; with none
-    /// they never do. A graph that [`share`](Graph::share), [`reweigh`](Graph::reweigh) or
-    /// [`reweigh_arcs`](Graph::reweigh_arcs) makes has none.
+    /// they never do. A graph that [`share`](Graph::share) or [`reweigh`](Graph::reweigh) makes has none.
     pub fn stop_by(&self, stop: Option<&Stop>) -> Result<(), Error> {
         let mut none = StopHandle::CLOSED;
         // SAFETY: as in `share`; the lock of the stop is held, or the closed one is in use nowhere else.
@@ -281,18 +280,6 @@ impl Graph {
         let second = Graph::closed();
         // SAFETY: as in `share`; the slice is valid for its length.
         error::done(unsafe { diffuse_graph_reweigh(self.handle.get(), arcs.as_ptr(), arcs.len(), second.handle.get()) })?;
-        Ok(second)
-    }
-
-    /// A second graph, in which each arc with the ends of a change has its weight, of the last such change. It is factored as this
-    /// one is, with all links: from the second such graph on, those above the changed arcs alone are made anew.
-    ///
-    /// Refused with [`Error::TooHeavy`] as [`reweigh`](Graph::reweigh) is, and with [`Error::NoLink`] if a change has the ends of no arc.
-    pub fn reweigh_arcs(&self, changes: &[Arc]) -> Result<Graph, Error> {
-        let second = Graph::closed();
-        let (from, count) = (changes.as_ptr(), changes.len());
-        // SAFETY: as in `share`; the slice is valid for its length.
-        error::done(unsafe { diffuse_graph_reweigh_arcs(self.handle.get(), from, count, second.handle.get()) })?;
         Ok(second)
     }
 

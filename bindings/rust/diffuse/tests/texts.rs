@@ -12,7 +12,7 @@ fn the_text_of_each_error() {
         (Error::TooDense, "factors would need too many links: no small separators"),
         (Error::TooHeavy, "weights that are too great for factors"),
         (Error::NoFactors, "an algebra without factors"),
-        (Error::NoLink, "a change of no arc, or an arc between vertices between which the factors have no link"),
+        (Error::NoLink, "an arc between vertices between which the factors have no link"),
         (Error::Stopped, "stopped before there was an answer"),
         (Error::OtherArcs, "arcs that are not those of the graph"),
         (Error::NoNumbers, "a graph whose arcs were not numbered"),
